@@ -1,0 +1,84 @@
+# make            the library: target/staticlib/libsheet.a
+# make test       every test, as tests/run
+# make test-c     the C tests alone
+# make bench      each call against plain C written for speed
+# make clean      removes what was made
+#
+# test-c and bench take another archive by LIB=path.
+#
+# A new call needs no line here: its files are tests/NAME_test.c,
+# tests/second/NAME.c, bench/NAME_bench.c and bench/plain/NAME.c.
+
+LIB = target/staticlib/libsheet.a
+CC = cc
+CXX = c++
+INCLUDE = -Iinclude -Itests -Ibench
+WARN = -Wall -Wextra -Werror
+CFLAGS = -std=c99 -O2 $(WARN)
+PLAIN_CFLAGS = -std=c99 -O3 $(WARN)
+SANITIZE = -fsanitize=address,undefined -fno-sanitize-recover=all
+
+HEADERS = $(wildcard include/*.h tests/*/*.h bench/*.h bench/*/*.h)
+SHARED = $(wildcard tests/support/*.c tests/second/*.c)
+SHARED_OBJECTS = $(SHARED:%.c=build/%.o)
+BENCH_OBJECTS = $(patsubst %.c,build/%.o,bench/bench.c $(wildcard bench/plain/*.c))
+
+works = $(shell mkdir -p build && echo 'int main(void) { return 0; }' >build/works.c && \
+	$(1) build/works.c -o build/works 2>/dev/null && build/works && echo yes)
+HAS_CXX := $(call works,$(CXX) -x c++)
+HAS_SANITIZE := $(call works,$(CC) $(SANITIZE))
+
+CALL_TESTS = $(filter-out tests/header_test.c,$(wildcard tests/*_test.c))
+TESTS = $(patsubst tests/%.c,build/tests/%,$(wildcard tests/*_test.c)) \
+	$(if $(HAS_CXX),build/tests/header_test_as_cxx) \
+	$(if $(HAS_SANITIZE),$(patsubst tests/%.c,build/sanitized/%,$(CALL_TESTS)))
+BENCHES = $(patsubst bench/%.c,build/bench/%,$(wildcard bench/*_bench.c))
+
+.PHONY: lib test test-c test-programs list-tests bench clean
+.SECONDARY:
+
+lib: target/staticlib/libsheet.a
+
+target/staticlib/libsheet.a: crates.txt $(shell find crates 2>/dev/null)
+	rt staticlib sheet
+
+test:
+	@tests/run
+
+test-c:
+	@tests/run c $(LIB)
+
+test-programs: $(TESTS)
+
+# The programs that tests/run runs; what this machine cannot run is said on stderr.
+list-tests:
+	@echo $(TESTS)
+	@$(if $(HAS_CXX),:,echo 'left out: sheet.h as C++, no C++ compiler here' >&2)
+	@$(if $(HAS_SANITIZE),:,echo 'left out: the tests under the sanitizers, which do not run here' >&2)
+
+bench: $(BENCHES)
+	@for program in $(BENCHES); do $$program || exit 1; done
+
+clean:
+	rm -rf build target
+
+build/%.o: %.c $(HEADERS)
+	@mkdir -p $(@D)
+	$(CC) $(CFLAGS) $(INCLUDE) -c -o $@ $<
+
+build/tests/header_test.o: CFLAGS = -std=c89 -pedantic -O2 $(WARN)
+build/bench/plain/%.o: CFLAGS = $(PLAIN_CFLAGS)
+
+build/tests/%_test: build/tests/%_test.o $(SHARED_OBJECTS) $(LIB)
+	$(CC) -o $@ $^
+
+build/tests/header_test_as_cxx: tests/header_test.c build/tests/support/report.o $(HEADERS) $(LIB)
+	$(CXX) -std=c++98 -pedantic -O2 $(WARN) $(INCLUDE) -x c++ -c -o $@.o $<
+	$(CXX) -o $@ $@.o build/tests/support/report.o $(LIB)
+
+build/sanitized/%_test: tests/%_test.c $(SHARED) $(HEADERS) $(LIB)
+	@mkdir -p $(@D)
+	$(CC) $(CFLAGS) $(SANITIZE) $(INCLUDE) -o $@ $< $(SHARED) $(LIB)
+
+build/bench/%_bench: build/bench/%_bench.o $(BENCH_OBJECTS) $(SHARED_OBJECTS) $(LIB)
+	$(CC) -o $@ $^

@@ -1,0 +1,16 @@
+/*
+ * The second implementation: each call once more, written from the documents
+ * alone, by brute force, to hold the library against. It shares no code with
+ * the library or with the header.
+ */
+#ifndef SECOND_H
+#define SECOND_H
+
+#include <stddef.h>
+#include <stdint.h>
+
+/* What sheet_check must give back, and which of the six rules decided; rule is
+ * 0 where none did (accepted, a bad level or a bad length). */
+uint64_t second_check(uint32_t n, const uint32_t *table, size_t table_len, int *rule);
+
+#endif

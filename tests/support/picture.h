@@ -1,0 +1,29 @@
+/* Pictures to make sheets of: bytes 0 white or 1 black, row by row. */
+#ifndef SUPPORT_PICTURE_H
+#define SUPPORT_PICTURE_H
+
+#include <stdint.h>
+
+#include "support/dice.h"
+
+enum { PICTURE_HIGHEST_LEVEL = 7, PICTURE_MOST_PIXELS = 128 * 128 };
+
+enum picture_kind {
+    PICTURE_NOISE,      /* each pixel by itself, with a share of black     */
+    PICTURE_BLOBS,      /* a few black and white discs                     */
+    PICTURE_BLOCKS,     /* a few blocks of the quadtree turned             */
+    PICTURE_ONE_COLOUR, /* one leaf                                        */
+    PICTURE_CHESSBOARD, /* no two pixels side by side alike: every block   */
+                        /* is a fork, the longest table of its level       */
+    PICTURE_KINDS
+};
+
+struct picture {
+    uint32_t level;
+    uint8_t pixels[PICTURE_MOST_PIXELS];
+};
+
+/* Draws a picture of side 2^level. */
+void picture_draw(struct picture *pic, enum picture_kind kind, uint32_t level, struct dice *d);
+
+#endif

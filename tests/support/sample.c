@@ -1,0 +1,77 @@
+#include "support/sample.h"
+
+#include "sheet.h"
+#include "support/faults.h"
+
+static uint32_t draw_level(struct dice *d)
+{
+    uint32_t r = dice_below(d, 1000);
+    if (r < 12)
+        return 6 + dice_below(d, 2);
+    if (r < 150)
+        return 4 + (r < 50);
+    return dice_below(d, 4);
+}
+
+static void make_preorder(struct table *t, struct dice *d)
+{
+    static struct picture pic;
+    picture_draw(&pic, (enum picture_kind)dice_below(d, PICTURE_KINDS), draw_level(d), d);
+    table_of_picture(t, &pic);
+}
+
+static void renumber(struct table *t, struct dice *d)
+{
+    table_renumber(t, (enum numbering)dice_below(d, NUMBERINGS), d);
+}
+
+static void make_any_numbering(struct table *t, struct dice *d)
+{
+    make_preorder(t, d);
+    if (dice_below(d, 2) == 0)
+        renumber(t, d);
+}
+
+static uint32_t hostile_level(struct dice *d)
+{
+    static const uint32_t levels[] = {8,     9,          10,          31,           32,         33,
+                                      63,    64,         255,         256,          258,        263,
+                                      65536, 65538,      0x01000003u, 0x7fffffffu,  0x80000000u, 0x80000002u,
+                                      0xfffffff8u, 0xfffffffeu, 0xffffffffu};
+    if (dice_below(d, 4) == 0)
+        return 8 + dice_below(d, 0xfffffff8u);
+    return levels[dice_below(d, sizeof levels / sizeof *levels)];
+}
+
+void sample_make(struct table *t, enum sample sample, struct dice *d)
+{
+    if (sample == SAMPLE_RANDOM_WORDS) {
+        fault_random_words(t, d);
+        return;
+    }
+    if (sample == SAMPLE_PREORDER)
+        make_preorder(t, d);
+    else
+        make_any_numbering(t, d);
+    switch (sample) {
+    case SAMPLE_RENUMBERED: renumber(t, d); break;
+    case SAMPLE_DAMAGED: fault_damage(t, 1 + dice_below(d, 3), d); break;
+    case SAMPLE_ORPHAN: fault_orphan(t, d); break;
+    case SAMPLE_DOUBLE_SON: fault_double_son(t, d); break;
+    case SAMPLE_SON_BELOW_FATHER: fault_son_below_father(t, d); break;
+    case SAMPLE_LOWER_LEVEL: t->level = dice_below(d, t->level + 1); break;
+    case SAMPLE_DEEP_FORK:
+        fault_deep_fork(t, d);
+        if (dice_below(d, 2) == 0)
+            renumber(t, d);
+        break;
+    case SAMPLE_NEEDLESS_FORK:
+        fault_needless_fork(t, d);
+        if (dice_below(d, 2) == 0)
+            renumber(t, d);
+        break;
+    case SAMPLE_CUT_LENGTH: t->length = dice_below(d, (uint32_t)t->length); break;
+    case SAMPLE_HOSTILE_LEVEL: t->level = hostile_level(d); break;
+    default: break;
+    }
+}

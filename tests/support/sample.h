@@ -1,0 +1,27 @@
+/* Tables of every kind that the calls may be given, sound and unsound. */
+#ifndef SUPPORT_SAMPLE_H
+#define SUPPORT_SAMPLE_H
+
+#include "support/dice.h"
+#include "support/table.h"
+
+enum sample {
+    SAMPLE_PREORDER,
+    SAMPLE_RENUMBERED,
+    SAMPLE_DAMAGED,
+    SAMPLE_ORPHAN,
+    SAMPLE_DOUBLE_SON,
+    SAMPLE_SON_BELOW_FATHER,
+    SAMPLE_LOWER_LEVEL,
+    SAMPLE_DEEP_FORK,
+    SAMPLE_NEEDLESS_FORK,
+    SAMPLE_RANDOM_WORDS,
+    SAMPLE_CUT_LENGTH,
+    SAMPLE_HOSTILE_LEVEL,
+    SAMPLES
+};
+
+/* Makes one such table. Small levels are drawn far more often than large ones. */
+void sample_make(struct table *t, enum sample sample, struct dice *d);
+
+#endif
