@@ -82,9 +82,11 @@ extern "C" {
 #define sheet_value(answer) ((uint64_t)(answer) >> 8)
 
 /*
- * The codes. Each call's own comment says which of them it gives; where several
- * apply, it also says which one is given. Codes 10 and 15 of the documents are
- * the row walk's and the row program's, and no call gives them.
+ * The codes. Each call's own comment says which of them it gives and, where
+ * several apply, which one. sheet_check gives those from SHEET_OK to
+ * SHEET_NEEDLESS_FORK; the others are kept for calls on rasters, nodes, files
+ * and the ground. Codes 10 and 15 of the documents belong to the row walk and
+ * the row program, and no call gives them.
  */
 
 /* Answered. The value is the call's own. */

@@ -35,7 +35,8 @@ static void say_unequal(uint32_t level, size_t length, uint64_t wanted, uint64_t
 {
     if (++met.unequal > 20)
         return;
-    printf("  level %" PRIu32 ", %zu words: wanted %" PRIu64 " with %" PRIu64 ", given %" PRIu64 " with %" PRIu64 "%s\n",
+    printf("  level %" PRIu32 ", %zu words: wanted %" PRIu64 " with %" PRIu64 ", given %" PRIu64 " with %" PRIu64
+           "%s\n",
            level, length, wanted % 256, wanted / 256, given % 256, given / 256,
            unchanged ? "" : ", and the buffer or its guards were written");
 }

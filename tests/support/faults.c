@@ -114,7 +114,7 @@ static void split_needlessly(struct table *t, uint32_t leaf)
         t->level++;
 }
 
-static void level_sons(struct table *t, uint32_t fork, uint32_t colour)
+static void give_sons_colour(struct table *t, uint32_t fork, uint32_t colour)
 {
     for (int quadrant = 0; quadrant < 4; quadrant++)
         table_node(t, table_node(t, fork)[SHEET_SON_WORD + quadrant])[SHEET_TYPE_WORD] = colour;
@@ -126,7 +126,7 @@ void fault_needless_fork(struct table *t, struct dice *d)
     if (fork == SHEET_NONE || (t->level < SHEET_HIGHEST_LEVEL && dice_below(d, 2) == 0))
         split_needlessly(t, find_node(t, is_leaf, d));
     else
-        level_sons(t, fork, dice_below(d, 2));
+        give_sons_colour(t, fork, dice_below(d, 2));
 }
 
 static void split_in_any_colours(struct table *t, uint32_t leaf, struct dice *d)

@@ -6,7 +6,8 @@
 
 #include "support/dice.h"
 
-enum { PICTURE_HIGHEST_LEVEL = 7, PICTURE_MOST_PIXELS = 128 * 128 };
+/* A side of 128 pixels, level 7. */
+enum { PICTURE_MOST_PIXELS = 128 * 128 };
 
 enum picture_kind {
     PICTURE_NOISE,      /* each pixel by itself, with a share of black     */

@@ -34,10 +34,10 @@ static void make_any_numbering(struct table *t, struct dice *d)
 
 static uint32_t hostile_level(struct dice *d)
 {
-    static const uint32_t levels[] = {8,     9,          10,          31,           32,         33,
-                                      63,    64,         255,         256,          258,        263,
-                                      65536, 65538,      0x01000003u, 0x7fffffffu,  0x80000000u, 0x80000002u,
-                                      0xfffffff8u, 0xfffffffeu, 0xffffffffu};
+    static const uint32_t levels[] = {
+        8, 9, 10, 31, 32, 33, 63, 64, 255, 256, 258, 263, 65536, 65538, 0x01000003u, 0x7fffffffu,
+        0x80000000u, 0x80000002u, 0xfffffff8u, 0xfffffffeu, 0xffffffffu,
+    };
     if (dice_below(d, 4) == 0)
         return 8 + dice_below(d, 0xfffffff8u);
     return levels[dice_below(d, sizeof levels / sizeof *levels)];
