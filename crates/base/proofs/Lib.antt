@@ -1,0 +1,3 @@
+pub mod AllLaws
+pub mod BoolLaws
+pub mod CaseLaws

@@ -1,0 +1,1 @@
+// Tests, choices, lists and numbers that every crate above uses. Definitions and laws only; nothing here is about maps.

@@ -1,0 +1,4 @@
+pub mod Numbers
+pub mod Block
+pub mod Direction
+pub mod Tree

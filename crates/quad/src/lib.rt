@@ -1,0 +1,51 @@
+// Quadtrees: what a block and a direction are, and document 000's four tables, read by direction and quadrant number.
+ghost use mathlib.Core.Path.{_≡_};
+ghost use Prim.Native.Nat.{_<_, _≤_, _^_};
+ghost use Rattle.quad.specs.Direction.{adjOf, reflectOf, opquadOf, commonSideOf};
+
+// Rows are the sides N, E, S, W; columns the quadrants NW, NE, SW, SE.
+const ADJ: [[bool; 4]; 4] = [
+    [true, true, false, false],
+    [false, true, false, true],
+    [false, false, true, true],
+    [true, false, true, false],
+];
+
+const REFLECT: [[usize; 4]; 4] = [[2, 3, 0, 1], [1, 0, 3, 2], [2, 3, 0, 1], [1, 0, 3, 2]];
+
+const OPQUAD: [usize; 4] = [3, 2, 1, 0];
+
+// By two quadrants. 4, which is no side, stands where document 000 leaves it undefined.
+const COMMONSIDE: [[usize; 4]; 4] = [[4, 0, 3, 4], [0, 4, 4, 1], [3, 4, 4, 2], [4, 1, 2, 4]];
+
+// Whether the quadrant touches that side of its father's block.
+pub fn adj(side: usize, quadrant: usize) -> bool
+    requires { ⌜ (side < 4) × (quadrant < 4) ⌝ }
+    ensures { λ r. ⌜ r ≡ adjOf side quadrant ⌝ }
+{
+    ADJ[side][quadrant]
+}
+
+// Which quadrant the block of equal size on that side of a quadrant is.
+pub fn reflect(side: usize, quadrant: usize) -> usize
+    requires { ⌜ (side < 4) × (quadrant < 4) ⌝ }
+    ensures { λ r. ⌜ r ≡ reflectOf side quadrant ⌝ }
+{
+    REFLECT[side][quadrant]
+}
+
+// The quadrant opposite.
+pub fn opquad(quadrant: usize) -> usize
+    requires { ⌜ quadrant < 4 ⌝ }
+    ensures { λ r. ⌜ r ≡ opquadOf quadrant ⌝ }
+{
+    OPQUAD[quadrant]
+}
+
+// The side of their father's block that two quadrants share; 4 where they share none.
+pub fn common_side(first: usize, second: usize) -> usize
+    requires { ⌜ (first < 4) × (second < 4) ⌝ }
+    ensures { λ r. ⌜ r ≡ commonSideOf first second ⌝ }
+{
+    COMMONSIDE[first][second]
+}
