@@ -1,2 +1,4 @@
 pub mod TableLaws
 pub mod PathLaws
+pub mod TreeLaws
+pub mod PictureLaws

@@ -1,12 +1,12 @@
 -- A block and its path are one thing: a depth, a column and a row give a path of quadrants, which gives them back. A path leads down from the top too.
 use mathlib.Core.List.{List, [], _∷_}
 use mathlib.Core.Path.{_≡_, refl, ap, sym, _∙_}
-use Prim.Native.Nat.{ℕ, zero, suc, _+_, _*_, _/_, _%_, _^_, _≤_, _<_}
+use Prim.Native.Nat.{ℕ, zero, suc, _+_, _*_, _/_, _%_, _^_, _<_}
 use native.Mathlib.Nat.{div-div-eq-div-mul, div-one, mul-comm, pow-succ'}
 use native.Mathlib.Omega.{arith}
 use lib.ListN.{length}
 use Rattle.quad.specs.Block.{quadrantOf, pathOf, column, row, Quadrants}
-use Rattle.quad.specs.Tree.{Tree, leaf, fork, colour, sonOf, under, shade}
+use Rattle.quad.specs.Tree.{Tree, leaf, colour, sonOf, under, shade}
 
 -- the path of depth d has d entries, and they are quadrants
 pub path-length : (d x y : ℕ) → length (pathOf d x y) ≡ d
