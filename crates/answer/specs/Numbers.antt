@@ -1,7 +1,7 @@
 -- Document 01, 'Numbers given back': the code and the value of each outcome, and the order in which refusals apply.
 use mathlib.Core.Bool.{Bool, cond}
 use Prim.Native.Nat.{ℕ, _+_, _*_}
-use lib.Dec.{eqb}
+use lib.Dec.{eqb, ltb}
 use Rattle.answer.specs.declared.Outcome.{Outcome}
 use Rattle.answer.specs.declared.Outcome.the-variants.{Answered, BadLevel, WrongLength, BadNode, TooDeep, NeedlessFork, NoNode, BadDirection, BadPixel, NoRoom, BadPlace, OutOfRange, BadByte, Absent, Surplus, TooLarge, NoBlock}
 
@@ -58,3 +58,7 @@ andThen o next = cond (answers o) next o
 -- a test of document 01's order: passed (with value 0), or refused so
 abbrev pub unless : Bool → Outcome → Outcome
 unless bad o = cond bad o (Answered 0)
+
+-- an output of `have` elements where `need` are needed
+abbrev pub room : ℕ → ℕ → Outcome
+room need have = unless (ltb have need) (NoRoom need)

@@ -1,5 +1,6 @@
--- The list of a function's values, and their least and their sum.
-use mathlib.Core.List.{List, [], _∷_}
+-- The list of a function's values, and the least of them; a list written over the start of another.
+use mathlib.Core.List.{List, [], _∷_, _++_}
+use lib.ListN.{length, drop}
 use Prim.Native.Nat.{ℕ, zero, suc, _+_, min}
 
 -- f i, f (i + 1), .., k of them
@@ -15,3 +16,7 @@ tab f k = tabFrom f k 0
 unfoldable pub least : ℕ → (ℕ → ℕ) → ℕ → ℕ
 least top f zero = top
 least top f (suc k) = min (f k) (least top f k)
+
+-- the buffer `old` after `new` was written to its start: the rest stays
+abbrev pub overlay : {A : Type 0} → List A → List A → List A
+overlay new old = new ++ drop (length new) old

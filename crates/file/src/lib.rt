@@ -1,0 +1,1 @@
+// The sheet file, read and written. So far what the calls mean; the code is to come.

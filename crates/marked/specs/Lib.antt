@@ -1,0 +1,2 @@
+pub mod SheetA
+pub mod Cases

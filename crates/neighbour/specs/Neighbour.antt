@@ -1,0 +1,54 @@
+-- Neighbours by the geometry of blocks (document 01, 'Directions and neighbours'; document 000, section 3).
+use mathlib.Core.Bool.{Bool, not, cond, _&&_}
+use mathlib.Core.List.{List}
+use Prim.Native.Nat.{ℕ, _+_, _-_, _*_, _/_, _%_, _^_}
+use lib.Dec.{ltb}
+use lib.ListN.{length}
+use Rattle.answer.specs.declared.Outcome.{Outcome}
+use Rattle.answer.specs.declared.Outcome.the-variants.{Answered, BadDirection, NoBlock}
+use Rattle.answer.specs.Numbers.{andThen, unless}
+use Rattle.quad.specs.Block.{pathOf, column, row}
+use Rattle.quad.specs.Direction.{eastStep, southStep, stays, adjOf, diagonal}
+use Rattle.table.specs.Rules.{askedOf}
+use Rattle.table.specs.Nodes.{pathTo, holder, sideOf, leftOf, topOf}
+
+-- of the blocks of depth d, the one that lies in direction D of (x, y): the smallest node that contains it, or code 20 off the sheet
+unfoldable pub beside : List ℕ → ℕ → ℕ → ℕ → ℕ → Outcome
+beside T d x y D =
+    cond (stays (2 ^ d) x (eastStep D) && stays (2 ^ d) y (southStep D))
+    (Answered (holder T (pathOf d (x + eastStep D - 1) (y + southStep D - 1))))
+    NoBlock
+
+-- the neighbour of node p in direction D: the block of p's own size beside p's
+unfoldable pub neighbourOf : ℕ → List ℕ → ℕ → ℕ → Outcome
+neighbourOf n T p D =
+    andThen (askedOf n T p)
+    (andThen (unless (ltb 7 D) (BadDirection D))
+    (let π = pathTo T n p in beside T (length π) (column π) (row π) D))
+
+-- the pixel of p's block at corner C: its column and its row
+abbrev pub cornerColumn : ℕ → List ℕ → ℕ → ℕ → ℕ
+cornerColumn n T p C = leftOf n T p + C % 2 * (sideOf n T p - 1)
+
+abbrev pub cornerRow : ℕ → List ℕ → ℕ → ℕ → ℕ
+cornerRow n T p C = topOf n T p + C / 2 * (sideOf n T p - 1)
+
+-- the leaf that holds the pixel in direction D of that one
+abbrev pub leafBeyond : ℕ → List ℕ → ℕ → ℕ → ℕ → Outcome
+leafBeyond n T p C D = beside T n (cornerColumn n T p C) (cornerRow n T p C) D
+
+-- the leaf just outside side D at the end C of it: 7 names the side if it is none, else the corner
+unfoldable pub cornerLeafOf : ℕ → List ℕ → ℕ → ℕ → ℕ → Outcome
+cornerLeafOf n T p D C =
+    andThen (askedOf n T p)
+    (andThen (unless (ltb 3 D) (BadDirection D))
+    (andThen (unless (ltb 3 C) (BadDirection C))
+    (andThen (unless (not (adjOf D C)) (BadDirection C))
+    (leafBeyond n T p C D))))
+
+-- the leaf diagonally beyond corner C
+unfoldable pub diagonalLeafOf : ℕ → List ℕ → ℕ → ℕ → Outcome
+diagonalLeafOf n T p C =
+    andThen (askedOf n T p)
+    (andThen (unless (ltb 3 C) (BadDirection C))
+    (leafBeyond n T p C (diagonal C)))

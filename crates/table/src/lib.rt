@@ -1,0 +1,1 @@
+// The node table: its words, its links and the check.
