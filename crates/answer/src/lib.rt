@@ -1,6 +1,6 @@
 // What an outside call gives back: document 01's table 'Numbers given back', as an enum with one case for each row.
 ghost use mathlib.Core.Path.{_≡_};
-ghost use Rattle.answer.specs.Numbers.{codeOf, valueOf, numberOf};
+ghost use Rattle.answer.specs.Numbers.{codeOf, valueOf, numberOf, answers};
 
 pub enum Outcome {
     // The call was answered.
@@ -87,6 +87,13 @@ pub fn value(o: Outcome) -> u32
         Outcome::TooLarge { place } => place,
         Outcome::NoBlock => 0,
     }
+}
+
+// Whether it is an answer, and no refusal.
+pub fn answered(o: Outcome) -> bool
+    ensures { λ r. ⌜ r ≡ answers o ⌝ }
+{
+    code(o) == 0
 }
 
 // The one number that a C caller gets: code + 256 × value.

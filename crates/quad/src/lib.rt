@@ -3,6 +3,19 @@ ghost use mathlib.Core.Path.{_≡_};
 ghost use Prim.Native.Nat.{_<_, _≤_, _^_};
 ghost use Rattle.quad.specs.Direction.{adjOf, reflectOf, opquadOf, commonSideOf};
 
+// The highest level of a sheet, and the most words of a table.
+pub const TOP_LEVEL: u32 = 7;
+
+pub const MAX_WORDS: usize = 131070;
+
+// The types of a node are 0, white, to this, black, and a fork's.
+pub const TOP_COLOUR: usize = 1;
+
+pub const FORK: usize = 2;
+
+// "None", where a word names no node.
+pub const NONE: usize = 4294967295;
+
 // Rows are the sides N, E, S, W; columns the quadrants NW, NE, SW, SE.
 const ADJ: [[bool; 4]; 4] = [
     [true, true, false, false],

@@ -101,10 +101,14 @@ checkOf n T = andThen (sizesOf n T) (faultsOf n T)
 unfoldable pub askedOf : ℕ → List ℕ → ℕ → Outcome
 askedOf n T p = andThen (checkOf n T) (unless (leb (nodes T) p) (NoNode p))
 
--- an accepted sheet: level and length are good, and no node has a fault
-pub record Accepted (n : ℕ) (T : List ℕ) : Type 0 where
+-- level and length are good
+pub record Sized (n : ℕ) (T : List ℕ) : Type 0 where
   pub level : n ≤ topLevel
   pub some : 0 < nodes T
   pub few : length T ≤ maxWords
   pub whole : length T ≡ 6 * nodes T
+
+-- an accepted sheet: no node has a fault either
+pub record Accepted (n : ℕ) (T : List ℕ) : Type 0 where
+  pub sized : Sized n T
   pub faultless : (p : ℕ) → p < nodes T → faultAt n T p ≡ 0
