@@ -1,2 +1,6 @@
 pub mod RuleLaws
 pub mod CheckLaws
+pub mod FourLaws
+pub mod AcceptedLaws
+pub mod NodeLaws
+pub mod PictureLaws
