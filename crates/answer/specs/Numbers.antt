@@ -3,7 +3,7 @@ use mathlib.Core.Bool.{Bool, cond}
 use Prim.Native.Nat.{ℕ, _+_, _*_}
 use lib.Dec.{eqb, ltb}
 use Rattle.answer.specs.declared.Outcome.{Outcome}
-use Rattle.answer.specs.declared.Outcome.the-variants.{Answered, BadLevel, WrongLength, BadNode, TooDeep, NeedlessFork, NoNode, BadDirection, BadPixel, NoRoom, BadPlace, OutOfRange, BadByte, Absent, Surplus, TooLarge, NoBlock}
+use Rattle.answer.specs.declared.Outcome.the-variants.{Answered, BadLevel, WrongLength, BadNode, TooDeep, NeedlessFork, NoNode, BadDirection, BadPixel, NoRoom, BadPlace, OutOfRange, BadByte, Absent, BadCount, TooLarge, NoBlock}
 
 abbrev pub codeOf : Outcome → ℕ
 codeOf (Answered v) = 0
@@ -20,7 +20,7 @@ codeOf BadPlace = 10
 codeOf (OutOfRange v) = 11
 codeOf (BadByte v) = 12
 codeOf (Absent v) = 13
-codeOf (Surplus v) = 14
+codeOf (BadCount v) = 14
 codeOf (TooLarge v) = 15
 codeOf NoBlock = 20
 
@@ -39,7 +39,7 @@ valueOf BadPlace = 0
 valueOf (OutOfRange v) = v
 valueOf (BadByte v) = v
 valueOf (Absent v) = v
-valueOf (Surplus v) = v
+valueOf (BadCount v) = v
 valueOf (TooLarge v) = v
 valueOf NoBlock = 0
 

@@ -1,4 +1,4 @@
-// What an outside call gives back: document 01's table 'Numbers given back', as an enum with one case for each row.
+// What an outside call gives back: document 01's table 'Numbers given back', as an enum with one case for each code.
 ghost use mathlib.Core.Path.{_≡_};
 ghost use Rattle.answer.specs.Numbers.{codeOf, valueOf, numberOf, answers};
 
@@ -23,7 +23,7 @@ pub enum Outcome {
     BadPixel { place: u32 },
     // The output is too short: so many words, bytes or numbers are needed.
     NoRoom { needed: u32 },
-    // The walk's place is none.
+    // The place given to a step of the walk is out of range.
     BadPlace,
     // A ground number is out of range: 0 east, 1 north, 2 step.
     OutOfRange { which: u32 },
@@ -31,11 +31,11 @@ pub enum Outcome {
     BadByte { place: u32 },
     // A byte that a file needs is absent.
     Absent { place: u32 },
-    // A file's node count is wrong, or bytes are left over.
-    Surplus { place: u32 },
+    // A file's node count is not its block's, or bytes are left over.
+    BadCount { place: u32 },
     // A program does not print so large a sheet.
     TooLarge { place: u32 },
-    // There is no block on that side.
+    // No block of the sheet lies there.
     NoBlock,
 }
 
@@ -58,7 +58,7 @@ pub fn code(o: Outcome) -> u32
         Outcome::OutOfRange { which: _ } => 11,
         Outcome::BadByte { place: _ } => 12,
         Outcome::Absent { place: _ } => 13,
-        Outcome::Surplus { place: _ } => 14,
+        Outcome::BadCount { place: _ } => 14,
         Outcome::TooLarge { place: _ } => 15,
         Outcome::NoBlock => 20,
     }
@@ -83,7 +83,7 @@ pub fn value(o: Outcome) -> u32
         Outcome::OutOfRange { which } => which,
         Outcome::BadByte { place } => place,
         Outcome::Absent { place } => place,
-        Outcome::Surplus { place } => place,
+        Outcome::BadCount { place } => place,
         Outcome::TooLarge { place } => place,
         Outcome::NoBlock => 0,
     }

@@ -1,5 +1,5 @@
 -- A test over every number below a bound, which antt computes.
-use mathlib.Core.Bool.{Bool, true, false, _&&_}
+use mathlib.Core.Bool.{Bool, true, _&&_}
 use Prim.Native.Nat.{ℕ, zero, suc}
 
 -- f holds of 0, .., n - 1

@@ -1,6 +1,6 @@
 -- The chessboard distance, in half pixels, from a black block's centre to the nearest white pixel of the whole raster (document 01, 'Distance';
--- document 001). It is the least over all pixels, and says nothing of trees or neighbours.
-use mathlib.Core.Bool.{Bool, not, cond, _||_}
+-- document 001). It is the least over all pixels, and says nothing of trees or neighbours. The outside's colour is named: the plain call's is BLACK.
+use mathlib.Core.Bool.{not, cond, _||_}
 use mathlib.Core.List.{List}
 use Prim.Native.Nat.{ℕ, _+_, _-_, _*_, _^_, min, max}
 use lib.Dec.{eqb}
@@ -9,7 +9,7 @@ use Rattle.base.specs.Tab.{tab, least}
 use Rattle.answer.specs.declared.Outcome.{Outcome}
 use Rattle.answer.specs.declared.Outcome.the-variants.{Answered, WrongLength}
 use Rattle.answer.specs.Numbers.{andThen, unless, answers}
-use Rattle.quad.specs.Numbers.{white, none}
+use Rattle.quad.specs.Numbers.{white, black, none}
 use Rattle.table.specs.Table.{nodes, type, isFork}
 use Rattle.table.specs.Rules.{sizesOf, faultsOf}
 use Rattle.table.specs.Nodes.{pixel, centreAcross, centreDown}
@@ -21,6 +21,10 @@ gap a lo hi = (lo - a) + (a - hi)
 -- from the centre (h, k) to the pixel (i, j), which covers 2i to 2i + 2 by 2j to 2j + 2: the larger of the two gaps
 abbrev pub toPixel : ℕ → ℕ → ℕ → ℕ → ℕ
 toPixel h k i j = max (gap h (2 * i) (2 * i + 2)) (gap k (2 * j) (2 * j + 2))
+
+-- the plain call's outside
+abbrev pub plainOutside : ℕ
+plainOutside = black
 
 -- from the centre to the outside of a sheet of level n: to the nearest edge where the outside is WHITE, none where it is BLACK
 unfoldable pub toOutside : ℕ → ℕ → ℕ → ℕ → ℕ
@@ -46,5 +50,5 @@ distanceOf n T words =
     andThen (sizesOf n T) (andThen (unless (not (eqb words (nodes T))) (WrongLength 1)) (andThen (faultsOf n T) (Answered 0)))
 
 -- the slice as the call leaves it
-unfoldable pub distancesAfter : ℕ → ℕ → List ℕ → List ℕ → List ℕ
-distancesAfter outside n T old = cond (answers (distanceOf n T (length old))) (distancesOf outside n T) old
+unfoldable pub distancesAfter : ℕ → List ℕ → List ℕ → List ℕ
+distancesAfter n T old = cond (answers (distanceOf n T (length old))) (distancesOf plainOutside n T) old

@@ -6,7 +6,7 @@ use lib.Dec.{eqb, leb, ltb}
 use lib.ListN.{length, getD}
 use Rattle.base.specs.Tab.{overlay}
 use Rattle.answer.specs.declared.Outcome.{Outcome}
-use Rattle.answer.specs.declared.Outcome.the-variants.{Answered, BadLevel, TooDeep, NeedlessFork, BadByte, Absent, Surplus}
+use Rattle.answer.specs.declared.Outcome.the-variants.{Answered, BadLevel, TooDeep, NeedlessFork, BadByte, Absent, BadCount}
 use Rattle.answer.specs.Numbers.{andThen, room, answers}
 use Rattle.quad.specs.Numbers.{topLevel, topColour, forkType}
 use Rattle.quad.specs.Tree.{Tree, leaf, fork, alike, sizeOf, typesOf}
@@ -84,7 +84,7 @@ pub data Opened : Type 0 where
 -- after the block: the node count, then no byte left over
 abbrev pub closed : List ℕ → ℕ → Got → Opened
 closed s n (got at t) =
-    cond (eqb (getD s 3 0 + 256 * getD s 4 0) (sizeOf t)) (cond (ltb at (length s)) (faulty (Surplus at)) (opened n t)) (faulty (Surplus 3))
+    cond (eqb (getD s 3 0 + 256 * getD s 4 0) (sizeOf t)) (cond (ltb at (length s)) (faulty (BadCount at)) (opened n t)) (faulty (BadCount 3))
 closed s n (bad o) = faulty o
 
 unfoldable pub openOf : List ℕ → Opened

@@ -1,20 +1,20 @@
--- The floats that the definitions give by their bits are the numbers of document 01.
+-- The floats of document 01 by their bits, as the code's literals have them.
 use mathlib.Core.Path.{_≡_, refl}
 use lib.Ieee.{binary64, ofBits, ofFields, ofInt, units, round, odd, size, climb, span, div}
-use Rattle.ground.specs.Ground.{whole, far, finest, coarsest, two}
+use Rattle.ground.specs.Ground.{far, finest, coarsest, two}
 
-pub two-is : two ≡ whole 2
-unfolding ofBits ofFields ofInt units round odd size climb span
-two-is = refl
+pub two-bits : ofBits binary64 4611686018427387904 ≡ two
+unfolding two ofBits ofFields ofInt units round odd size climb span
+two-bits = refl
 
-pub far-is : far ≡ whole 16777216
-unfolding ofBits ofFields ofInt units round odd size climb span
-far-is = refl
+pub far-bits : ofBits binary64 4715268809856909312 ≡ far
+unfolding far ofBits ofFields ofInt units round odd size climb span
+far-bits = refl
 
-pub finest-is : finest ≡ div binary64 (whole 1) (whole 1024)
-unfolding ofBits ofFields ofInt units round odd size climb span div
-finest-is = refl
+pub finest-bits : ofBits binary64 4562146422526312448 ≡ finest
+unfolding finest ofBits ofFields ofInt units round odd size climb span div
+finest-bits = refl
 
-pub coarsest-is : coarsest ≡ whole 16384
-unfolding ofBits ofFields ofInt units round odd size climb span
-coarsest-is = refl
+pub coarsest-bits : ofBits binary64 4670232813583204352 ≡ coarsest
+unfolding coarsest ofBits ofFields ofInt units round odd size climb span
+coarsest-bits = refl

@@ -22,18 +22,18 @@ whole n = Ieee.ofInt binary64 (pos n)
 unfoldable pub within : Float → Float → Float → Bool
 within low high x = Ieee.le low x && Ieee.le x high
 
--- 16777216, 1/1024, 16384 and 2 by their bits; proofs/Literals says that these are they
-abbrev pub far : Float
-far = Ieee.ofBits binary64 4715268809856909312
+-- the ends of the ranges
+unfoldable pub far : Float
+far = whole 16777216
 
-abbrev pub finest : Float
-finest = Ieee.ofBits binary64 4562146422526312448
+unfoldable pub finest : Float
+finest = Ieee.div binary64 (whole 1) (whole 1024)
 
-abbrev pub coarsest : Float
-coarsest = Ieee.ofBits binary64 4670232813583204352
+unfoldable pub coarsest : Float
+coarsest = whole 16384
 
-abbrev pub two : Float
-two = Ieee.ofBits binary64 4611686018427387904
+unfoldable pub two : Float
+two = whole 2
 
 -- code 11 with the first number that is out of range: 0 east, 1 north, 2 step
 unfoldable pub rangeOf : Ground → Outcome

@@ -1,4 +1,4 @@
--- Document 01's sheet A, and the two other pictures of its marked cases.
+-- Document 01's sheet A as raster, table and file, and the sheets of its marked cases (j) and (k).
 use mathlib.Core.List.{List, [], _∷_}
 use Prim.Native.Nat.{ℕ}
 use Rattle.quad.specs.Numbers.{none, forkType, white, black}

@@ -1,5 +1,5 @@
 -- Neighbours by the geometry of blocks (document 01, 'Directions and neighbours'; document 000, section 3).
-use mathlib.Core.Bool.{Bool, not, cond, _&&_}
+use mathlib.Core.Bool.{not, cond, _&&_}
 use mathlib.Core.List.{List}
 use Prim.Native.Nat.{ℕ, _+_, _-_, _*_, _/_, _%_, _^_}
 use lib.Dec.{ltb}
@@ -12,7 +12,8 @@ use Rattle.quad.specs.Direction.{eastStep, southStep, stays, adjOf, diagonal}
 use Rattle.table.specs.Rules.{askedOf}
 use Rattle.table.specs.Nodes.{pathTo, holder, sideOf, leftOf, topOf}
 
--- of the blocks of depth d, the one that lies in direction D of (x, y): the smallest node that contains it, or code 20 off the sheet
+-- of the blocks of depth d, the one that lies in direction D of (x, y): the smallest node that contains it, or code 20 off the sheet. The steps are
+-- one more than the moves, so that nothing is negative; where the block stays on the sheet the sums are at least 1
 unfoldable pub beside : List ℕ → ℕ → ℕ → ℕ → ℕ → Outcome
 beside T d x y D =
     cond (stays (2 ^ d) x (eastStep D) && stays (2 ^ d) y (southStep D))

@@ -1,8 +1,8 @@
 -- Directions and sides (document 01, 'Directions and neighbours'): 0 N, 1 E, 2 S, 3 W, 4 NW, 5 NE, 6 SW, 7 SE. Quadrants: 0 NW, 1 NE, 2 SW, 3 SE,
--- so q % 2 says east and q / 2 says south. Document 000's four tables are stated here by what they mean (its section 2).
-use mathlib.Core.Bool.{Bool, cond, _&&_, _||_}
-use mathlib.Core.List.{List, [], _∷_}
-use Prim.Native.Nat.{ℕ, _+_, _-_, _*_, _/_, _%_, _^_, _≤_, _<_}
+-- so q % 2 says east and q / 2 says south, and the sides N and S are even. Document 000's four tables as rules on these (its section 2).
+use mathlib.Core.Bool.{Bool, cond, _&&_}
+use mathlib.Core.List.{[], _∷_}
+use Prim.Native.Nat.{ℕ, _+_, _-_, _*_, _/_, _%_}
 use lib.Dec.{leb, ltb, eqb}
 use lib.ListN.{getD}
 
@@ -29,7 +29,7 @@ adjOf d q = cond (eqb (d % 2) 0) (eqb (q / 2) (d / 2)) (eqb (q % 2) (1 - d / 2))
 abbrev pub reflectOf : ℕ → ℕ → ℕ
 reflectOf d q = cond (eqb (d % 2) 0) (q % 2 + 2 * (1 - q / 2)) (1 - q % 2 + 2 * (q / 2))
 
--- OPQUAD(Q): the quadrant that shares no block boundary with Q
+-- OPQUAD(Q): the quadrant that shares no block boundary with Q, which is the one across both axes
 abbrev pub opquadOf : ℕ → ℕ
 opquadOf q = 1 - q % 2 + 2 * (1 - q / 2)
 

@@ -1,4 +1,4 @@
--- The numbers of document 01 that a change request may move. Each has this one name; nothing else writes the numeral.
+-- The numbers of document 01 that a change request may move: each has one name, by which definitions and proofs call it.
 use Prim.Native.Nat.{ℕ}
 
 -- a sheet has level 0 to this ('Sheets and node tables')
@@ -19,7 +19,7 @@ black = 1
 abbrev pub forkType : ℕ
 forkType = 2
 
--- "None"; also the distance where no pixel is white
+-- "None", and the distance's mark where no pixel is white
 abbrev pub none : ℕ
 none = 4294967295
 

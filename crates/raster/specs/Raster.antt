@@ -1,6 +1,6 @@
 -- A raster is a slice of 4^n bytes, row by row. Building gives the preorder table of its one tree; decoding gives the raster of a table
 -- (document 01, 'Sheets and node tables').
-use mathlib.Core.Bool.{Bool, not, cond}
+use mathlib.Core.Bool.{not, cond}
 use mathlib.Core.List.{List, [], _∷_}
 use Prim.Native.Nat.{ℕ, _+_, _*_, _/_, _%_, _^_}
 use lib.Dec.{eqb, ltb}
@@ -11,7 +11,6 @@ use Rattle.answer.specs.declared.Outcome.the-variants.{Answered, BadLevel, Wron
 use Rattle.answer.specs.Numbers.{andThen, unless, room, answers}
 use Rattle.quad.specs.Numbers.{topLevel, topColour}
 use Rattle.quad.specs.Tree.{Tree, treeOf, sizeOf}
-use Rattle.table.specs.Table.{nodes}
 use Rattle.table.specs.Rules.{sizesOf, faultsOf}
 use Rattle.table.specs.Nodes.{pixel}
 use Rattle.table.specs.Preorder.{preorderTable}

@@ -44,7 +44,7 @@ onceOk T p = eqb p 0 || eqb (timesNamed T (father T p) p) 1
 unfoldable pub sonOk : List ℕ → ℕ → ℕ → Bool
 sonOk T p q = ltb p (son T p q) && (ltb (son T p q) (nodes T) && eqb (father T (son T p q)) p)
 
--- a leaf's son word is None
+-- one son word: a fork's as above, a leaf's None
 unfoldable pub wordOk : List ℕ → ℕ → ℕ → Bool
 wordOk T p q = cond (isFork T p) (sonOk T p q) (eqb (son T p q) none)
 

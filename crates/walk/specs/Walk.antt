@@ -60,7 +60,7 @@ insideOf T p =
       answer = Moved;
     }))
 
--- past its columns: the row's end at the root's level, else up to the father
+-- at a node whose columns do not hold x: the row's end at the root's level, else up to the father
 unfoldable pub outsideOf : List ℕ → Place → Stepped
 outsideOf T p =
     cond (eqb (p .level) (p .n))

@@ -19,7 +19,7 @@ pub enum Answer {
     EndRow,
     // Every row was given.
     Done,
-    // The place or the table is none: the place is handed back.
+    // The place or the table is refused, and the place is handed back.
     Refused { code: u32, value: u32 },
 }
 
