@@ -4,17 +4,18 @@ use mathlib.Core.List.{List}
 use mathlib.Core.Logic.{⊎-elim}
 use mathlib.Core.Path.{_≡_, refl, ap, sym, _∙_}
 use Prim.Native.Nat.{ℕ, zero, suc, _+_, _*_, _≤_, _<_}
-use native.Mathlib.Nat.{add-zero, eq-zero-or-pos, eq-or-lt-of-le}
+use native.Mathlib.Nat.{add-zero, zero-add, eq-zero-or-pos, eq-or-lt-of-le}
 use native.Mathlib.Omega.{arith}
 use lib.Dec.{leb, ltb, eqb}
 use lib.ListN.{length}
 use borrow.Author.Tests.{eq-eqb, ne-eqb, eqb-true, eqb-false, ltb-false, leb-true, le-ltb, le-leb, not-true}
 use Rattle.base.proofs.BoolLaws.{and-left, and-right, on}
 use Rattle.answer.specs.declared.Outcome.{Outcome}
-use Rattle.answer.specs.declared.Outcome.the-variants.{Answered, BadLevel, WrongLength}
+use Rattle.answer.specs.declared.Outcome.the-variants.{Answered, BadLevel, WrongLength, BadNode, TooDeep, NeedlessFork}
 use Rattle.answer.specs.Numbers.{codeOf, answers, andThen, unless}
 use Rattle.quad.specs.Numbers.{topLevel, maxWords}
 use Rattle.table.specs.Table.{nodes}
+use Rattle.table.proofs.RuleLaws.{from-none}
 use Rattle.table.specs.Rules.{faultAt, faulty, faultFrom, faultsOf, lengthOk, sizesOf, checkOf, Sized, Accepted}
 
 -- an outcome that answers, followed by the next
@@ -67,3 +68,75 @@ module _ (n : ℕ) (T : List ℕ) where
         eq-eqb (length T) (6 * nodes T) (z .whole),
         le-leb (length T) maxWords (z .few),
       )
+
+-- a fault is no answer
+faulty-refuses : (c p : ℕ) → answers (faulty c p) ≡ false
+faulty-refuses c p = go (eqb c 3) (eqb c 4)
+  where
+    go : (a b : Bool) → answers (cond a (BadNode p) (cond b (TooDeep p) (NeedlessFork p))) ≡ false
+    go true b = refl
+    go false true = refl
+    go false false = refl
+
+module _ (n : ℕ) (T : List ℕ) where
+  from-here : (k p : ℕ) → faultAt n T p ≡ 0 → faultFrom n T (suc k) p ≡ faultFrom n T k (p + 1)
+  unfolding faultFrom
+  from-here k p e = rw (faultFrom, e)
+
+  from-stop : (k p : ℕ) → (faultAt n T p ≡ 0 → ⊥) → faultFrom n T (suc k) p ≡ faulty (faultAt n T p) p
+  unfolding faultFrom
+  from-stop k p h = rw (faultFrom, ne-eqb (faultAt n T p) 0 h)
+
+  -- the first fault decides: the nodes before it have none
+  from-first : (k p j : ℕ) → j < k → ((i : ℕ) → p ≤ i → i < p + j → faultAt n T i ≡ 0) → (faultAt n T (p + j) ≡ 0 → ⊥)
+      → faultFrom n T k p ≡ faulty (faultAt n T (p + j)) (p + j)
+  from-first zero p j lt h f = absurd (omega arith)
+  from-first (suc k) p zero lt h f =
+      let e : p + 0 ≡ p = add-zero p in
+      rw e (from-stop k p (rw e at f))
+  from-first (suc k) p (suc j) lt h f =
+      let e : p + suc j ≡ p + 1 + j = omega arith in
+      from-here k p (h p (omega arith) (omega arith))
+      ∙ rw e (from-first k (p + 1) j (omega arith) (λ i le l. h i (omega arith) (omega arith)) (rw e at f))
+
+  pub first-fault : (p : ℕ) → p < nodes T → ((i : ℕ) → i < p → faultAt n T i ≡ 0) → (faultAt n T p ≡ 0 → ⊥) → faultsOf n T ≡ faulty (faultAt n T p) p
+  unfolding faultsOf
+  first-fault p lt h f =
+      let e : 0 + p ≡ p = zero-add p in
+      rw e at (from-first (nodes T) 0 p lt (λ i le l. h i (omega arith)) (rw (sym e) at f))
+
+  -- no fault at all
+  from-sound-all : (k p : ℕ) → ((i : ℕ) → p ≤ i → i < p + k → faultAt n T i ≡ 0) → faultFrom n T k p ≡ Answered (p + k)
+  from-sound-all zero p h = from-none n T 0 p refl ∙ ap Answered (sym (add-zero p))
+  from-sound-all (suc k) p h =
+      let e : p + suc k ≡ p + 1 + k = omega arith in
+      from-here k p (h p (omega arith) (omega arith)) ∙ rw e (from-sound-all k (p + 1) (λ i le l. h i (omega arith) (omega arith)))
+
+  from-answers : (k p : ℕ) → answers (faultFrom n T k p) ≡ true → (i : ℕ) → p ≤ i → i < p + k → faultAt n T i ≡ 0
+  from-answers zero p e i le lt = absurd (omega arith)
+  from-answers (suc k) p e i le lt =
+      ⊎-elim
+      (λ (z : faultAt n T p ≡ 0).
+      ⊎-elim (λ (q : p ≡ i). rw (← q) z)
+      (λ (l : p < i). from-answers k (p + 1) (rw (from-here k p z) at e) i (omega arith) (omega arith))
+      (eq-or-lt-of-le le))
+      (λ (z : 0 < faultAt n T p).
+      absurd (false≢true (sym (faulty-refuses (faultAt n T p) p) ∙ rw (from-stop k p (λ q. omega arith)) at e)))
+      (eq-zero-or-pos (faultAt n T p))
+
+  -- the check answers exactly the accepted sheets, and with the node count
+  pub accepted-of : answers (checkOf n T) ≡ true → Accepted n T
+  unfolding checkOf faultsOf
+  accepted-of e =
+      let h = go-on (sizesOf n T) (faultFrom n T (nodes T) 0) e in
+      record { sized = sized-of n T (h .0); faultless = λ p lt. from-answers (nodes T) 0 (h .1) p (omega arith) (omega arith) }
+
+  pub check-accepted : Accepted n T → checkOf n T ≡ Answered (nodes T)
+  unfolding checkOf faultsOf
+  check-accepted acc =
+      rw (checkOf, sizes-good n T (acc .sized))
+      (from-sound-all (nodes T) 0 (λ i le l. acc .faultless i (omega arith)) ∙ ap Answered (zero-add (nodes T)))
+
+  -- what a call of the check found
+  pub accepted-call : (s : Outcome) (u : Bool) → s ≡ checkOf n T → u ≡ answers s → not u ≡ false → Accepted n T
+  accepted-call s u e a h = accepted-of (ap answers (sym e) ∙ on u (answers s) a h)
