@@ -1,3 +1,4 @@
 pub mod AllLaws
 pub mod BoolLaws
 pub mod CaseLaws
+pub mod SumLaws

@@ -1,4 +1,4 @@
--- The list of a function's values, and the least of them; a list written over the start of another.
+-- The list of a function's values, the least of them and their sum; a list written over the start of another.
 use mathlib.Core.List.{List, [], _∷_, _++_}
 use lib.ListN.{length, drop}
 use Prim.Native.Nat.{ℕ, zero, suc, _+_, min}
@@ -16,6 +16,11 @@ tab f k = tabFrom f k 0
 unfoldable pub least : ℕ → (ℕ → ℕ) → ℕ → ℕ
 least top f zero = top
 least top f (suc k) = min (f k) (least top f k)
+
+-- f 0 + .. + f (k - 1)
+unfoldable pub sum : (ℕ → ℕ) → ℕ → ℕ
+sum f zero = 0
+sum f (suc k) = f k + sum f k
 
 -- the buffer `old` after `new` was written to its start: the rest stays
 abbrev pub overlay : {A : Type 0} → List A → List A → List A

@@ -16,7 +16,7 @@ use Rattle.quad.specs.Tree.{Tree, leaf, fork, colour, Within, Reduced, Coloured
 use Rattle.quad.proofs.TreeLaws.{by-quadrant, alike-leaves}
 use Rattle.table.specs.Table.{nodes, father, son, type, isFork}
 use Rattle.table.specs.Links.{SonIn, SonsIn}
-use Rattle.table.specs.Rules.{depthTo, typeOk, fatherOk, onceOk, depthOk, allOf, sonAlike, mixedOk, Accepted}
+use Rattle.table.specs.Rules.{depthTo, typeOk, fatherOk, timesNamed, onceOk, depthOk, allOf, sonAlike, mixedOk, Accepted}
 use Rattle.table.specs.Nodes.{sonType, treeAt}
 use Rattle.table.proofs.RuleLaws.{depth-none, depth-root, depth-step, sons-in, sons-none, Passed, passed}
 use Rattle.table.proofs.FourLaws.{One, one-of-four}
@@ -96,11 +96,12 @@ module _ (n : ℕ) (T : List ℕ) (acc : Accepted n T) where
   leaf-sons p lt k = sons-none T p k (pass p lt .sons)
 
   -- a node but the root is exactly one son of its father
-  one-son : (p : ℕ) → p < nodes T → 0 < p → One (λ q. eqb (son T (father T p) q) p)
+  pub named-once : (p : ℕ) → p < nodes T → 0 < p → timesNamed T (father T p) p ≡ 1
   unfolding onceOk
-  one-son p lt pos =
-      let u = pass p lt .once in
-      one-of-four (λ q. eqb (son T (father T p) q) p) (eqb-true _ 1 (or-second (eqb p 0) _ u (ne-eqb p 0 (λ e. omega arith))))
+  named-once p lt pos = eqb-true _ 1 (or-second (eqb p 0) _ (pass p lt .once) (ne-eqb p 0 (λ e. omega arith)))
+
+  one-son : (p : ℕ) → p < nodes T → 0 < p → One (λ q. eqb (son T (father T p) q) p)
+  one-son p lt pos = one-of-four (λ q. eqb (son T (father T p) q) p) (named-once p lt pos)
 
   pub sonType-lt : (p : ℕ) → p < nodes T → 0 < p → sonType T p < 4
   unfolding sonType

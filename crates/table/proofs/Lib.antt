@@ -4,3 +4,4 @@ pub mod FourLaws
 pub mod AcceptedLaws
 pub mod NodeLaws
 pub mod PictureLaws
+pub mod SizeLaws
