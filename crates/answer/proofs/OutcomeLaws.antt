@@ -1,9 +1,12 @@
 -- Refusals in their order, as a call goes through them: a test that a call made, then the next. `thens` closes the returns.
 use mathlib.Core.Bool.{Bool, true, false, not, cond}
 use mathlib.Core.Path.{_≡_, refl, ap, sym, _∙_}
+use Prim.Native.Nat.{_<_}
+use native.Mathlib.Omega.{arith}
 use Rattle.base.proofs.BoolLaws.{on, off}
 use Rattle.answer.specs.declared.Outcome.{Outcome}
-use Rattle.answer.specs.Numbers.{answers, andThen}
+use Rattle.answer.specs.declared.Outcome.the-variants.{Answered, BadLevel, WrongLength, BadNode, TooDeep, NeedlessFork, NoNode, BadDirection, BadPixel, NoRoom, BadPlace, OutOfRange, BadByte, Absent, BadCount, TooLarge, NoBlock}
+use Rattle.answer.specs.Numbers.{codeOf, answers, andThen}
 
 module _ (o s next : Outcome) (u : Bool) (e : s ≡ o) (a : u ≡ answers s) where
   pub then-stop : not u ≡ true → s ≡ andThen o next
@@ -13,3 +16,23 @@ module _ (o s next : Outcome) (u : Bool) (e : s ≡ o) (a : u ≡ answers s) whe
   then-go r h f = rw (← e, on u (answers s) a h) f
 
 pub ruleset thens = (then-stop, then-go)
+
+-- a code is below 256, so code and value are read off the number
+pub code-small : (o : Outcome) → codeOf o < 256
+code-small (Answered v) = omega arith
+code-small (BadLevel v) = omega arith
+code-small (WrongLength v) = omega arith
+code-small (BadNode v) = omega arith
+code-small (TooDeep v) = omega arith
+code-small (NeedlessFork v) = omega arith
+code-small (NoNode v) = omega arith
+code-small (BadDirection v) = omega arith
+code-small (BadPixel v) = omega arith
+code-small (NoRoom v) = omega arith
+code-small BadPlace = omega arith
+code-small (OutOfRange v) = omega arith
+code-small (BadByte v) = omega arith
+code-small (Absent v) = omega arith
+code-small (BadCount v) = omega arith
+code-small (TooLarge v) = omega arith
+code-small NoBlock = omega arith

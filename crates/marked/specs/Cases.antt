@@ -19,7 +19,7 @@ use Rattle.walk.specs.declared.Place.{Place}
 use Rattle.walk.specs.declared.Answer.{Answer}
 use Rattle.walk.specs.declared.Answer.the-variants.{Moved, Run, EndRow, Done, Refused}
 use Rattle.walk.specs.Walk.{start, stepOf}
-use Rattle.marked.specs.SheetA.{tableA, rasterJ, tableK}
+use Rattle.table.specs.SheetA.{tableA, rasterJ, tableK}
 
 -- the kinds of a walk's answers before the first Done, at most k of them: 0 Moved, 1 Run, 2 EndRow, 3 Refused
 abbrev pub counted : Answer → List ℕ → List ℕ

@@ -3,3 +3,4 @@ pub mod Rules
 pub mod Nodes
 pub mod Preorder
 pub mod Links
+pub mod SheetA
