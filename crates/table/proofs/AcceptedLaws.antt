@@ -46,7 +46,7 @@ depth-le T (suc k) p =
     (λ (z : 0 < p). omega (arith, depth-step T k p (λ e. omega arith), depth-le T k (father T p)))
     (eq-zero-or-pos p)
 
-depth-less : (T : List ℕ) (k p : ℕ) → depthTo T (suc k) p ≤ k → depthTo T k p ≡ depthTo T (suc k) p
+pub depth-less : (T : List ℕ) (k p : ℕ) → depthTo T (suc k) p ≤ k → depthTo T k p ≡ depthTo T (suc k) p
 depth-less T zero p le = omega (arith, depth-none T p)
 depth-less T (suc k) p le =
     ⊎-elim

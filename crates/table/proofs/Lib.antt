@@ -5,3 +5,5 @@ pub mod AcceptedLaws
 pub mod NodeLaws
 pub mod PictureLaws
 pub mod SizeLaws
+pub mod PreorderLaws
+pub mod PreorderAccepted

@@ -2,9 +2,11 @@
 use answer::Outcome;
 ghost use mathlib.Core.Path.{_≡_};
 ghost use mathlib.Core.Bool.{true};
+ghost use mathlib.Core.List.{[], _∷_};
 ghost use Prim.Native.Nat.{_+_, _*_, _<_, _≤_};
 ghost use lib.Dec.{eqb};
 ghost use lib.ListN.{length};
+ghost use lib.Seq.{sets};
 ghost use Rattle.quad.specs.Numbers.{maxWords};
 ghost use Rattle.table.specs.Table.{word, nodes, son};
 ghost use Rattle.table.specs.Rules.{depthTo, allOf, one, typeOk, fatherOk, onceOk, sonOk, wordOk, sonsOk, depthOk, sonAlike, mixedOk, faultAt, faulty, faultsOf, lengthOk, sizesOf, checkOf};
@@ -269,4 +271,27 @@ pub fn check(n: u32, table: &[u32]) -> Outcome
         return sized;
     }
     faults(n, table)
+}
+
+// Writes the six words of node p.
+pub fn put_node(
+    table: &mut [u32],
+    p: usize,
+    father: u32,
+    nw: u32,
+    ne: u32,
+    sw: u32,
+    se: u32,
+    kind: u32,
+)
+    requires { ⌜ 6 * p + 6 ≤ length (now table) ⌝ }
+    ensures { λ _. ⌜ now (table .exit) ≡ sets (now (table .entry)) (6 * p) (father ∷ nw ∷ ne ∷ sw ∷ se ∷ kind ∷ []) ⌝ }
+{
+    let i = 6 * p;
+    table[i] = father;
+    table[i + 1] = nw;
+    table[i + 2] = ne;
+    table[i + 3] = sw;
+    table[i + 4] = se;
+    table[i + 5] = kind;
 }
