@@ -1,19 +1,33 @@
 -- The marked cases (a) to (l) of document 01: what the definitions give is what document 01 says, by computation.
 use mathlib.Core.Path.{_≡_, refl}
-use Rattle.base.specs.Tab.{tabFrom, least}
+use Prim.Native.Nat.{ℕ}
+use mathlib.Core.Bool.{true}
+use Rattle.base.specs.Tab.{tab, tabFrom, least}
 use Rattle.quad.specs.Block.{pathOf, column, row}
 use Rattle.quad.specs.Direction.{eastStep, southStep}
-use Rattle.quad.specs.Tree.{sonOf, under, sameLeaf, sizeOf, sidesOf, join, treeOf}
+use Rattle.quad.specs.Tree.{sameLeaf, sizeOf, sidesOf, typesOf, join, treeOf}
 use Rattle.table.specs.Rules.{depthTo, allOf, typeOk, fatherOk, onceOk, sonOk, wordOk, sonsOk, depthOk, sonAlike, mixedOk, faultAt, faultFrom, faultsOf, lengthOk, sizesOf, checkOf, askedOf}
 use Rattle.table.specs.Nodes.{firstQuadrant, sonType, pathTo, holder, pixel, treeAt}
 use Rattle.table.specs.Preorder.{preorder}
-use Rattle.raster.specs.Raster.{rasterTree}
+use Rattle.table.specs.SheetA.{rasterA, tableA, fileA}
+use Rattle.raster.specs.Raster.{rasterTree, pixelsFrom, buildOf, builtTable, rasterOf, decodeOf, decodedRaster}
 use Rattle.neighbour.specs.Neighbour.{beside, neighbourOf, cornerLeafOf}
-use Rattle.file.specs.File.{openOf, readOf}
+use Rattle.file.specs.File.{records, fileOf, blockAt, openOf, readOf, readTable, writeOf, writtenFile}
 use Rattle.distance.specs.Distance.{toOutside, nearest, distanceAt}
 use Rattle.walk.specs.Walk.{badPlace, insideOf, outsideOf, stepOf}
-use Rattle.marked.specs.Cases.{walkFrom, countOf, given, wanted}
+use Rattle.marked.specs.Cases.{walkFrom, countOf, cases, allHold}
 
-pub marked : given ≡ wanted
-unfolding given wanted walkFrom countOf badPlace insideOf outsideOf stepOf toOutside nearest distanceAt least openOf readOf beside neighbourOf cornerLeafOf rasterTree preorder firstQuadrant sonType pathTo holder pixel treeAt depthTo allOf typeOk fatherOk onceOk sonOk wordOk sonsOk depthOk sonAlike mixedOk faultAt faultFrom faultsOf lengthOk sizesOf checkOf askedOf sameLeaf sizeOf sidesOf join treeOf eastStep southStep pathOf column row
+pub marked : allHold cases ≡ true
+unfolding cases allHold walkFrom countOf badPlace insideOf outsideOf stepOf toOutside nearest distanceAt least openOf readOf beside neighbourOf cornerLeafOf rasterTree preorder firstQuadrant sonType pathTo holder pixel treeAt depthTo allOf typeOk fatherOk onceOk sonOk wordOk sonsOk depthOk sonAlike mixedOk faultAt faultFrom faultsOf lengthOk sizesOf checkOf askedOf sameLeaf sizeOf sidesOf join treeOf eastStep southStep pathOf column row buildOf pixelsFrom
 marked = refl
+
+-- sheet A is one picture as raster, table and file, in every direction
+pub record SheetA : Type 0 where
+  pub built : builtTable 2 rasterA (tab (λ i. 7) 54) ≡ tableA
+  pub decoded : decodedRaster 2 tableA (tab (λ i. 7) 16) ≡ rasterA
+  pub written : writtenFile 2 tableA (tab (λ i. 7) 32) ≡ fileA
+  pub read : readTable fileA (tab (λ i. 7) 54) ≡ tableA
+
+pub sheet-A : SheetA
+unfolding builtTable buildOf pixelsFrom decodedRaster decodeOf rasterOf writtenFile writeOf fileOf records readTable readOf openOf blockAt tabFrom rasterTree preorder treeOf join sameLeaf sizeOf typesOf holder pixel treeAt pathOf depthTo allOf typeOk fatherOk onceOk sonOk wordOk sonsOk depthOk sonAlike mixedOk faultAt faultFrom faultsOf lengthOk sizesOf checkOf
+sheet-A = record { built = refl; decoded = refl; written = refl; read = refl }

@@ -1,5 +1,5 @@
--- The marked cases as one table: each entry is a number that the definitions give, beside the number of document 01.
-use mathlib.Core.Bool.{cond}
+-- The marked cases as one table: what the definitions give, beside the number of document 01.
+use mathlib.Core.Bool.{Bool, true, cond, _&&_}
 use mathlib.Core.List.{List, [], _∷_}
 use Prim.Native.Nat.{ℕ, zero, suc, _+_, _*_}
 use lib.Dec.{eqb}
@@ -11,10 +11,10 @@ use Rattle.table.specs.Table.{type}
 use Rattle.table.specs.Rules.{checkOf}
 use Rattle.table.specs.Nodes.{treeAt}
 use Rattle.table.specs.Preorder.{preorderTable}
-use Rattle.raster.specs.Raster.{rasterTree}
+use Rattle.raster.specs.Raster.{rasterTree, buildOf}
 use Rattle.neighbour.specs.Neighbour.{neighbourOf, cornerLeafOf}
 use Rattle.file.specs.File.{readOf}
-use Rattle.distance.specs.Distance.{distanceAt}
+use Rattle.distance.specs.Distance.{distanceAt, plainOutside}
 use Rattle.walk.specs.declared.Place.{Place}
 use Rattle.walk.specs.declared.Answer.{Answer}
 use Rattle.walk.specs.declared.Answer.the-variants.{Moved, Run, EndRow, Done, Refused}
@@ -48,41 +48,48 @@ walkK = walkFrom 50 tableK (start 0)
 abbrev pub tableJ : List ℕ
 tableJ = preorderTable (rasterTree 2 rasterJ)
 
--- what the definitions give
-unfoldable pub given : List ℕ
-given =
-    -- (a) H; the answers before Done; the links among them
-    sidesOf 2 (treeAt tableA 2 0) ∷ length walkA ∷ countOf 0 walkA
-    -- (b) E of node 1, and its type; (c) its eastern leaf at NE; (d) at SE; (e) SE of 1
-    ∷ numberOf (neighbourOf 2 tableA 1 1) ∷ type tableA 2
-    ∷ numberOf (cornerLeafOf 2 tableA 1 1 1)
-    ∷ numberOf (cornerLeafOf 2 tableA 1 1 3)
-    ∷ numberOf (neighbourOf 2 tableA 1 7)
-    -- (f) S of 6; (g) SW of 5; (h) NW of 1
-    ∷ numberOf (neighbourOf 2 tableA 6 2)
-    ∷ numberOf (neighbourOf 2 tableA 5 6)
-    ∷ numberOf (neighbourOf 2 tableA 1 4)
-    -- (i) the distances at nodes 1 and 6; (j) those of the NW and the SE block
-    ∷ distanceAt black 2 tableA 1 ∷ distanceAt black 2 tableA 6
-    ∷ distanceAt black 2 tableJ 1 ∷ distanceAt black 2 tableJ 8
-    -- (k) the check of one black pixel, its links, its distance; (l) an empty file
-    ∷ numberOf (checkOf 0 tableK) ∷ countOf 0 walkK ∷ distanceAt black 0 tableK 0
-    ∷ numberOf (readOf [] 0)
-    ∷ []
+-- a case: what the definitions give, and what document 01 says
+pub record Case : Type 0 where
+  pub gives : ℕ
+  pub wants : ℕ
 
--- what document 01 says
-unfoldable pub wanted : List ℕ
-wanted =
-    10 ∷ 38 ∷ 24
-    ∷ (256 * 2) ∷ forkType
-    ∷ (256 * 3)
-    ∷ (256 * 5)
-    ∷ (256 * 8)
-    ∷ (256 * 8)
-    ∷ (256 * 7)
-    ∷ 20
-    ∷ 2 ∷ 1
-    ∷ 4 ∷ 2
-    ∷ (256 * 1) ∷ 0 ∷ none
-    ∷ 13
+abbrev pub is : ℕ → ℕ → Case
+is a b = record { gives = a; wants = b }
+
+-- every case of a list holds
+unfoldable pub allHold : List Case → Bool
+allHold [] = true
+allHold (c ∷ more) = eqb (c .gives) (c .wants) && allHold more
+
+unfoldable pub cases : List Case
+cases =
+    -- (a) H is 10 and the walk gives 38 answers before Done; the program's 24 links
+    is (sidesOf 2 (treeAt tableA 2 0)) 10
+    ∷ is (length walkA) 38
+    ∷ is (countOf 0 walkA) 24
+    -- (b) E of node 1 is node 2, a fork
+    ∷ is (numberOf (neighbourOf 2 tableA 1 1)) (256 * 2)
+    ∷ is (type tableA 2) forkType
+    -- (c) its eastern leaf at NE is 3; (d) at SE is 5
+    ∷ is (numberOf (cornerLeafOf 2 tableA 1 1 1)) (256 * 3)
+    ∷ is (numberOf (cornerLeafOf 2 tableA 1 1 3)) (256 * 5)
+    -- (e) SE of 1 is 8; (f) S of 6 is 8; (g) SW of 5 is 7; (h) NW of 1 is code 20
+    ∷ is (numberOf (neighbourOf 2 tableA 1 7)) (256 * 8)
+    ∷ is (numberOf (neighbourOf 2 tableA 6 2)) (256 * 8)
+    ∷ is (numberOf (neighbourOf 2 tableA 5 6)) (256 * 7)
+    ∷ is (numberOf (neighbourOf 2 tableA 1 4)) 20
+    -- (i) distances are 2 at node 1 and 1 at node 6
+    ∷ is (distanceAt plainOutside 2 tableA 1) 2
+    ∷ is (distanceAt plainOutside 2 tableA 6) 1
+    -- (j) rows 1110, 1110, 1111, 1111 give the NW block 4, the SE block 2
+    ∷ is (distanceAt plainOutside 2 tableJ 1) 4
+    ∷ is (distanceAt plainOutside 2 tableJ 8) 2
+    -- (k) one black pixel, n = 0: N = 1, no links (a run and a row's end alone), the distance's mark
+    ∷ is (numberOf (buildOf 0 (black ∷ []) 6)) (256 * 1)
+    ∷ is (numberOf (checkOf 0 tableK)) (256 * 1)
+    ∷ is (countOf 0 walkK) 0
+    ∷ is (length walkK) 2
+    ∷ is (distanceAt plainOutside 0 tableK 0) none
+    -- (l) an empty file is 13 at 0
+    ∷ is (numberOf (readOf [] 0)) 13
     ∷ []
