@@ -8,15 +8,16 @@ use native.Mathlib.Nat.{add-zero, zero-add, eq-zero-or-pos, eq-or-lt-of-le}
 use native.Mathlib.Omega.{arith}
 use lib.Dec.{leb, ltb, eqb}
 use lib.ListN.{length}
-use borrow.Author.Tests.{eq-eqb, ne-eqb, eqb-true, eqb-false, ltb-false, leb-true, le-ltb, le-leb, not-true}
+use borrow.Author.Tests.{eq-eqb, ne-eqb, eqb-true, eqb-false, ltb-false, leb-true, leb-false, le-ltb, le-leb, lt-leb, not-true}
 use Rattle.base.proofs.BoolLaws.{and-left, and-right, on}
 use Rattle.answer.specs.declared.Outcome.{Outcome}
-use Rattle.answer.specs.declared.Outcome.the-variants.{Answered, BadLevel, WrongLength, BadNode, TooDeep, NeedlessFork}
+use Rattle.answer.specs.declared.Outcome.the-variants.{Answered, BadLevel, WrongLength, BadNode, TooDeep, NeedlessFork, NoNode}
+use Rattle.answer.proofs.OutcomeLaws.{then-go}
 use Rattle.answer.specs.Numbers.{codeOf, answers, andThen, unless}
 use Rattle.quad.specs.Numbers.{topLevel, maxWords}
 use Rattle.table.specs.Table.{nodes}
 use Rattle.table.proofs.RuleLaws.{from-none}
-use Rattle.table.specs.Rules.{faultAt, faulty, faultFrom, faultsOf, lengthOk, sizesOf, checkOf, Sized, Accepted}
+use Rattle.table.specs.Rules.{faultAt, faulty, faultFrom, faultsOf, lengthOk, sizesOf, checkOf, askedOf, Sized, Accepted, Asked}
 
 -- an outcome that answers, followed by the next
 go-on : (o next : Outcome) → answers (andThen o next) ≡ true → (answers o ≡ true) × (answers next ≡ true)
@@ -140,3 +141,27 @@ module _ (n : ℕ) (T : List ℕ) where
   -- what a call of the check found
   pub accepted-call : (s : Outcome) (u : Bool) → s ≡ checkOf n T → u ≡ answers s → not u ≡ false → Accepted n T
   accepted-call s u e a h = accepted-of (ap answers (sym e) ∙ on u (answers s) a h)
+
+  -- a question about node p goes on exactly where p is a node of an accepted sheet
+  pub asked-of : (p : ℕ) → answers (askedOf n T p) ≡ true → Asked n T p
+  unfolding askedOf
+  asked-of p e =
+      let h = go-on (checkOf n T) (unless (leb (nodes T) p) (NoNode p)) e in
+      record { accepted = accepted-of (h .0); node = leb-false _ _ (answers-unless (leb (nodes T) p) (NoNode p) refl (h .1)) }
+
+  pub asked-good : (p : ℕ) → Asked n T p → askedOf n T p ≡ Answered 0
+  unfolding askedOf
+  asked-good p a = rw (askedOf, check-accepted (a .accepted), lt-leb (nodes T) p (a .node))
+
+  pub asked-call : (p : ℕ) (s : Outcome) (u : Bool) → s ≡ askedOf n T p → u ≡ answers s → not u ≡ false → Asked n T p
+  asked-call p s u e a h = asked-of p (ap answers (sym e) ∙ on u (answers s) a h)
+
+  -- the call's own returns
+  module _ (p count : ℕ) (s : Outcome) (u : Bool) (e : s ≡ checkOf n T) (a : u ≡ answers s) (h : not u ≡ false) (c : count ≡ nodes T) where
+    pub asked-none : count ≤ p → NoNode p ≡ askedOf n T p
+    unfolding askedOf
+    asked-none l = then-go (checkOf n T) s _ u e a _ h (rw (le-leb (nodes T) p (rw c at l)))
+
+    pub asked-node : p < count → Answered 0 ≡ askedOf n T p
+    unfolding askedOf
+    asked-node l = then-go (checkOf n T) s _ u e a _ h (rw (lt-leb (nodes T) p (rw c at l)))

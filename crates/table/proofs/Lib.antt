@@ -7,3 +7,4 @@ pub mod PictureLaws
 pub mod SizeLaws
 pub mod PreorderLaws
 pub mod PreorderAccepted
+pub mod SonTypeLaws

@@ -112,3 +112,8 @@ pub record Sized (n : ℕ) (T : List ℕ) : Type 0 where
 pub record Accepted (n : ℕ) (T : List ℕ) : Type 0 where
   pub sized : Sized n T
   pub faultless : (p : ℕ) → p < nodes T → faultAt n T p ≡ 0
+
+-- a question about node p of an accepted sheet
+pub record Asked (n : ℕ) (T : List ℕ) (p : ℕ) : Type 0 where
+  pub accepted : Accepted n T
+  pub node : p < nodes T

@@ -8,8 +8,9 @@ ghost use lib.Dec.{eqb};
 ghost use lib.ListN.{length};
 ghost use lib.Seq.{sets};
 ghost use Rattle.quad.specs.Numbers.{maxWords};
-ghost use Rattle.table.specs.Table.{word, nodes, son};
-ghost use Rattle.table.specs.Rules.{depthTo, allOf, one, typeOk, fatherOk, onceOk, sonOk, wordOk, sonsOk, depthOk, sonAlike, mixedOk, faultAt, faulty, faultsOf, lengthOk, sizesOf, checkOf};
+ghost use Rattle.table.specs.Table.{word, nodes, father, son};
+ghost use Rattle.table.specs.Rules.{depthTo, allOf, one, typeOk, fatherOk, onceOk, sonOk, wordOk, sonsOk, depthOk, sonAlike, mixedOk, faultAt, faulty, faultsOf, lengthOk, sizesOf, checkOf, askedOf};
+ghost use Rattle.table.specs.Nodes.{sonType};
 ghost use Rattle.table.specs.Links.{Rising, SonsIn};
 
 // The node count.
@@ -271,6 +272,38 @@ pub fn check(n: u32, table: &[u32]) -> Outcome
         return sized;
     }
     faults(n, table)
+}
+
+// The tests that every question about a node begins with: the check, and 6 for a node that is none of the table's.
+pub fn asked(n: u32, table: &[u32], node: u32) -> Outcome
+    ensures { λ r. ⌜ r ≡ askedOf n (now (table .entry)) node ⌝ }
+{
+    let checked = check(n, table);
+    if !answer::answered(checked) {
+        return checked;
+    }
+    if node_count(table) <= node as usize {
+        return Outcome::NoNode { node };
+    }
+    Outcome::Answered { value: 0 }
+}
+
+// Which son of its father p is (document 000's SONTYPE). The root is never asked.
+pub fn son_type(table: &[u32], p: usize) -> usize
+    requires { ⌜ (p < nodes (now table)) × (father (now table) p < nodes (now table)) ⌝ }
+    ensures { λ r. ⌜ r ≡ sonType (now (table .entry)) p ⌝ }
+{
+    let father = word_at(table, p, 0);
+    if word_at(table, father, 1) == p {
+        return 0;
+    }
+    if word_at(table, father, 2) == p {
+        return 1;
+    }
+    if word_at(table, father, 3) == p {
+        return 2;
+    }
+    3
 }
 
 // Writes the six words of node p.
