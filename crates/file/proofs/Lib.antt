@@ -1,0 +1,4 @@
+pub mod RecordLaws
+pub mod SpeltLaws
+pub mod BlockLaws
+pub mod ReadLaws

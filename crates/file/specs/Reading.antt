@@ -1,0 +1,42 @@
+-- Reading, one function at a time: what the first pass tells of a record, of a block and of four, and how far a block reaches.
+use mathlib.Core.Bool.{Bool, false, cond}
+use mathlib.Core.List.{List}
+use Prim.Native.Nat.{ℕ, _+_, _*_, _^_, _<_}
+use lib.Dec.{eqb}
+use lib.ListN.{getD}
+use Rattle.answer.specs.declared.Outcome.{Outcome}
+use Rattle.answer.specs.declared.Outcome.the-variants.{Answered, BadByte}
+use Rattle.answer.specs.Numbers.{answers}
+use Rattle.quad.specs.Numbers.{forkType}
+use Rattle.quad.specs.Tree.{colour}
+use Rattle.file.specs.declared.Block.{Block}
+use Rattle.file.specs.declared.Block.the-variants.{Read, Bad}
+use Rattle.file.specs.File.{Got, got, bad, mark, nodeMark, needed, marked, isType}
+
+-- the two mark bytes at a place
+unfoldable pub marksOf : List ℕ → ℕ → ℕ → Outcome
+marksOf s at second = marked s at mark (λ o. o) (marked s (at + 1) second (λ o. o) (Answered 0))
+
+-- a node record: the place after it and its type, or the fault
+unfoldable pub recordOf : List ℕ → ℕ → Block
+recordOf s at =
+    cond (answers (marksOf s at nodeMark))
+    (needed s (at + 2) Bad (cond (isType (getD s (at + 2) 0)) (Read (at + 3) (getD s (at + 2) 0)) (Bad (BadByte (at + 2)))))
+    (Bad (marksOf s at nodeMark))
+
+-- a block: the place after it and its root's type, or the fault
+abbrev pub told : Got → Block
+told (got at t) = Read at (colour t)
+told (bad o) = Bad o
+
+-- four types are those of four like leaves
+unfoldable pub likeKinds : ℕ → ℕ → ℕ → ℕ → Bool
+likeKinds a b c d = cond (eqb a forkType) false (cond (eqb a b) (cond (eqb a c) (eqb a d) false) false)
+
+-- every place of a block of level l that starts here fits a word: it has at most (4 ^ (l + 1) - 1) / 3 records of three bytes
+abbrev pub Reaches : ℕ → ℕ → Type 0
+Reaches l at = at + 4 * 4 ^ l < 4294967296
+
+-- and so for the four blocks of level l behind a fork's record that starts three bytes before this place
+abbrev pub FourReach : ℕ → ℕ → Type 0
+FourReach l at = at + 16 * 4 ^ l < 4294967299
