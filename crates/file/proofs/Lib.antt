@@ -2,3 +2,4 @@ pub mod RecordLaws
 pub mod SpeltLaws
 pub mod BlockLaws
 pub mod ReadLaws
+pub mod SurveyLaws

@@ -27,6 +27,10 @@ pub push : {A B : Type 0} (f : A → B) (t : Bool) (x y : A) (x' y' : B) → f x
 push f true x y x' y' p q = p
 push f false x y x' y' p q = q
 
+pub push-case : {A B : Type 0} (f : A → B) (t : Bool) (x y : A) (x' y' : B) → (t ≡ true → f x ≡ x') → (t ≡ false → f y ≡ y') → f (cond t x y) ≡ cond t x' y'
+push-case f true x y x' y' p q = p refl
+push-case f false x y x' y' p q = q refl
+
 -- two mark bytes, one tested after the other, are tested as one
 pub marks-by : {A : Type 0} (s : List ℕ) (at second : ℕ) (refuse : Outcome → A) (next : A)
     → marked s at mark refuse (marked s (at + 1) second refuse next) ≡ cond (answers (marksOf s at second)) next (refuse (marksOf s at second))

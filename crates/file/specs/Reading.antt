@@ -1,17 +1,19 @@
--- Reading, one function at a time: what the first pass tells of a record, of a block and of four, and how far a block reaches.
+-- Reading, one function at a time: what the first pass tells of a record, of a block, of four and of the whole file, and how far a block reaches.
 use mathlib.Core.Bool.{Bool, false, cond}
 use mathlib.Core.List.{List}
-use Prim.Native.Nat.{ℕ, _+_, _*_, _^_, _<_}
-use lib.Dec.{eqb}
-use lib.ListN.{getD}
+use Prim.Native.Nat.{ℕ, _+_, _-_, _*_, _/_, _^_, _<_}
+use lib.Dec.{eqb, ltb}
+use lib.ListN.{length, getD}
 use Rattle.answer.specs.declared.Outcome.{Outcome}
-use Rattle.answer.specs.declared.Outcome.the-variants.{Answered, BadByte}
-use Rattle.answer.specs.Numbers.{answers}
-use Rattle.quad.specs.Numbers.{forkType}
-use Rattle.quad.specs.Tree.{colour}
+use Rattle.answer.specs.declared.Outcome.the-variants.{Answered, BadLevel, BadByte, BadCount}
+use Rattle.answer.specs.Numbers.{answers, andThen}
+use Rattle.quad.specs.Numbers.{topLevel, forkType}
+use Rattle.quad.specs.Tree.{colour, sizeOf}
 use Rattle.file.specs.declared.Block.{Block}
 use Rattle.file.specs.declared.Block.the-variants.{Read, Bad}
-use Rattle.file.specs.File.{Got, got, bad, mark, nodeMark, needed, marked, isType}
+use Rattle.file.specs.declared.Contents.{Contents}
+use Rattle.file.specs.declared.Contents.the-variants.{Sheet, Faulty}
+use Rattle.file.specs.File.{Got, got, bad, Opened, opened, faulty, mark, sheetMark, nodeMark, needed, marked, isType}
 
 -- the two mark bytes at a place
 unfoldable pub marksOf : List ℕ → ℕ → ℕ → Outcome
@@ -40,3 +42,28 @@ Reaches l at = at + 4 * 4 ^ l < 4294967296
 -- and so for the four blocks of level l behind a fork's record that starts three bytes before this place
 abbrev pub FourReach : ℕ → ℕ → Type 0
 FourReach l at = at + 16 * 4 ^ l < 4294967299
+
+-- the header: its level as the answer, or the first fault
+unfoldable pub headerOf : List ℕ → Outcome
+headerOf s =
+    andThen (marksOf s 0 sheetMark)
+    (needed s 2 (λ o. o)
+    (cond (ltb topLevel (getD s 2 0)) (BadLevel 2) (needed s 3 (λ o. o) (needed s 4 (λ o. o) (Answered (getD s 2 0))))))
+
+-- the node count that the header names
+abbrev pub countOf : List ℕ → ℕ
+countOf s = getD s 3 0 + 256 * getD s 4 0
+
+-- the records before a place
+abbrev pub recordsTo : ℕ → ℕ
+recordsTo at = (at - 5) / 3
+
+-- after a block of a file of level n that ends before a place: the count, then the bytes left over
+unfoldable pub closingOf : List ℕ → ℕ → ℕ → Contents
+closingOf s n at =
+    cond (eqb (countOf s) (recordsTo at)) (cond (ltb at (length s)) (Faulty (BadCount at)) (Sheet n (recordsTo at))) (Faulty (BadCount 3))
+
+-- a whole file: level and node count, or the first fault
+abbrev pub contentsOf : Opened → Contents
+contentsOf (opened n t) = Sheet n (sizeOf t)
+contentsOf (faulty o) = Faulty o

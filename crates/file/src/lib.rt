@@ -1,10 +1,14 @@
 // The sheet file, read and written.
 use answer::Outcome;
+ghost use mathlib.Core.List.{[], _∷_};
 ghost use mathlib.Core.Path.{_≡_};
-ghost use Prim.Native.Nat.{_+_, _*_, _^_, _<_, _≤_};
-ghost use Rattle.answer.specs.declared.Outcome.the-variants.{Answered};
-ghost use Rattle.file.specs.File.{mark, marked, isType, blockAt, fourAt};
-ghost use Rattle.file.specs.Reading.{marksOf, recordOf, told, likeKinds, Reaches, FourReach};
+ghost use Prim.Native.Nat.{_+_, _*_, _<_, _≤_};
+ghost use lib.ListN.{length, getD};
+ghost use lib.Seq.{sets};
+ghost use Rattle.file.specs.File.{isType, blockAt, fourAt, openOf};
+ghost use Rattle.file.specs.Calls.{Reads};
+ghost use Rattle.file.specs.Reading.{marksOf, recordOf, told, likeKinds, Reaches, FourReach, headerOf, countOf, closingOf, contentsOf};
+ghost use Rattle.file.specs.Linking.{placeOf, treeIn, Ready, Linked};
 
 // Every record stands after a two-byte mark: 51, and 53 before the header or 4E before a node's type.
 const MARK: u8 = 81;
@@ -19,6 +23,12 @@ pub enum Block {
     Read { next: u32, kind: usize },
     // The first fault.
     Bad { outcome: Outcome },
+}
+
+// What reading a whole file gives, before the room for its table is looked at.
+pub enum Contents {
+    Sheet { level: u32, count: u32 },
+    Faulty { outcome: Outcome },
 }
 
 fn wide(byte: u8) -> usize
@@ -166,5 +176,133 @@ fn read_four(file: &[u8], level: u32, at: u32) -> Block
     Block::Read {
         next,
         kind: quad::FORK,
+    }
+}
+
+// The header: its level as the answer, or the first fault.
+fn read_header(file: &[u8]) -> Outcome
+    ensures { λ r. ⌜ r ≡ headerOf (now (file .entry)) ⌝ }
+{
+    let marked = marks(file, 0, SHEET);
+    if !answer::answered(marked) {
+        return marked;
+    }
+    if file.len() <= 2 {
+        return Outcome::Absent { place: 2 };
+    }
+    let level = file[2] as u32;
+    if quad::TOP_LEVEL < level {
+        return Outcome::BadLevel { place: 2 };
+    }
+    if file.len() <= 3 {
+        return Outcome::Absent { place: 3 };
+    }
+    if file.len() <= 4 {
+        return Outcome::Absent { place: 4 };
+    }
+    Outcome::Answered { value: level }
+}
+
+// The node count that the header names.
+fn header_count(file: &[u8]) -> u32
+    requires { ⌜ 5 ≤ length (now file) ⌝ }
+    ensures { λ r. ⌜ r ≡ countOf (now (file .entry)) ⌝ }
+{
+    let low = file[3] as u32;
+    let high = file[4] as u32;
+    low + 256 * high
+}
+
+// After the block, which ends before a place: the node count, then the bytes left over.
+fn close(file: &[u8], level: u32, at: u32) -> Contents
+    requires { ⌜ (5 ≤ at) × (5 ≤ length (now file)) ⌝ }
+    ensures { λ r. ⌜ r ≡ closingOf (now (file .entry)) level at ⌝ }
+{
+    let count = (at - 5) / 3;
+    let named = header_count(file);
+    if named != count {
+        return Contents::Faulty { outcome: Outcome::BadCount { place: 3 } };
+    }
+    if (at as usize) < file.len() {
+        return Contents::Faulty { outcome: Outcome::BadCount { place: at } };
+    }
+    Contents::Sheet { level, count }
+}
+
+// The first pass: level and node count, or the first fault. It writes nothing.
+fn survey(file: &[u8]) -> Contents
+    ensures { λ r. ⌜ r ≡ contentsOf (openOf (now (file .entry))) ⌝ }
+{
+    let header = read_header(file);
+    if !answer::answered(header) {
+        return Contents::Faulty { outcome: header };
+    }
+    let level = answer::value(header);
+    let root = read_block(file, level, 5);
+    match root {
+        Block::Bad { outcome } => Contents::Faulty { outcome },
+        Block::Read { next, kind: _ } => close(file, level, next),
+    }
+}
+
+// The type of node p, which is record p of the file.
+fn type_of(file: &[u8], p: u32) -> usize
+    requires { ⌜ (placeOf p + 3 ≤ length (now file)) × (p < 4294967295) ⌝ }
+    ensures { λ r. ⌜ r ≡ getD (now (file .entry)) (placeOf p + 2) 0 ⌝ }
+{
+    let at = 5 + 3 * (p as usize);
+    wide(file[at + 2])
+}
+
+// The six words of node p.
+fn put_node(table: &mut [u32], p: u32, father: u32, nw: u32, ne: u32, sw: u32, se: u32, kind: u32)
+    requires { ⌜ 6 * p + 6 ≤ length (now table) ⌝ }
+    ensures { λ _. ⌜ now (table .exit) ≡ sets (now (table .entry)) (6 * p) (father ∷ nw ∷ ne ∷ sw ∷ se ∷ kind ∷ []) ⌝ }
+{
+    let i = 6 * (p as usize);
+    table[i] = father;
+    table[i + 1] = nw;
+    table[i + 2] = ne;
+    table[i + 3] = sw;
+    table[i + 4] = se;
+    table[i + 5] = kind;
+}
+
+// The second pass, for a block: its nodes from p on, in preorder, and the next node. A fork's words are written once its sons' numbers are known.
+fn link_block(file: &[u8], level: u32, table: &mut [u32], p: u32, father: u32) -> u32
+    requires { ⌜ Ready (now file) level p (length (now table)) ⌝ }
+    ensures { λ r. ⌜ Linked (treeIn (blockAt (now (file .entry)) level (placeOf p))) father p (now (table .entry)) (now (table .exit)) r ⌝ }
+{
+    let kind = type_of(file, p);
+    let none = quad::NONE as u32;
+    if kind != quad::FORK {
+        put_node(table, p, father, none, none, none, none, kind as u32);
+        return p + 1;
+    }
+    let below = level - 1;
+    let nw = p + 1;
+    let ne = link_block(file, below, table, nw, p);
+    let sw = link_block(file, below, table, ne, p);
+    let se = link_block(file, below, table, sw, p);
+    let next = link_block(file, below, table, se, p);
+    put_node(table, p, father, nw, ne, sw, se, quad::FORK as u32);
+    next
+}
+
+// A file's table: the preorder one, written only where nothing is refused any more; words beyond it stay.
+pub fn read(file: &[u8], table: &mut [u32]) -> Outcome
+    ensures { λ r. ⌜ Reads (now (file .entry)) (now (table .entry)) r (now (table .exit)) ⌝ }
+{
+    let contents = survey(file);
+    match contents {
+        Contents::Faulty { outcome } => outcome,
+        Contents::Sheet { level, count } => {
+            let words = 6 * count;
+            if table.len() < words as usize {
+                return Outcome::NoRoom { needed: words };
+            }
+            link_block(file, level, table, 0, quad::NONE as u32);
+            Outcome::Answered { value: 8 * count + level }
+        }
     }
 }

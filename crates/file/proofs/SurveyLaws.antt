@@ -1,0 +1,134 @@
+-- The first pass over a whole file: header, block, count, and the bytes left over, by what each function gave.
+use mathlib.Core.Bool.{Bool, true, false, not, cond, false≢true}
+use mathlib.Core.List.{List}
+use mathlib.Core.Path.{_≡_, refl, ap, sym, _∙_}
+use Prim.Native.Nat.{ℕ, _+_, _-_, _*_, _/_, _^_, _≤_, _<_}
+use native.Mathlib.Nat.{pow-le-pow-right}
+use native.Mathlib.Omega.{arith}
+use lib.Dec.{leb, ltb, eqb}
+use lib.ListN.{length, getD}
+use borrow.Author.Tests.{eq-eqb, ne-eqb, eqb-true, leb-false, ltb-false, lt-leb, le-ltb}
+use Rattle.base.proofs.BoolLaws.{on, off}
+use Rattle.base.proofs.CaseLaws.{cond-case}
+use Rattle.answer.specs.declared.Outcome.{Outcome}
+use Rattle.answer.specs.declared.Outcome.the-variants.{Answered, BadLevel, BadCount}
+use Rattle.answer.specs.Numbers.{valueOf, answers}
+use Rattle.quad.specs.Numbers.{topLevel}
+use Rattle.quad.specs.Tree.{Tree, colour, sizeOf}
+use Rattle.file.specs.declared.Block.{Block}
+use Rattle.file.specs.declared.Block.the-variants.{Read, Bad}
+use Rattle.file.specs.declared.Contents.{Contents}
+use Rattle.file.specs.declared.Contents.the-variants.{Sheet, Faulty}
+use Rattle.file.specs.File.{Got, got, bad, Opened, opened, faulty, mark, sheetMark, closed, blockAt, openOf}
+use Rattle.file.specs.Reading.{marksOf, told, Reaches, headerOf, countOf, recordsTo, closingOf, contentsOf}
+use Rattle.file.proofs.BlockLaws.{block-sound}
+use Rattle.file.proofs.ReadLaws.{push, push-case, marks-by, found, told-bad}
+
+-- a count that a call gave, held against another
+module _ (a b k : ℕ) (r x y : Contents) (e : a ≡ k) where
+  pub count-same : a ≡ b → r ≡ x → r ≡ cond (eqb k b) x y
+  count-same h f = rw (eq-eqb k b (sym e ∙ h)) f
+
+  pub count-other : (a ≡ b → ⊥) → r ≡ y → r ≡ cond (eqb k b) x y
+  count-other h f = rw (ne-eqb k b (λ q. h (e ∙ q))) f
+
+-- a header that answers
+pub record Header (s : List ℕ) : Type 0 where
+  pub first : getD s 0 0 ≡ mark
+  pub second : getD s 1 0 ≡ sheetMark
+  pub level : getD s 2 0 ≤ topLevel
+  pub long : 5 ≤ length s
+  pub is : headerOf s ≡ Answered (getD s 2 0)
+
+-- a whole file by its header
+refused : {A : Type 0} (t : Bool) (x y : A) → t ≡ false → cond t x y ≡ y
+refused t x y e = rw e
+
+pub open-by : (s : List ℕ) → openOf s ≡ cond (answers (headerOf s)) (closed s (getD s 2 0) (blockAt s (getD s 2 0) 5)) (faulty (headerOf s))
+unfolding openOf headerOf
+open-by s =
+    let m : Outcome = marksOf s 0 sheetMark in
+    let f : Outcome → Opened = λ o. cond (answers o) (closed s (getD s 2 0) (blockAt s (getD s 2 0) 5)) (faulty o) in
+    marks-by s 0 sheetMark faulty _
+    ∙ sym (push-case f (answers m) _ _ _ _
+    (λ _. push f (leb (length s) 2) _ _ _ _ refl
+    (push f (ltb topLevel (getD s 2 0)) _ _ _ _ refl
+    (push f (leb (length s) 3) _ _ _ _ refl (push f (leb (length s) 4) _ _ _ _ refl refl))))
+    (λ q. refused (answers m) _ _ q))
+
+-- marks that answer
+pub marks-good : (s : List ℕ) (at second : ℕ) → answers (marksOf s at second) ≡ true → (getD s at 0 ≡ mark) × (getD s (at + 1) 0 ≡ second)
+unfolding marksOf
+marks-good s at second =
+    let P : Outcome → Type 0 = λ o. answers o ≡ true → (getD s at 0 ≡ mark) × (getD s (at + 1) 0 ≡ second) in
+    cond-case P (leb (length s) at) _ _ (λ _ e. absurd (false≢true e))
+    (λ _. cond-case P (eqb (getD s at 0) mark) _ _
+    (λ a. cond-case P (leb (length s) (at + 1)) _ _ (λ _ e. absurd (false≢true e))
+    (λ _. cond-case P (eqb (getD s (at + 1) 0) second) _ _
+    (λ b _. (eqb-true (getD s at 0) mark a, eqb-true (getD s (at + 1) 0) second b))
+    (λ _ e. absurd (false≢true e))))
+    (λ _ e. absurd (false≢true e)))
+
+pub header-good : (s : List ℕ) → answers (headerOf s) ≡ true → Header s
+unfolding headerOf
+header-good s =
+    let P : Outcome → Type 0 = λ o. answers o ≡ true → o ≡ headerOf s → Header s in
+    let m : Outcome = marksOf s 0 sheetMark in
+    let none : (o : Outcome) → answers o ≡ false → P o = λ o f e _. absurd (false≢true (sym f ∙ e)) in
+    λ e. cond-case P (answers m) _ m
+    (λ a. cond-case P (leb (length s) 2) _ _ (λ _. none _ refl)
+    (λ _. cond-case P (ltb topLevel (getD s 2 0)) _ _ (λ _. none _ refl)
+    (λ low. cond-case P (leb (length s) 3) _ _ (λ _. none _ refl)
+    (λ _. cond-case P (leb (length s) 4) _ _ (λ _. none _ refl)
+    (λ long _ is.
+    let b = marks-good s 0 sheetMark a in
+    record {
+      first = b .0;
+      second = b .1;
+      level = ltb-false topLevel (getD s 2 0) low;
+      long = omega (arith, leb-false (length s) 4 long);
+      is = sym is;
+    })))))
+    (λ a. none m a) e refl
+
+-- what each function gave, and what the next asks
+module _ (s : List ℕ) (h : Outcome) (u : Bool) (e : h ≡ headerOf s) (a : u ≡ answers h) where
+  pub survey-stop : not u ≡ true → Faulty h ≡ contentsOf (openOf s)
+  survey-stop stop =
+      let f : answers (headerOf s) ≡ false = ap answers (sym e) ∙ off u (answers h) a stop in
+      rw (open-by s, f, e)
+
+  module _ (go : not u ≡ false) (level : ℕ) (v : level ≡ valueOf h) where
+    answered : answers (headerOf s) ≡ true
+    answered = ap answers (sym e) ∙ on u (answers h) a go
+
+    header : Header s
+    header = header-good s answered
+
+    its-level : level ≡ getD s 2 0
+    its-level = v ∙ ap valueOf (e ∙ header .is)
+
+    opens : openOf s ≡ closed s level (blockAt s level 5)
+    opens = open-by s ∙ rw (answered, ← its-level)
+
+    pub block-asks : Reaches level 5
+    block-asks = omega (arith, header .level, its-level, pow-le-pow-right {n = 4} (omega arith) {i = level} {j = topLevel} (omega (arith, header .level, its-level)))
+
+    module _ (r : Block) (b : r ≡ told (blockAt s level 5)) where
+      pub survey-bad : (o : Outcome) → r ≡ Bad o → Faulty o ≡ contentsOf (openOf s)
+      survey-bad o f = rw (opens, told-bad (blockAt s level 5) r o b f)
+
+      module _ (i k : ℕ) (f : r ≡ Read i k) where
+        pub close-asks : (5 ≤ i) × (5 ≤ length s)
+        close-asks =
+            let d = found s level 5 i k r b f in
+            (omega (arith, block-sound s level 5 i (d .tree) (d .is) .next), header .long)
+
+        pub survey-read : (c : Contents) → c ≡ closingOf s level i → c ≡ contentsOf (openOf s)
+        unfolding closingOf
+        survey-read c g =
+            let d = found s level 5 i k r b f in
+            let t : Tree = d .tree in
+            let size : recordsTo i ≡ sizeOf t = omega (arith, block-sound s level 5 i t (d .is) .next) in
+            g ∙ rw (opens, d .is, size)
+            (sym (push contentsOf (eqb (countOf s) (sizeOf t)) _ _ _ _ (push contentsOf (ltb i (length s)) _ _ _ _ refl refl) refl))
