@@ -3,3 +3,5 @@ pub mod SpeltLaws
 pub mod BlockLaws
 pub mod ReadLaws
 pub mod SurveyLaws
+pub mod StoreLaws
+pub mod LinkLaws

@@ -1,3 +1,7 @@
+-- A fork calls itself on its four sons, one level down; each is ready where the one before it was linked.
+use borrow.Author.Needs.{needs}
+use native.Mathlib.Omega.{arith}
+use Rattle.file.proofs.LinkLaws.{type-asks, node-room, kind-le, links-leaf, deeper, ready-nw, ready-ne, ready-sw, ready-se, fork-room, links-fork, linked-length}
 use Prim.Native.Nat.{ℕ, _<_}
 use borrow.Fn.Kinds.{In}
 use borrow.Fn.PlainCycle.{Measures, is, falls, and}
@@ -10,7 +14,7 @@ use Rattle.file.proofs.+link_block.{statement}
 use Rattle.file.proofs.+link_block.Tie.{close}
 
 abbrev μ-link-block : Measures 2 link-block-kinds.ps ℕ
-μ-link-block κs a = ?
+μ-link-block κs a = a .1 .0
 
 abbrev link-block-at : ℕ → In 2 link-block-kinds.ps
 link-block-at t =
@@ -20,202 +24,62 @@ abbrev link-block-below : ℕ → In 2 link-block-kinds.ps
 link-block-below t =
     and 2 link-block-kinds.ps (falls 2 link-block-kinds.ps _<_ μ-link-block t) link-block.Pre
 
--- src/lib.rt:281:9
-link-block-type-of-requires : (t : ℕ) → link-block-lts.Need-type-of-requires (
-  type-of-reads.Asked,
-  type-of-reads.Learnt,
-  put-node-reads.Asked,
-  put-node-reads.Learnt,
-  link-block-below t,
-  link-block.Post,
-) (link-block-at t) link-block.Post
-link-block-type-of-requires t c κs = ?
+abbrev calls : ℕ → link-block-lts.Claims
+calls t = (type-of-reads.Asked, type-of-reads.Learnt, put-node-reads.Asked, put-node-reads.Learnt, link-block-below t, link-block.Post)
 
--- src/lib.rt:282:16
-link-block-cast-none : (t : ℕ) → link-block-lts.Need-cast-none (
-  type-of-reads.Asked,
-  type-of-reads.Learnt,
-  put-node-reads.Asked,
-  put-node-reads.Learnt,
-  link-block-below t,
-  link-block.Post,
-) (link-block-at t) link-block.Post
-link-block-cast-none t c = ?
+link-block-type-of-requires : (t : ℕ) → link-block-lts.Need-type-of-requires (calls t) (link-block-at t) link-block.Post
+link-block-type-of-requires t c κs = type-asks _ _ _ (c .before .before .args .table .now) (c .before .before .pre .1)
 
--- src/lib.rt:284:60
-link-block-cast-put-node : (t : ℕ) → link-block-lts.Need-cast-put-node (
-  type-of-reads.Asked,
-  type-of-reads.Learnt,
-  put-node-reads.Asked,
-  put-node-reads.Learnt,
-  link-block-below t,
-  link-block.Post,
-) (link-block-at t) link-block.Post
-link-block-cast-put-node t c = ?
+link-block-cast-none : (t : ℕ) → link-block-lts.Need-cast-none (calls t) (link-block-at t) link-block.Post
+link-block-cast-none t c = search needs
 
--- src/lib.rt:284:9
-link-block-put-node-requires : (t : ℕ) → link-block-lts.Need-put-node-requires (
-  type-of-reads.Asked,
-  type-of-reads.Learnt,
-  put-node-reads.Asked,
-  put-node-reads.Learnt,
-  link-block-below t,
-  link-block.Post,
-) (link-block-at t) link-block.Post
-link-block-put-node-requires t c κs = ?
+link-block-cast-put-node : (t : ℕ) → link-block-lts.Need-cast-put-node (calls t) (link-block-at t) link-block.Post
+link-block-cast-put-node t c = omega (arith, kind-le _ _ _ (c .before .before .before .before .before .args .table .now) (c .before .before .before .before .before .pre .1) _ (c .before .before .type-of .ensures))
 
--- src/lib.rt:285:16
-link-block-add-result : (t : ℕ) → link-block-lts.Need-add-result (
-  type-of-reads.Asked,
-  type-of-reads.Learnt,
-  put-node-reads.Asked,
-  put-node-reads.Learnt,
-  link-block-below t,
-  link-block.Post,
-) (link-block-at t) link-block.Post
-link-block-add-result t c = ?
+link-block-put-node-requires : (t : ℕ) → link-block-lts.Need-put-node-requires (calls t) (link-block-at t) link-block.Post
+link-block-put-node-requires t c κs = node-room _ _ _ (c .before .before .before .before .before .args .table .now) (c .before .before .before .before .before .pre .1)
 
--- src/lib.rt:285:9
-link-block-same-length : (t : ℕ) → link-block-lts.Need-same-length (
-  type-of-reads.Asked,
-  type-of-reads.Learnt,
-  put-node-reads.Asked,
-  put-node-reads.Learnt,
-  link-block-below t,
-  link-block.Post,
-) (link-block-at t) link-block.Post
-link-block-same-length t c = ?
+link-block-add-result : (t : ℕ) → link-block-lts.Need-add-result (calls t) (link-block-at t) link-block.Post
+link-block-add-result t c = omega (arith, type-asks _ _ _ (c .before .before .before .before .before .before .before .before .args .table .now) (c .before .before .before .before .before .before .before .before .pre .1))
 
--- src/lib.rt:285:9
-link-block-returns : (t : ℕ) → link-block-lts.Need-returns (
-  type-of-reads.Asked,
-  type-of-reads.Learnt,
-  put-node-reads.Asked,
-  put-node-reads.Learnt,
-  link-block-below t,
-  link-block.Post,
-) (link-block-at t) link-block.Post
-link-block-returns t c = ?
+link-block-same-length : (t : ℕ) → link-block-lts.Need-same-length (calls t) (link-block-at t) link-block.Post
+link-block-same-length t c = c .before .before .put-node .kept .0
 
--- src/lib.rt:287:17
-link-block-sub-below : (t : ℕ) → link-block-lts.Need-sub-below (
-  type-of-reads.Asked,
-  type-of-reads.Learnt,
-  put-node-reads.Asked,
-  put-node-reads.Learnt,
-  link-block-below t,
-  link-block.Post,
-) (link-block-at t) link-block.Post
-link-block-sub-below t c = ?
+link-block-returns : (t : ℕ) → link-block-lts.Need-returns (calls t) (link-block-at t) link-block.Post
+link-block-returns t c = links-leaf _ _ _ (c .before .before .before .before .before .before .before .before .args .table .now) (c .before .before .before .before .before .before .before .before .pre .1) _ (c .before .before .before .before .before .type-of .ensures) _ _ (c .before .before .before .before .if1 .taken) (c .before .before .put-node .ensures)
 
--- src/lib.rt:288:14
-link-block-add-nw : (t : ℕ) → link-block-lts.Need-add-nw (
-  type-of-reads.Asked,
-  type-of-reads.Learnt,
-  put-node-reads.Asked,
-  put-node-reads.Learnt,
-  link-block-below t,
-  link-block.Post,
-) (link-block-at t) link-block.Post
-link-block-add-nw t c = ?
+link-block-sub-below : (t : ℕ) → link-block-lts.Need-sub-below (calls t) (link-block-at t) link-block.Post
+link-block-sub-below t c = omega (arith, deeper _ _ _ (c .before .before .before .before .args .table .now) (c .before .before .before .before .pre .1) _ (c .before .type-of .ensures) (c .if1 .left))
 
--- src/lib.rt:289:9
-link-block-link-block-requires : (t : ℕ) → link-block-lts.Need-link-block-requires (
-  type-of-reads.Asked,
-  type-of-reads.Learnt,
-  put-node-reads.Asked,
-  put-node-reads.Learnt,
-  link-block-below t,
-  link-block.Post,
-) (link-block-at t) link-block.Post
-link-block-link-block-requires t c κs = ?
+link-block-add-nw : (t : ℕ) → link-block-lts.Need-add-nw (calls t) (link-block-at t) link-block.Post
+link-block-add-nw t c = omega (arith, type-asks _ _ _ (c .before .before .before .before .args .table .now) (c .before .before .before .before .pre .1))
 
--- src/lib.rt:290:9
-link-block-link-block-requires-2 : (t : ℕ) → link-block-lts.Need-link-block-requires-2 (
-  type-of-reads.Asked,
-  type-of-reads.Learnt,
-  put-node-reads.Asked,
-  put-node-reads.Learnt,
-  link-block-below t,
-  link-block.Post,
-) (link-block-at t) link-block.Post
-link-block-link-block-requires-2 t c κs = ?
+link-block-link-block-requires : (t : ℕ) → link-block-lts.Need-link-block-requires (calls t) (link-block-at t) link-block.Post
+link-block-link-block-requires t c κs = (omega (arith, c .before .before .before .before .before .pre .0, deeper _ _ _ (c .before .before .before .before .before .args .table .now) (c .before .before .before .before .before .pre .1) _ (c .before .before .type-of .ensures) (c .before .if1 .left)), ready-nw _ _ _ (c .before .before .before .before .before .args .table .now) (c .before .before .before .before .before .pre .1) _ (c .before .before .type-of .ensures) (c .before .if1 .left))
 
--- src/lib.rt:291:9
-link-block-link-block-requires-3 : (t : ℕ) → link-block-lts.Need-link-block-requires-3 (
-  type-of-reads.Asked,
-  type-of-reads.Learnt,
-  put-node-reads.Asked,
-  put-node-reads.Learnt,
-  link-block-below t,
-  link-block.Post,
-) (link-block-at t) link-block.Post
-link-block-link-block-requires-3 t c κs = ?
+link-block-link-block-requires-2 : (t : ℕ) → link-block-lts.Need-link-block-requires-2 (calls t) (link-block-at t) link-block.Post
+link-block-link-block-requires-2 t c κs = (omega (arith, c .before .before .before .before .before .before .before .before .before .pre .0, deeper _ _ _ (c .before .before .before .before .before .before .before .before .before .args .table .now) (c .before .before .before .before .before .before .before .before .before .pre .1) _ (c .before .before .before .before .before .before .type-of .ensures) (c .before .before .before .before .before .if1 .left)), ready-ne _ _ _ (c .before .before .before .before .before .before .before .before .before .args .table .now) (c .before .before .before .before .before .before .before .before .before .pre .1) _ (c .before .before .before .before .before .before .type-of .ensures) (c .before .before .before .before .before .if1 .left) _ _ (c .before .before .before .link-block .ensures))
 
--- src/lib.rt:292:9
-link-block-link-block-requires-4 : (t : ℕ) → link-block-lts.Need-link-block-requires-4 (
-  type-of-reads.Asked,
-  type-of-reads.Learnt,
-  put-node-reads.Asked,
-  put-node-reads.Learnt,
-  link-block-below t,
-  link-block.Post,
-) (link-block-at t) link-block.Post
-link-block-link-block-requires-4 t c κs = ?
+link-block-link-block-requires-3 : (t : ℕ) → link-block-lts.Need-link-block-requires-3 (calls t) (link-block-at t) link-block.Post
+link-block-link-block-requires-3 t c κs = (omega (arith, c .before .before .before .before .before .before .before .before .before .before .before .before .before .pre .0, deeper _ _ _ (c .before .before .before .before .before .before .before .before .before .before .before .before .before .args .table .now) (c .before .before .before .before .before .before .before .before .before .before .before .before .before .pre .1) _ (c .before .before .before .before .before .before .before .before .before .before .type-of .ensures) (c .before .before .before .before .before .before .before .before .before .if1 .left)), ready-sw _ _ _ (c .before .before .before .before .before .before .before .before .before .before .before .before .before .args .table .now) (c .before .before .before .before .before .before .before .before .before .before .before .before .before .pre .1) _ (c .before .before .before .before .before .before .before .before .before .before .type-of .ensures) (c .before .before .before .before .before .before .before .before .before .if1 .left) _ _ (c .before .before .before .before .before .before .before .link-block .ensures) _ _ (c .before .before .before .link-block2 .ensures))
 
--- src/lib.rt:293:48
-link-block-cast-put-node-2 : (t : ℕ) → link-block-lts.Need-cast-put-node-2 (
-  type-of-reads.Asked,
-  type-of-reads.Learnt,
-  put-node-reads.Asked,
-  put-node-reads.Learnt,
-  link-block-below t,
-  link-block.Post,
-) (link-block-at t) link-block.Post
-link-block-cast-put-node-2 t c = ?
+link-block-link-block-requires-4 : (t : ℕ) → link-block-lts.Need-link-block-requires-4 (calls t) (link-block-at t) link-block.Post
+link-block-link-block-requires-4 t c κs = (omega (arith, c .before .before .before .before .before .before .before .before .before .before .before .before .before .before .before .before .before .pre .0, deeper _ _ _ (c .before .before .before .before .before .before .before .before .before .before .before .before .before .before .before .before .before .args .table .now) (c .before .before .before .before .before .before .before .before .before .before .before .before .before .before .before .before .before .pre .1) _ (c .before .before .before .before .before .before .before .before .before .before .before .before .before .before .type-of .ensures) (c .before .before .before .before .before .before .before .before .before .before .before .before .before .if1 .left)), ready-se _ _ _ (c .before .before .before .before .before .before .before .before .before .before .before .before .before .before .before .before .before .args .table .now) (c .before .before .before .before .before .before .before .before .before .before .before .before .before .before .before .before .before .pre .1) _ (c .before .before .before .before .before .before .before .before .before .before .before .before .before .before .type-of .ensures) (c .before .before .before .before .before .before .before .before .before .before .before .before .before .if1 .left) _ _ (c .before .before .before .before .before .before .before .before .before .before .before .link-block .ensures) _ _ (c .before .before .before .before .before .before .before .link-block2 .ensures) _ _ (c .before .before .before .link-block3 .ensures))
 
--- src/lib.rt:293:5
-link-block-put-node-requires-2 : (t : ℕ) → link-block-lts.Need-put-node-requires-2 (
-  type-of-reads.Asked,
-  type-of-reads.Learnt,
-  put-node-reads.Asked,
-  put-node-reads.Learnt,
-  link-block-below t,
-  link-block.Post,
-) (link-block-at t) link-block.Post
-link-block-put-node-requires-2 t c κs = ?
+link-block-cast-put-node-2 : (t : ℕ) → link-block-lts.Need-cast-put-node-2 (calls t) (link-block-at t) link-block.Post
+link-block-cast-put-node-2 t c = search needs
 
--- src/lib.rt:277:1
-link-block-same-length-2 : (t : ℕ) → link-block-lts.Need-same-length-2 (
-  type-of-reads.Asked,
-  type-of-reads.Learnt,
-  put-node-reads.Asked,
-  put-node-reads.Learnt,
-  link-block-below t,
-  link-block.Post,
-) (link-block-at t) link-block.Post
-link-block-same-length-2 t c = ?
+link-block-put-node-requires-2 : (t : ℕ) → link-block-lts.Need-put-node-requires-2 (calls t) (link-block-at t) link-block.Post
+link-block-put-node-requires-2 t c κs = fork-room _ _ _ (c .before .before .before .before .before .before .before .before .before .before .before .before .before .before .before .before .before .before .before .before .before .args .table .now) (c .before .before .before .before .before .before .before .before .before .before .before .before .before .before .before .before .before .before .before .before .before .pre .1) _ (c .before .before .before .before .before .before .before .before .before .before .before .before .before .before .before .before .before .before .type-of .ensures) (c .before .before .before .before .before .before .before .before .before .before .before .before .before .before .before .before .before .if1 .left) _ _ (c .before .before .before .before .before .before .before .before .before .before .before .before .before .before .before .link-block .ensures) _ _ (c .before .before .before .before .before .before .before .before .before .before .before .link-block2 .ensures) _ _ (c .before .before .before .before .before .before .before .link-block3 .ensures) _ _ (c .before .before .before .link-block4 .ensures)
 
--- src/lib.rt:277:1
-link-block-returns-2 : (t : ℕ) → link-block-lts.Need-returns-2 (
-  type-of-reads.Asked,
-  type-of-reads.Learnt,
-  put-node-reads.Asked,
-  put-node-reads.Learnt,
-  link-block-below t,
-  link-block.Post,
-) (link-block-at t) link-block.Post
-link-block-returns-2 t c = ?
+link-block-same-length-2 : (t : ℕ) → link-block-lts.Need-same-length-2 (calls t) (link-block-at t) link-block.Post
+link-block-same-length-2 t c = linked-length (links-fork _ _ _ (c .before .before .before .before .before .before .before .before .before .before .before .before .before .before .before .before .before .before .before .before .before .before .before .before .args .table .now) (c .before .before .before .before .before .before .before .before .before .before .before .before .before .before .before .before .before .before .before .before .before .before .before .before .pre .1) _ (c .before .before .before .before .before .before .before .before .before .before .before .before .before .before .before .before .before .before .before .before .before .type-of .ensures) (c .before .before .before .before .before .before .before .before .before .before .before .before .before .before .before .before .before .before .before .before .if1 .left) _ _ (c .before .before .before .before .before .before .before .before .before .before .before .before .before .before .before .before .before .before .link-block .ensures) _ _ (c .before .before .before .before .before .before .before .before .before .before .before .before .before .before .link-block2 .ensures) _ _ (c .before .before .before .before .before .before .before .before .before .before .link-block3 .ensures) _ _ (c .before .before .before .before .before .before .link-block4 .ensures) _ _ (c .before .before .put-node2 .ensures))
+
+link-block-returns-2 : (t : ℕ) → link-block-lts.Need-returns-2 (calls t) (link-block-at t) link-block.Post
+link-block-returns-2 t c = links-fork _ _ _ (c .before .before .before .before .before .before .before .before .before .before .before .before .before .before .before .before .before .before .before .before .before .before .before .before .args .table .now) (c .before .before .before .before .before .before .before .before .before .before .before .before .before .before .before .before .before .before .before .before .before .before .before .before .pre .1) _ (c .before .before .before .before .before .before .before .before .before .before .before .before .before .before .before .before .before .before .before .before .before .type-of .ensures) (c .before .before .before .before .before .before .before .before .before .before .before .before .before .before .before .before .before .before .before .before .if1 .left) _ _ (c .before .before .before .before .before .before .before .before .before .before .before .before .before .before .before .before .before .before .link-block .ensures) _ _ (c .before .before .before .before .before .before .before .before .before .before .before .before .before .before .link-block2 .ensures) _ _ (c .before .before .before .before .before .before .before .before .before .before .link-block3 .ensures) _ _ (c .before .before .before .before .before .before .link-block4 .ensures) _ _ (c .before .before .put-node2 .ensures)
 
 pub +link-block-spec : {M : Type 1} → statement M
-+link-block-spec = close μ-link-block λ t. link-block-lts.spec (
-  type-of-reads.Asked,
-  type-of-reads.Learnt,
-  put-node-reads.Asked,
-  put-node-reads.Learnt,
-  link-block-below t,
-  link-block.Post,
-)
++link-block-spec = close μ-link-block λ t. link-block-lts.spec (calls t)
     (link-block-at t)
     link-block.Post
     (link-block-type-of-requires t)
