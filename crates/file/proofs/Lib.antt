@@ -5,3 +5,5 @@ pub mod ReadLaws
 pub mod SurveyLaws
 pub mod StoreLaws
 pub mod LinkLaws
+pub mod OpenLaws
+pub mod ReadCallLaws

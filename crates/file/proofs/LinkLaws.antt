@@ -47,8 +47,8 @@ fork-linked a b c d p f nw ne sw se r l l₁ l₂ l₃ l₄ after enw ha hb hc h
     let all : List ℕ = preorder p nw a ++ (preorder p ne b ++ (preorder p sw c ++ preorder p se d)) in
     let hs : List ℕ = f ∷ nw ∷ ne ∷ sw ∷ se ∷ forkType ∷ [] in
     let four = sets-four l l₁ l₂ l₃ l₄ (preorder p nw a) (preorder p ne b) (preorder p sw c) (preorder p se d) (6 * nw) (6 * ne) (6 * sw) (6 * se)
-      (ha .words) (hb .words) (hc .words) (hd .words) (omega (arith, ha .next, preorder-length p nw a)) (omega (arith, hb .next, preorder-length p ne b))
-      (omega (arith, hc .next, preorder-length p sw c)) in
+    (ha .words) (hb .words) (hc .words) (hd .words) (omega (arith, ha .next, preorder-length p nw a)) (omega (arith, hb .next, preorder-length p ne b))
+    (omega (arith, hc .next, preorder-length p sw c)) in
     record {
       next = omega (arith, ha .next, hb .next, hc .next, hd .next);
       words = e ∙ ap (λ (x : List ℕ). sets x (6 * p) hs) four ∙ sets-before l (6 * p) (6 * nw) hs all (omega arith) ∙ rw (enw, ene, esw, ese);

@@ -34,3 +34,9 @@ module _ (s : List ℕ) where
   spelt-parts (x ∷ xs) ys at i e h =
       let r = spelt-parts xs ys (at + 3) i (omega arith) (h .1) in
       ((h .0, r .0), r .1)
+
+  -- they stand within the bytes
+  pub spelt-fits : (ks : List ℕ) (at : ℕ) → at ≤ length s → Spelt s at ks → at + 3 * length ks ≤ length s
+  unfolding Spelt
+  spelt-fits [] at le h = omega arith
+  spelt-fits (k ∷ ks) at le h = omega (arith, spelt-fits ks (at + 3) (h .0 .fits) (h .1))

@@ -222,10 +222,14 @@ fn close(file: &[u8], level: u32, at: u32) -> Contents
     let count = (at - 5) / 3;
     let named = header_count(file);
     if named != count {
-        return Contents::Faulty { outcome: Outcome::BadCount { place: 3 } };
+        return Contents::Faulty {
+            outcome: Outcome::BadCount { place: 3 },
+        };
     }
     if (at as usize) < file.len() {
-        return Contents::Faulty { outcome: Outcome::BadCount { place: at } };
+        return Contents::Faulty {
+            outcome: Outcome::BadCount { place: at },
+        };
     }
     Contents::Sheet { level, count }
 }
@@ -303,7 +307,9 @@ pub fn read(file: &[u8], table: &mut [u32]) -> Outcome
                 return Outcome::NoRoom { needed: words };
             }
             link_block(file, level, table, 0, quad::NONE as u32);
-            Outcome::Answered { value: 8 * count + level }
+            Outcome::Answered {
+                value: 8 * count + level,
+            }
         }
     }
 }
