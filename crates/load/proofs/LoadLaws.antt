@@ -1,0 +1,40 @@
+-- The programs' read is sheet_read's but for a sheet that is too large, and has no second outcome.
+use mathlib.Core.Bool.{Bool, true, false, cond}
+use mathlib.Core.List.{List}
+use mathlib.Core.Path.{_≡_, refl, sym, _∙_}
+use Prim.Native.Nat.{ℕ, _≤_, _<_}
+use lib.Dec.{leb, eqb}
+use lib.ListN.{length, getD}
+use borrow.Author.Tests.{le-leb, lt-leb, eq-eqb}
+use Rattle.answer.specs.declared.Outcome.{Outcome}
+use Rattle.answer.specs.declared.Outcome.the-variants.{TooLarge}
+use Rattle.quad.specs.Numbers.{topLevel}
+use Rattle.file.specs.File.{mark, sheetMark}
+use Rattle.file.specs.Calls.{Reads}
+use Rattle.load.specs.Load.{tooLarge, loadOf, loadedTable, printedLevel, Loads}
+
+-- the last test, with the level as the call gave it
+pub last-test : (s : List ℕ) (level : ℕ) → 2 < length s → getD s 0 0 ≡ mark → getD s 1 0 ≡ sheetMark → level ≡ getD s 2 0 → printedLevel < level
+    → leb level topLevel ≡ tooLarge s
+unfolding tooLarge
+last-test s level h m k e p =
+    rw (tooLarge, lt-leb (length s) 2 h, eq-eqb (getD s 0 0) mark m, eq-eqb (getD s 1 0) sheetMark k, ← e, lt-leb level printedLevel p)
+
+pub too-small : (s : List ℕ) (level : ℕ) → 2 < length s → getD s 0 0 ≡ mark → getD s 1 0 ≡ sheetMark → level ≡ getD s 2 0 → level ≤ printedLevel
+    → false ≡ tooLarge s
+unfolding tooLarge
+too-small s level h m k e p =
+    rw (tooLarge, lt-leb (length s) 2 h, eq-eqb (getD s 0 0) mark m, eq-eqb (getD s 1 0) sheetMark k, ← e, le-leb level printedLevel p)
+
+module _ (s before : List ℕ) (u : Bool) (e : u ≡ tooLarge s) where
+  pub load-large : u ≡ true → Loads s before (TooLarge 2) before
+  unfolding loadOf loadedTable
+  load-large h = record { answer = rw (loadOf, ← e, h); table = rw (loadedTable, ← e, h) }
+
+  pub load-read : (r : Outcome) (after : List ℕ) → u ≡ false → Reads s before r after → Loads s before r after
+  unfolding loadOf loadedTable
+  load-read r after h reads = record { answer = rw (loadOf, ← e, h) (reads .answer); table = rw (loadedTable, ← e, h) (reads .table) }
+
+-- no second outcome
+pub one-outcome : (s before : List ℕ) (r q : Outcome) (after final : List ℕ) → Loads s before r after → Loads s before q final → (r ≡ q) × (after ≡ final)
+one-outcome s before r q after final a b = (a .answer ∙ sym (b .answer), a .table ∙ sym (b .table))
