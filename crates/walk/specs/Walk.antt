@@ -1,6 +1,7 @@
 -- One step of the row walk (document 01, 'The row walk'; document 003), for any place and any words.
 use mathlib.Core.Bool.{Bool, not, cond, _&&_, _||_}
 use mathlib.Core.List.{List}
+use mathlib.Core.Path.{_≡_}
 use Prim.Native.Nat.{ℕ, _+_, _-_, _*_, _/_, _%_, _^_}
 use lib.Dec.{eqb, ltb, leb}
 use Rattle.answer.specs.declared.Outcome.{Outcome}
@@ -84,3 +85,7 @@ stepOf T p =
     (record { place = p; answer = Done })
     (cond (spans p) (insideOf T p) (outsideOf T p))))
     (refuse p (sizesOf (p .n) T))
+
+-- the step's promise: r is what the step from p gives
+abbrev pub Steps : List ℕ → Place → Stepped → Type 0
+Steps T p r = r ≡ stepOf T p

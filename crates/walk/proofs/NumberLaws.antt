@@ -1,0 +1,52 @@
+-- Sides and columns: a side is a power of two, at most the sheet's, so that sums of a place's numbers fit.
+use mathlib.Core.Path.{_≡_, refl, sym, _∙_}
+use mathlib.Core.Bool.{Bool, true, false}
+use Prim.Native.Nat.{ℕ, suc, _+_, _-_, _*_, _/_, _%_, _^_, _≤_, _<_}
+use native.Mathlib.Nat.{mul-le-mul-right}
+use native.Mathlib.Omega.{arith}
+use lib.Dec.{ltb, eqb}
+use lib.Pow.{pow-pos, pow-mono}
+use borrow.Author.Tests.{lt-ltb, le-ltb, ltb-true, ltb-false, eqb-true}
+use mir.Syntax.{w32}
+use mir.Val.{Fits}
+use Rattle.base.proofs.AllLaws.{all-at}
+use Rattle.quad.specs.Numbers.{topLevel}
+
+-- a shift that loses nothing: one computed test over all levels
+pub shifted : (level : ℕ) → level ≤ topLevel → (1 * 2 ^ level) % 2 ^ 32 ≡ 2 ^ level
+shifted level h = eqb-true _ _ (all-at (λ (k : ℕ). eqb ((1 * 2 ^ k) % 2 ^ 32) (2 ^ k)) (suc topLevel) refl level (omega arith))
+
+pub side-pos : (level side : ℕ) → side ≡ 2 ^ level → 0 < side
+side-pos level side e = omega (arith, pow-pos level)
+
+pub side-le : (n level whole own : ℕ) → level ≤ n → whole ≡ 2 ^ n → own ≡ 2 ^ level → own ≤ whole
+side-le n level whole own h e f = omega (arith, pow-mono {i = level} {j = n} h)
+
+-- two tests that say the same
+pub same-test : (a b c d : ℕ) → (a < b → c < d) → (b ≤ a → d ≤ c) → ltb a b ≡ ltb c d
+same-test a b c d up down = go (ltb a b) refl
+  where
+    go : (t : Bool) → ltb a b ≡ t → t ≡ ltb c d
+    go true e = sym (lt-ltb c d (up (ltb-true a b e)))
+    go false e = sym (le-ltb c d (down (ltb-false a b e)))
+
+-- sums that fit
+odd-le : (x half : ℕ) → x / half % 2 * half ≤ 1 * half
+odd-le x half = mul-le-mul-right half (omega arith)
+
+module _ (n : ℕ) (low : n ≤ topLevel) where
+  pub whole-small : 2 ^ n ≤ 2 ^ topLevel
+  whole-small = pow-mono {i = n} {j = topLevel} low
+
+  pub row-fits : (y : ℕ) → y < 2 ^ n → Fits w32 (y + 1)
+  row-fits y h = omega (arith, whole-small)
+
+  pub end-fits : (left level side : ℕ) → left + 2 ^ level ≤ 2 ^ n → side ≡ 2 ^ level → Fits w32 (left + side)
+  end-fits left level side h e = omega (arith, whole-small)
+
+  module _ (level half x : ℕ) (deep : level ≤ n) (e : half ≡ 2 ^ (level - 1)) where
+    pub half-fits : Fits w32 (x / half % 2 * half)
+    half-fits = omega (arith, whole-small, pow-mono {i = level - 1} {j = n} (omega arith), odd-le x half)
+
+    pub son-fits : (left : ℕ) → left + 2 ^ level ≤ 2 ^ n → Fits w32 (left + x / half % 2 * half)
+    son-fits left h = omega (arith, whole-small, pow-mono {i = level - 1} {j = n} (omega arith), odd-le x half)
