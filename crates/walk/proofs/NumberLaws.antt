@@ -1,11 +1,11 @@
 -- Sides and columns: a side is a power of two, at most the sheet's, so that sums of a place's numbers fit.
-use mathlib.Core.Path.{_≡_, refl, sym, _∙_}
+use mathlib.Core.Path.{_≡_, refl, ap, sym, _∙_}
 use mathlib.Core.Bool.{Bool, true, false}
 use Prim.Native.Nat.{ℕ, suc, _+_, _-_, _*_, _/_, _%_, _^_, _≤_, _<_}
-use native.Mathlib.Nat.{mul-le-mul-right}
+use native.Mathlib.Nat.{pow-succ', mul-assoc, mul-comm, add-mul, mul-mod-left, mul-le-mul-right}
 use native.Mathlib.Omega.{arith}
 use lib.Dec.{ltb, eqb}
-use lib.Pow.{pow-pos, pow-mono}
+use lib.Pow.{pow-pos, pow-mono, low}
 use borrow.Author.Tests.{lt-ltb, le-ltb, ltb-true, ltb-false, eqb-true}
 use mir.Syntax.{w32}
 use mir.Val.{Fits}
@@ -38,9 +38,6 @@ module _ (n : ℕ) (low : n ≤ topLevel) where
   pub whole-small : 2 ^ n ≤ 2 ^ topLevel
   whole-small = pow-mono {i = n} {j = topLevel} low
 
-  pub row-fits : (y : ℕ) → y < 2 ^ n → Fits w32 (y + 1)
-  row-fits y h = omega (arith, whole-small)
-
   pub end-fits : (left level side : ℕ) → left + 2 ^ level ≤ 2 ^ n → side ≡ 2 ^ level → Fits w32 (left + side)
   end-fits left level side h e = omega (arith, whole-small)
 
@@ -50,3 +47,19 @@ module _ (n : ℕ) (low : n ≤ topLevel) where
 
     pub son-fits : (left : ℕ) → left + 2 ^ level ≤ 2 ^ n → Fits w32 (left + x / half % 2 * half)
     son-fits left h = omega (arith, whole-small, pow-mono {i = level - 1} {j = n} (omega arith), odd-le x half)
+
+-- columns: the son i of a block at column X is at column 2 X + i
+pub column-son : (X i l : ℕ) → (2 * X + i) * 2 ^ l ≡ X * 2 ^ suc l + i * 2 ^ l
+column-son X i l =
+    let double : 2 * X * 2 ^ l ≡ X * 2 ^ suc l = ap (λ (k : ℕ). k * 2 ^ l) (mul-comm 2 X) ∙ mul-assoc X 2 (2 ^ l) ∙ ap (λ (k : ℕ). X * k) (sym (pow-succ' 2 l)) in
+    add-mul (2 * X) i (2 ^ l) ∙ ap (λ (k : ℕ). k + i * 2 ^ l) double
+
+pub column-small : (i l : ℕ) → i < 2 → i * 2 ^ l ≤ 2 ^ l
+column-small i l h = let le : i ≤ 1 = omega arith in omega (arith, mul-le-mul-right (2 ^ l) le)
+
+-- left is lowered to a multiple of the father's side
+pub lowered : (X k r : ℕ) → r < 2 ^ k → X * 2 ^ k + r - (X * 2 ^ k + r) % 2 ^ k ≡ X * 2 ^ k
+lowered X k r h = rw (low X k h) (omega arith)
+
+pub multiple : (X k : ℕ) → X * 2 ^ k % 2 ^ k ≡ 0
+multiple X k = mul-mod-left X (2 ^ k)

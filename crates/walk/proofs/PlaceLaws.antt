@@ -1,14 +1,12 @@
 -- A place that passed the tests: each return of `bad_place`, and what its six tests say where they are passed.
 use mathlib.Core.Path.{_≡_, refl, sym, _∙_}
-use mathlib.Core.Bool.{Bool, true, false, not, cond, _&&_, _||_, true≢false, false≢true}
+use mathlib.Core.Bool.{Bool, true, false, not, _||_, true≢false}
 use mathlib.Core.List.{List}
-use Prim.Native.Nat.{ℕ, _+_, _-_, _*_, _%_, _^_, _≤_, _<_}
+use Prim.Native.Nat.{ℕ, _+_, _-_, _%_, _^_, _≤_, _<_}
 use native.Mathlib.Omega.{arith}
 use lib.Dec.{ltb, leb, eqb}
-use lib.ListN.{length}
-use borrow.Author.Tests.{lt-ltb, le-ltb, le-leb, lt-leb, eq-eqb, ne-eqb, leb-true, ltb-false, leb-false}
-use Rattle.base.proofs.BoolLaws.{by-bool, and-right}
-use Rattle.quad.specs.Numbers.{topLevel, maxWords}
+use borrow.Author.Tests.{lt-ltb, le-ltb, le-leb, lt-leb, eq-eqb, ne-eqb, ltb-false, leb-false}
+use Rattle.quad.specs.Numbers.{topLevel}
 use Rattle.table.specs.Table.{nodes}
 use Rattle.table.specs.Rules.{Sized}
 use Rattle.walk.specs.declared.Place.{Place}

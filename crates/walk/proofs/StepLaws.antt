@@ -1,18 +1,17 @@
 -- Each return of a step's functions, test by test: the premises are what the code knows there.
-use mathlib.Core.Path.{_≡_, refl, sym, _∙_}
-use mathlib.Core.Bool.{Bool, true, false, not, cond, _&&_, _||_}
+use mathlib.Core.Path.{_≡_, sym, _∙_}
+use mathlib.Core.Bool.{Bool, true, false, not}
 use mathlib.Core.List.{List}
 use Prim.Native.Nat.{ℕ, _+_, _-_, _*_, _/_, _%_, _^_, _≤_, _<_}
 use native.Mathlib.Omega.{arith}
-use lib.Dec.{ltb, leb, eqb}
-use borrow.Author.Tests.{lt-ltb, le-ltb, le-leb, lt-leb, eq-eqb, ne-eqb, ltb-true}
+use lib.Dec.{ltb, leb}
+use borrow.Author.Tests.{le-leb, lt-leb, eq-eqb, ne-eqb, ltb-true}
 use Rattle.base.proofs.BoolLaws.{and-right, off}
 use Rattle.answer.specs.declared.Outcome.{Outcome}
 use Rattle.answer.specs.declared.Outcome.the-variants.{BadPlace}
 use Rattle.answer.specs.Numbers.{codeOf, valueOf, answers}
 use Rattle.quad.specs.Numbers.{topColour, forkType}
-use Rattle.quad.specs.Block.{quadrantOf}
-use Rattle.table.specs.Table.{nodes, father, son, type, word}
+use Rattle.table.specs.Table.{nodes, type, word}
 use Rattle.table.specs.Rules.{sizesOf, Sized}
 use Rattle.table.proofs.CheckLaws.{sizes-good}
 use Rattle.walk.specs.declared.Place.{Place}

@@ -1,2 +1,4 @@
 pub mod Walk
 pub mod Good
+pub mod Whole
+pub mod Rows

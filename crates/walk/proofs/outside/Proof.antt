@@ -1,13 +1,14 @@
 -- `walk::outside`: the row's end, or the father. Assumes nothing.
 use native.Mathlib.Nat.{mod-le}
-use Rattle.walk.proofs.NumberLaws.{side-pos, row-fits}
+use native.Mathlib.Omega.{arith}
+use Rattle.walk.proofs.NumberLaws.{side-pos, whole-small}
 use Rattle.walk.proofs.StepLaws.{outside-row, outside-refused, outside-moved}
 use borrow.Author.Needs.{needs}
 use Rattle.walk.proofs.outside.Statement.{statement}
 use Rattle.walk.proofs.outside.Tie as tie
 
 add-t7 : tie.Need-add-t7
-add-t7 c = search (row-fits, needs)
+add-t7 c = omega (arith, whole-small _ (c .before .before .before .before .pre .0 .sized .level))
 
 returns : tie.Need-returns
 returns c = search (outside-row, needs)
