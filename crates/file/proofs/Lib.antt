@@ -3,7 +3,6 @@ pub mod SpeltLaws
 pub mod BlockLaws
 pub mod ReadLaws
 pub mod SurveyLaws
-pub mod StoreLaws
 pub mod LinkLaws
 pub mod OpenLaws
 pub mod ReadCallLaws

@@ -4,55 +4,32 @@ use mathlib.Core.List.{List, [], _∷_, _++_}
 use mathlib.Core.Path.{_≡_, refl, ap, sym, _∙_}
 use Prim.Native.Nat.{ℕ, zero, suc, _+_, _-_, _*_, _≤_, _<_}
 use native.Mathlib.Omega.{arith}
-use lib.ListN.{length, getD, length-append}
-use lib.Seq.{sets, length-sets}
+use lib.ListN.{length, getD}
+use lib.Seq.{sets}
 use Rattle.quad.specs.Numbers.{topColour, forkType, none, maxWords}
 use Rattle.quad.specs.Tree.{Tree, leaf, fork, colour, Within, Reduced, Coloured, sizeOf, typesOf}
 use Rattle.quad.proofs.TreeLaws.{size-pos, types-length}
-use Rattle.table.specs.Preorder.{preorder}
+use Rattle.table.proofs.PreorderLaws.{written-leaf, written-fork, written-length}
 use Rattle.file.specs.File.{Got, got, bad, blockAt}
 use Rattle.file.specs.Linking.{placeOf, treeIn, Ready, Linked}
 use Rattle.file.proofs.SpeltLaws.{Stands, Spelt, spelt-parts}
 use Rattle.file.proofs.BlockLaws.{Sound, block-sound, block-read}
-use Rattle.file.proofs.StoreLaws.{sets-before, sets-four}
-
-pub preorder-length : (f p : ℕ) (t : Tree) → length (preorder f p t) ≡ 6 * sizeOf t
-unfolding preorder sizeOf
-preorder-length f p (leaf c) = refl
-preorder-length f p (fork a b c d) =
-    simp length-append
-    (omega (
-      arith,
-      preorder-length p (p + 1) a,
-      preorder-length p (p + 1 + sizeOf a) b,
-      preorder-length p (p + 1 + sizeOf a + sizeOf b) c,
-      preorder-length p (p + 1 + sizeOf a + sizeOf b + sizeOf c) d,
-    ))
 
 -- a leaf's words
 pub leaf-linked : (k p f : ℕ) (before after : List ℕ) → after ≡ sets before (6 * p) (f ∷ none ∷ none ∷ none ∷ none ∷ k ∷ [])
     → Linked (leaf k) f p before after (p + 1)
-unfolding preorder sizeOf
-leaf-linked k p f before after e = record { next = refl; words = e }
+unfolding sizeOf
+leaf-linked k p f before after e = record { next = refl; words = written-leaf k p f before after e }
 
 -- four sons' words, then the fork's
 pub fork-linked : (a b c d : Tree) (p f nw ne sw se r : ℕ) (l l₁ l₂ l₃ l₄ after : List ℕ) → nw ≡ p + 1
     → Linked a p nw l l₁ ne → Linked b p ne l₁ l₂ sw → Linked c p sw l₂ l₃ se → Linked d p se l₃ l₄ r
     → after ≡ sets l₄ (6 * p) (f ∷ nw ∷ ne ∷ sw ∷ se ∷ forkType ∷ []) → Linked (fork a b c d) f p l after r
-unfolding preorder sizeOf
-fork-linked a b c d p f nw ne sw se r l l₁ l₂ l₃ l₄ after enw ha hb hc hd e =
-    let ene : ne ≡ p + 1 + sizeOf a = omega (arith, ha .next) in
-    let esw : sw ≡ p + 1 + sizeOf a + sizeOf b = omega (arith, ha .next, hb .next) in
-    let ese : se ≡ p + 1 + sizeOf a + sizeOf b + sizeOf c = omega (arith, ha .next, hb .next, hc .next) in
-    let all : List ℕ = preorder p nw a ++ (preorder p ne b ++ (preorder p sw c ++ preorder p se d)) in
-    let hs : List ℕ = f ∷ nw ∷ ne ∷ sw ∷ se ∷ forkType ∷ [] in
-    let four = sets-four l l₁ l₂ l₃ l₄ (preorder p nw a) (preorder p ne b) (preorder p sw c) (preorder p se d) (6 * nw) (6 * ne) (6 * sw) (6 * se)
-    (ha .words) (hb .words) (hc .words) (hd .words) (omega (arith, ha .next, preorder-length p nw a)) (omega (arith, hb .next, preorder-length p ne b))
-    (omega (arith, hc .next, preorder-length p sw c)) in
-    record {
-      next = omega (arith, ha .next, hb .next, hc .next, hd .next);
-      words = e ∙ ap (λ (x : List ℕ). sets x (6 * p) hs) four ∙ sets-before l (6 * p) (6 * nw) hs all (omega arith) ∙ rw (enw, ene, esw, ese);
-    }
+unfolding sizeOf
+fork-linked a b c d p f nw ne sw se r l l₁ l₂ l₃ l₄ after enw ha hb hc hd e = record {
+  next = omega (arith, ha .next, hb .next, hc .next, hd .next);
+  words = written-fork a b c d p f nw ne sw se l l₁ l₂ l₃ l₄ after enw (ha .next) (hb .next) (hc .next) (ha .words) (hb .words) (hc .words) (hd .words) e;
+}
 
 -- the root's type byte
 root-kind : (s : List ℕ) (at : ℕ) (t : Tree) → Spelt s at (typesOf t) → Stands s at (colour t)
@@ -116,7 +93,7 @@ colour-le (leaf k) h = omega arith
 colour-le (fork _ _ _ _) h = omega arith
 
 pub linked-length : {t : Tree} {f p r : ℕ} {before after : List ℕ} → Linked t f p before after r → length after ≡ length before
-linked-length {t} {f} {p} {before = before} h = ap length (h .words) ∙ length-sets before (6 * p) (preorder f p t)
+linked-length {t} {f} {p} {before = before} {after = after} h = written-length f p t before after (h .words)
 
 -- a node that is linked: what its type byte says of its tree
 module _ (s : List ℕ) (l p : ℕ) (w : List ℕ) (ready : Ready s l p (length w)) where

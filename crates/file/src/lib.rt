@@ -1,10 +1,8 @@
 // The sheet file, read and written.
 use answer::Outcome;
-ghost use mathlib.Core.List.{[], _∷_};
 ghost use mathlib.Core.Path.{_≡_};
 ghost use Prim.Native.Nat.{_+_, _*_, _<_, _≤_};
 ghost use lib.ListN.{length, getD};
-ghost use lib.Seq.{sets};
 ghost use Rattle.quad.specs.Numbers.{maxWords};
 ghost use Rattle.file.specs.File.{isType, blockAt, fourAt, openOf};
 ghost use Rattle.file.specs.Calls.{Reads};
@@ -259,20 +257,6 @@ fn type_of(file: &[u8], p: u32) -> usize
     wide(file[at + 2])
 }
 
-// The six words of node p.
-fn put_node(table: &mut [u32], p: u32, father: u32, nw: u32, ne: u32, sw: u32, se: u32, kind: u32)
-    requires { ⌜ 6 * p + 6 ≤ length (now table) ⌝ }
-    ensures { λ _. ⌜ now (table .exit) ≡ sets (now (table .entry)) (6 * p) (father ∷ nw ∷ ne ∷ sw ∷ se ∷ kind ∷ []) ⌝ }
-{
-    let i = 6 * (p as usize);
-    table[i] = father;
-    table[i + 1] = nw;
-    table[i + 2] = ne;
-    table[i + 3] = sw;
-    table[i + 4] = se;
-    table[i + 5] = kind;
-}
-
 // The second pass, for a block: its nodes from p on, in preorder, and the next node. A fork's words are written once its sons' numbers are known.
 fn link_block(file: &[u8], level: u32, table: &mut [u32], p: u32, father: u32) -> u32
     requires { ⌜ Ready (now file) level p (length (now table)) ⌝ }
@@ -281,7 +265,7 @@ fn link_block(file: &[u8], level: u32, table: &mut [u32], p: u32, father: u32) -
     let kind = type_of(file, p);
     let none = quad::NONE as u32;
     if kind != quad::FORK {
-        put_node(table, p, father, none, none, none, none, kind as u32);
+        table::put_node(table, p as usize, father, none, none, none, none, kind as u32);
         return p + 1;
     }
     let below = level - 1;
@@ -290,7 +274,7 @@ fn link_block(file: &[u8], level: u32, table: &mut [u32], p: u32, father: u32) -
     let sw = link_block(file, below, table, ne, p);
     let se = link_block(file, below, table, sw, p);
     let next = link_block(file, below, table, se, p);
-    put_node(table, p, father, nw, ne, sw, se, quad::FORK as u32);
+    table::put_node(table, p as usize, father, nw, ne, sw, se, quad::FORK as u32);
     next
 }
 
