@@ -6,3 +6,5 @@ pub mod SurveyLaws
 pub mod LinkLaws
 pub mod OpenLaws
 pub mod ReadCallLaws
+pub mod WriteLaws
+pub mod WriteCallLaws

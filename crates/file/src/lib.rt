@@ -1,13 +1,17 @@
 // The sheet file, read and written.
 use answer::Outcome;
+ghost use mathlib.Core.List.{[], _∷_};
 ghost use mathlib.Core.Path.{_≡_};
-ghost use Prim.Native.Nat.{_+_, _*_, _<_, _≤_};
+ghost use Prim.Native.Nat.{_+_, _*_, _/_, _%_, _<_, _≤_};
 ghost use lib.ListN.{length, getD};
+ghost use lib.Seq.{sets};
 ghost use Rattle.quad.specs.Numbers.{maxWords};
-ghost use Rattle.file.specs.File.{isType, blockAt, fourAt, openOf};
-ghost use Rattle.file.specs.Calls.{Reads};
+ghost use Rattle.table.specs.Nodes.{treeAt};
+ghost use Rattle.file.specs.File.{mark, sheetMark, nodeMark, isType, blockAt, fourAt, openOf};
+ghost use Rattle.file.specs.Calls.{Reads, Writes};
 ghost use Rattle.file.specs.Reading.{marksOf, recordOf, told, likeKinds, Reaches, FourReach, headerOf, countOf, closingOf, contentsOf};
 ghost use Rattle.file.specs.Linking.{placeOf, treeIn, Ready, Linked};
+ghost use Rattle.file.specs.Writing.{Writable, Wrote};
 
 // Every record stands after a two-byte mark: 51, and 53 before the header or 4E before a node's type.
 const MARK: u8 = 81;
@@ -265,7 +269,16 @@ fn link_block(file: &[u8], level: u32, table: &mut [u32], p: u32, father: u32) -
     let kind = type_of(file, p);
     let none = quad::NONE as u32;
     if kind != quad::FORK {
-        table::put_node(table, p as usize, father, none, none, none, none, kind as u32);
+        table::put_node(
+            table,
+            p as usize,
+            father,
+            none,
+            none,
+            none,
+            none,
+            kind as u32,
+        );
         return p + 1;
     }
     let below = level - 1;
@@ -296,4 +309,66 @@ pub fn read(file: &[u8], table: &mut [u32]) -> Outcome
             }
         }
     }
+}
+
+// Writes the header: the level, and the node count in two bytes, low byte first.
+fn put_header(file: &mut [u8], level: u32, count: u32)
+    requires { ⌜ (5 ≤ length (now file)) × (level < 256) × (count < 65536) ⌝ }
+    ensures { λ _. ⌜ now (file .exit) ≡ sets (now (file .entry)) 0 (mark ∷ sheetMark ∷ level ∷ count % 256 ∷ count / 256 ∷ []) ⌝ }
+{
+    file[0] = MARK;
+    file[1] = SHEET;
+    file[2] = level as u8;
+    file[3] = (count % 256) as u8;
+    file[4] = (count / 256) as u8;
+}
+
+// Writes a node record.
+fn put_record(file: &mut [u8], at: usize, kind: u8)
+    requires { ⌜ at + 3 ≤ length (now file) ⌝ }
+    ensures { λ _. ⌜ now (file .exit) ≡ sets (now (file .entry)) at (mark ∷ nodeMark ∷ kind ∷ []) ⌝ }
+{
+    file[at] = MARK;
+    file[at + 1] = NODE;
+    file[at + 2] = kind;
+}
+
+// Writes the block of node p, its sons' in the order NW, NE, SW, SE, and gives the place after it.
+fn write_block(table: &[u32], level: u32, p: usize, file: &mut [u8], at: usize) -> usize
+    requires { ⌜ Writable (now table) level p at (length (now file)) ⌝ }
+    ensures { λ r. ⌜ Wrote (treeAt (now (table .entry)) level p) at (now (file .entry)) (now (file .exit)) r ⌝ }
+{
+    let kind = table::word_at(table, p, 5);
+    put_record(file, at, kind as u8);
+    let first = at + 3;
+    if kind != quad::FORK {
+        return first;
+    }
+    let below = level - 1;
+    let nw = table::word_at(table, p, 1);
+    let ne = table::word_at(table, p, 2);
+    let sw = table::word_at(table, p, 3);
+    let se = table::word_at(table, p, 4);
+    let second = write_block(table, below, nw, file, first);
+    let third = write_block(table, below, ne, file, second);
+    let fourth = write_block(table, below, sw, file, third);
+    write_block(table, below, se, file, fourth)
+}
+
+// A table's file, whichever numbering the table has; bytes beyond it stay.
+pub fn write(n: u32, table: &[u32], file: &mut [u8]) -> Outcome
+    ensures { λ r. ⌜ Writes n (now (table .entry)) (now (file .entry)) r (now (file .exit)) ⌝ }
+{
+    let checked = table::check(n, table);
+    if !answer::answered(checked) {
+        return checked;
+    }
+    let count = answer::value(checked);
+    let bytes = 5 + 3 * count;
+    if file.len() < bytes as usize {
+        return Outcome::NoRoom { needed: bytes };
+    }
+    put_header(file, n, count);
+    write_block(table, n, 0, file, 5);
+    Outcome::Answered { value: bytes }
 }
