@@ -13,7 +13,7 @@ use Rattle.table.proofs.PreorderLaws.{written-leaf, written-fork, written-lengt
 use Rattle.file.specs.File.{Got, got, bad, blockAt}
 use Rattle.file.specs.Linking.{placeOf, treeIn, Ready, Linked}
 use Rattle.file.proofs.SpeltLaws.{Stands, Spelt, spelt-parts}
-use Rattle.file.proofs.BlockLaws.{Sound, block-sound, block-read}
+use Rattle.file.proofs.BlockLaws.{Spells, block-spells, block-read}
 
 -- a leaf's words
 pub leaf-linked : (k p f : ℕ) (before after : List ℕ) → after ≡ sets before (6 * p) (f ∷ none ∷ none ∷ none ∷ none ∷ k ∷ [])
@@ -58,7 +58,7 @@ pub record Forked (s : List ℕ) (l p : ℕ) (t : Tree) : Type 0 where
 
 module _ (s : List ℕ) where
   read-as : (l at i : ℕ) (t : Tree) → i ≡ at + 3 * sizeOf t → Spelt s at (typesOf t) → Within l t → Reduced t → Coloured t → blockAt s l at ≡ got i t
-  read-as l at i t e h w r c = rw e (block-read s l at t h w r c)
+  read-as l at i t e h w r c = rw e (block-read s l at t h (record { within = w; reduced = r; coloured = c }))
 
   forked-in : (l p : ℕ) (t : Tree) → Spelt s (placeOf p) (typesOf t) → Within l t → Reduced t → Coloured t → colour t ≡ forkType → Forked s l p t
   unfolding Spelt typesOf Within Reduced Coloured colour
@@ -97,11 +97,11 @@ linked-length {t} {f} {p} {before = before} {after = after} h = written-length f
 
 -- a node that is linked: what its type byte says of its tree
 module _ (s : List ℕ) (l p : ℕ) (w : List ℕ) (ready : Ready s l p (length w)) where
-  its-sound : Sound s l (placeOf p) (placeOf (p + sizeOf (ready .tree))) (ready .tree)
-  its-sound = block-sound s l (placeOf p) _ (ready .tree) (ready .is)
+  its-spells : Spells s l (placeOf p) (placeOf (p + sizeOf (ready .tree))) (ready .tree)
+  its-spells = block-spells s l (placeOf p) _ (ready .tree) (ready .is)
 
   its-root : Stands s (placeOf p) (colour (ready .tree))
-  its-root = root-kind s (placeOf p) (ready .tree) (its-sound .spelt)
+  its-root = root-kind s (placeOf p) (ready .tree) (its-spells .spelt)
 
   -- what reading its type byte asks
   pub type-asks : (placeOf p + 3 ≤ length s) × (p < maxWords)
@@ -115,7 +115,7 @@ module _ (s : List ℕ) (l p : ℕ) (w : List ℕ) (ready : Ready s l p (length 
     kind-is = sym (e ∙ its-root .kind)
 
     pub kind-le : k ≤ forkType
-    kind-le = rw kind-is at (colour-le (ready .tree) (its-sound .coloured))
+    kind-le = rw kind-is at (colour-le (ready .tree) (its-spells .sound .coloured))
 
     pub links-leaf : (f : ℕ) (after : List ℕ) → (k ≡ forkType → ⊥) → after ≡ sets w (6 * p) (f ∷ none ∷ none ∷ none ∷ none ∷ k ∷ [])
         → Linked (treeIn (blockAt s l (placeOf p))) f p w after (p + 1)
@@ -127,8 +127,8 @@ module _ (s : List ℕ) (l p : ℕ) (w : List ℕ) (ready : Ready s l p (length 
     module _ (fk : k ≡ forkType) where
       parts : Forked s l p (ready .tree)
       parts =
-          let h = its-sound in
-          forked-in s l p (ready .tree) (h .spelt) (h .within) (h .reduced) (h .coloured) (kind-is ∙ fk)
+          let h = its-spells .sound in
+          forked-in s l p (ready .tree) (its-spells .spelt) (h .within) (h .reduced) (h .coloured) (kind-is ∙ fk)
 
       pub deeper : 0 < l
       deeper = parts .deep

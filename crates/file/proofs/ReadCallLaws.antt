@@ -64,7 +64,7 @@ module _ (s old : List ℕ) (c : Contents) (e : c ≡ contentsOf (openOf s)) whe
 
     -- its numbers are small
     pub sheet-fits : (n ≤ topLevel) × (6 * count ≤ maxWords)
-    sheet-fits = (level, rw (its .size) at (size-fits n (its .tree) level (whole .sound .within)))
+    sheet-fits = (level, rw (its .size) at (size-fits n (its .tree) level (whole .spells .sound .within)))
 
     pub reads-full : length old < 6 * count → Reads s old (NoRoom (6 * count)) old
     unfolding readOf readTable
