@@ -8,3 +8,6 @@ pub mod OpenLaws
 pub mod ReadCallLaws
 pub mod WriteLaws
 pub mod WriteCallLaws
+pub mod OneFile
+pub mod RoundTrip
+pub mod FileCalls
