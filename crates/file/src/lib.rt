@@ -23,9 +23,9 @@ const NODE: u8 = 78;
 // What reading a block, or four blocks, gives.
 pub enum Block {
     // The place after it, and its root's type.
-    Read { next: u32, kind: usize },
+    Read(u32, usize),
     // The first fault.
-    Bad { outcome: Outcome },
+    Bad(Outcome),
 }
 
 // What reading a whole file gives, before the room for its table is looked at.
@@ -80,22 +80,18 @@ fn read_record(file: &[u8], at: u32) -> Block
 {
     let outcome = marks(file, at, NODE);
     if !answer::answered(outcome) {
-        return Block::Bad { outcome };
+        return Block::Bad(outcome);
     }
     let place = at + 2;
     let type_at = place as usize;
     if file.len() <= type_at {
-        return Block::Bad {
-            outcome: Outcome::Absent { place },
-        };
+        return Block::Bad(Outcome::Absent { place });
     }
     let kind = wide(file[type_at]);
     if !is_type(kind) {
-        return Block::Bad {
-            outcome: Outcome::BadByte { place },
-        };
+        return Block::Bad(Outcome::BadByte { place });
     }
-    Block::Read { next: at + 3, kind }
+    Block::Read(at + 3, kind)
 }
 
 // Whether four types are those of four like leaves.
@@ -120,16 +116,14 @@ fn read_block(file: &[u8], level: u32, at: u32) -> Block
     ensures { λ r. ⌜ r ≡ told (blockAt (now (file .entry)) level at) ⌝ }
 {
     let root = read_record(file, at);
-    let Block::Read { next, kind } = root else {
+    let Block::Read(next, kind) = root else {
         return root;
     };
     if kind != quad::FORK {
         return root;
     }
     if level == 0 {
-        return Block::Bad {
-            outcome: Outcome::TooDeep { at: at + 2 },
-        };
+        return Block::Bad(Outcome::TooDeep { at: at + 2 });
     }
     read_four(file, level - 1, next)
 }
@@ -140,46 +134,25 @@ fn read_four(file: &[u8], level: u32, at: u32) -> Block
     ensures { λ r. ⌜ r ≡ told (fourAt (blockAt (now (file .entry)) level) at) ⌝ }
 {
     let nw = read_block(file, level, at);
-    let Block::Read {
-        next: at_ne,
-        kind: kind_nw,
-    } = nw
-    else {
+    let Block::Read(at_ne, kind_nw) = nw else {
         return nw;
     };
     let ne = read_block(file, level, at_ne);
-    let Block::Read {
-        next: at_sw,
-        kind: kind_ne,
-    } = ne
-    else {
+    let Block::Read(at_sw, kind_ne) = ne else {
         return ne;
     };
     let sw = read_block(file, level, at_sw);
-    let Block::Read {
-        next: at_se,
-        kind: kind_sw,
-    } = sw
-    else {
+    let Block::Read(at_se, kind_sw) = sw else {
         return sw;
     };
     let se = read_block(file, level, at_se);
-    let Block::Read {
-        next,
-        kind: kind_se,
-    } = se
-    else {
+    let Block::Read(next, kind_se) = se else {
         return se;
     };
     if like_leaves(kind_nw, kind_ne, kind_sw, kind_se) {
-        return Block::Bad {
-            outcome: Outcome::NeedlessFork { at: at_se + 2 },
-        };
+        return Block::Bad(Outcome::NeedlessFork { at: at_se + 2 });
     }
-    Block::Read {
-        next,
-        kind: quad::FORK,
-    }
+    Block::Read(next, quad::FORK)
 }
 
 // The header: its level as the answer, or the first fault.
@@ -247,8 +220,8 @@ fn survey(file: &[u8]) -> Contents
     let level = answer::value(header);
     let root = read_block(file, level, 5);
     match root {
-        Block::Bad { outcome } => Contents::Faulty { outcome },
-        Block::Read { next, kind: _ } => close(file, level, next),
+        Block::Bad(outcome) => Contents::Faulty { outcome },
+        Block::Read(next, _) => close(file, level, next),
     }
 }
 
