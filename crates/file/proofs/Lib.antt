@@ -3,7 +3,11 @@ pub mod SpeltLaws
 pub mod BlockLaws
 pub mod ReadLaws
 pub mod SurveyLaws
-pub mod StoreLaws
 pub mod LinkLaws
 pub mod OpenLaws
 pub mod ReadCallLaws
+pub mod WriteLaws
+pub mod WriteCallLaws
+pub mod OneFile
+pub mod RoundTrip
+pub mod FileCalls

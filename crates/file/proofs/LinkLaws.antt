@@ -4,55 +4,32 @@ use mathlib.Core.List.{List, [], _∷_, _++_}
 use mathlib.Core.Path.{_≡_, refl, ap, sym, _∙_}
 use Prim.Native.Nat.{ℕ, zero, suc, _+_, _-_, _*_, _≤_, _<_}
 use native.Mathlib.Omega.{arith}
-use lib.ListN.{length, getD, length-append}
-use lib.Seq.{sets, length-sets}
+use lib.ListN.{length, getD}
+use lib.Seq.{sets}
 use Rattle.quad.specs.Numbers.{topColour, forkType, none, maxWords}
 use Rattle.quad.specs.Tree.{Tree, leaf, fork, colour, Within, Reduced, Coloured, sizeOf, typesOf}
 use Rattle.quad.proofs.TreeLaws.{size-pos, types-length}
-use Rattle.table.specs.Preorder.{preorder}
+use Rattle.table.proofs.PreorderLaws.{written-leaf, written-fork, written-length}
 use Rattle.file.specs.File.{Got, got, bad, blockAt}
 use Rattle.file.specs.Linking.{placeOf, treeIn, Ready, Linked}
 use Rattle.file.proofs.SpeltLaws.{Stands, Spelt, spelt-parts}
-use Rattle.file.proofs.BlockLaws.{Sound, block-sound, block-read}
-use Rattle.file.proofs.StoreLaws.{sets-before, sets-four}
-
-pub preorder-length : (f p : ℕ) (t : Tree) → length (preorder f p t) ≡ 6 * sizeOf t
-unfolding preorder sizeOf
-preorder-length f p (leaf c) = refl
-preorder-length f p (fork a b c d) =
-    simp length-append
-    (omega (
-      arith,
-      preorder-length p (p + 1) a,
-      preorder-length p (p + 1 + sizeOf a) b,
-      preorder-length p (p + 1 + sizeOf a + sizeOf b) c,
-      preorder-length p (p + 1 + sizeOf a + sizeOf b + sizeOf c) d,
-    ))
+use Rattle.file.proofs.BlockLaws.{Spells, block-spells, block-read}
 
 -- a leaf's words
 pub leaf-linked : (k p f : ℕ) (before after : List ℕ) → after ≡ sets before (6 * p) (f ∷ none ∷ none ∷ none ∷ none ∷ k ∷ [])
     → Linked (leaf k) f p before after (p + 1)
-unfolding preorder sizeOf
-leaf-linked k p f before after e = record { next = refl; words = e }
+unfolding sizeOf
+leaf-linked k p f before after e = record { next = refl; words = written-leaf k p f before after e }
 
 -- four sons' words, then the fork's
 pub fork-linked : (a b c d : Tree) (p f nw ne sw se r : ℕ) (l l₁ l₂ l₃ l₄ after : List ℕ) → nw ≡ p + 1
     → Linked a p nw l l₁ ne → Linked b p ne l₁ l₂ sw → Linked c p sw l₂ l₃ se → Linked d p se l₃ l₄ r
     → after ≡ sets l₄ (6 * p) (f ∷ nw ∷ ne ∷ sw ∷ se ∷ forkType ∷ []) → Linked (fork a b c d) f p l after r
-unfolding preorder sizeOf
-fork-linked a b c d p f nw ne sw se r l l₁ l₂ l₃ l₄ after enw ha hb hc hd e =
-    let ene : ne ≡ p + 1 + sizeOf a = omega (arith, ha .next) in
-    let esw : sw ≡ p + 1 + sizeOf a + sizeOf b = omega (arith, ha .next, hb .next) in
-    let ese : se ≡ p + 1 + sizeOf a + sizeOf b + sizeOf c = omega (arith, ha .next, hb .next, hc .next) in
-    let all : List ℕ = preorder p nw a ++ (preorder p ne b ++ (preorder p sw c ++ preorder p se d)) in
-    let hs : List ℕ = f ∷ nw ∷ ne ∷ sw ∷ se ∷ forkType ∷ [] in
-    let four = sets-four l l₁ l₂ l₃ l₄ (preorder p nw a) (preorder p ne b) (preorder p sw c) (preorder p se d) (6 * nw) (6 * ne) (6 * sw) (6 * se)
-    (ha .words) (hb .words) (hc .words) (hd .words) (omega (arith, ha .next, preorder-length p nw a)) (omega (arith, hb .next, preorder-length p ne b))
-    (omega (arith, hc .next, preorder-length p sw c)) in
-    record {
-      next = omega (arith, ha .next, hb .next, hc .next, hd .next);
-      words = e ∙ ap (λ (x : List ℕ). sets x (6 * p) hs) four ∙ sets-before l (6 * p) (6 * nw) hs all (omega arith) ∙ rw (enw, ene, esw, ese);
-    }
+unfolding sizeOf
+fork-linked a b c d p f nw ne sw se r l l₁ l₂ l₃ l₄ after enw ha hb hc hd e = record {
+  next = omega (arith, ha .next, hb .next, hc .next, hd .next);
+  words = written-fork a b c d p f nw ne sw se l l₁ l₂ l₃ l₄ after enw (ha .next) (hb .next) (hc .next) (ha .words) (hb .words) (hc .words) (hd .words) e;
+}
 
 -- the root's type byte
 root-kind : (s : List ℕ) (at : ℕ) (t : Tree) → Spelt s at (typesOf t) → Stands s at (colour t)
@@ -81,7 +58,7 @@ pub record Forked (s : List ℕ) (l p : ℕ) (t : Tree) : Type 0 where
 
 module _ (s : List ℕ) where
   read-as : (l at i : ℕ) (t : Tree) → i ≡ at + 3 * sizeOf t → Spelt s at (typesOf t) → Within l t → Reduced t → Coloured t → blockAt s l at ≡ got i t
-  read-as l at i t e h w r c = rw e (block-read s l at t h w r c)
+  read-as l at i t e h w r c = rw e (block-read s l at t h (record { within = w; reduced = r; coloured = c }))
 
   forked-in : (l p : ℕ) (t : Tree) → Spelt s (placeOf p) (typesOf t) → Within l t → Reduced t → Coloured t → colour t ≡ forkType → Forked s l p t
   unfolding Spelt typesOf Within Reduced Coloured colour
@@ -116,15 +93,15 @@ colour-le (leaf k) h = omega arith
 colour-le (fork _ _ _ _) h = omega arith
 
 pub linked-length : {t : Tree} {f p r : ℕ} {before after : List ℕ} → Linked t f p before after r → length after ≡ length before
-linked-length {t} {f} {p} {before = before} h = ap length (h .words) ∙ length-sets before (6 * p) (preorder f p t)
+linked-length {t} {f} {p} {before = before} {after = after} h = written-length f p t before after (h .words)
 
 -- a node that is linked: what its type byte says of its tree
 module _ (s : List ℕ) (l p : ℕ) (w : List ℕ) (ready : Ready s l p (length w)) where
-  its-sound : Sound s l (placeOf p) (placeOf (p + sizeOf (ready .tree))) (ready .tree)
-  its-sound = block-sound s l (placeOf p) _ (ready .tree) (ready .is)
+  its-spells : Spells s l (placeOf p) (placeOf (p + sizeOf (ready .tree))) (ready .tree)
+  its-spells = block-spells s l (placeOf p) _ (ready .tree) (ready .is)
 
   its-root : Stands s (placeOf p) (colour (ready .tree))
-  its-root = root-kind s (placeOf p) (ready .tree) (its-sound .spelt)
+  its-root = root-kind s (placeOf p) (ready .tree) (its-spells .spelt)
 
   -- what reading its type byte asks
   pub type-asks : (placeOf p + 3 ≤ length s) × (p < maxWords)
@@ -138,7 +115,7 @@ module _ (s : List ℕ) (l p : ℕ) (w : List ℕ) (ready : Ready s l p (length 
     kind-is = sym (e ∙ its-root .kind)
 
     pub kind-le : k ≤ forkType
-    kind-le = rw kind-is at (colour-le (ready .tree) (its-sound .coloured))
+    kind-le = rw kind-is at (colour-le (ready .tree) (its-spells .sound .coloured))
 
     pub links-leaf : (f : ℕ) (after : List ℕ) → (k ≡ forkType → ⊥) → after ≡ sets w (6 * p) (f ∷ none ∷ none ∷ none ∷ none ∷ k ∷ [])
         → Linked (treeIn (blockAt s l (placeOf p))) f p w after (p + 1)
@@ -150,8 +127,8 @@ module _ (s : List ℕ) (l p : ℕ) (w : List ℕ) (ready : Ready s l p (length 
     module _ (fk : k ≡ forkType) where
       parts : Forked s l p (ready .tree)
       parts =
-          let h = its-sound in
-          forked-in s l p (ready .tree) (h .spelt) (h .within) (h .reduced) (h .coloured) (kind-is ∙ fk)
+          let h = its-spells .sound in
+          forked-in s l p (ready .tree) (its-spells .spelt) (h .within) (h .reduced) (h .coloured) (kind-is ∙ fk)
 
       pub deeper : 0 < l
       deeper = parts .deep

@@ -16,7 +16,7 @@ use Rattle.quad.proofs.TreeLaws.{types-length}
 use Rattle.file.specs.File.{Got, got, bad, Opened, opened, faulty, closed, blockAt, openOf}
 use Rattle.file.specs.Reading.{headerOf, countOf}
 use Rattle.file.proofs.SpeltLaws.{spelt-fits}
-use Rattle.file.proofs.BlockLaws.{Sound, block-sound}
+use Rattle.file.proofs.BlockLaws.{Spells, block-spells}
 use Rattle.file.proofs.SurveyLaws.{Header, header-good, open-by}
 
 pub record Whole (s : List ℕ) (n : ℕ) (t : Tree) : Type 0 where
@@ -24,7 +24,7 @@ pub record Whole (s : List ℕ) (n : ℕ) (t : Tree) : Type 0 where
   pub level : getD s 2 0 ≡ n
   pub count : countOf s ≡ sizeOf t
   pub block : blockAt s n 5 ≡ got (5 + 3 * sizeOf t) t
-  pub sound : Sound s n 5 (5 + 3 * sizeOf t) t
+  pub spells : Spells s n 5 (5 + 3 * sizeOf t) t
   pub ends : length s ≡ 5 + 3 * sizeOf t
 
 no-fault : {A : Type 0} (o : Outcome) (n : ℕ) (t : Tree) → faulty o ≡ opened n t → A
@@ -41,15 +41,15 @@ module _ (s : List ℕ) (n : ℕ) (t : Tree) where
       let level : getD s 2 0 ≡ n = cc in
       let ut : u ≡ t = cc in
       let is' : blockAt s n 5 ≡ got i t = rw (level, ut) at is in
-      let sound = block-sound s n 5 i t is' in
-      let fits = spelt-fits s (typesOf t) 5 (h .long) (sound .spelt) in
+      let spells = block-spells s n 5 i t is' in
+      let fits = spelt-fits s (typesOf t) 5 (h .long) (spells .spelt) in
       record {
         header = h;
         level = level;
         count = eqb-true (countOf s) (sizeOf u) same ∙ ap sizeOf ut;
-        block = rw (sound .next) at is';
-        sound = rw (sound .next) at sound;
-        ends = omega (arith, types-length t, sound .next, ltb-false i (length s) last);
+        block = rw (spells .next) at is';
+        spells = rw (spells .next) at spells;
+        ends = omega (arith, types-length t, spells .next, ltb-false i (length s) last);
       }))
       (λ _. no-fault (BadCount 3) n t)
 

@@ -1,33 +1,26 @@
 -- The read call: what it answers and leaves in the table, by what the first pass told.
 use mathlib.Core.Bool.{Bool, true, false, cond}
-use mathlib.Core.List.{List, _++_}
+use mathlib.Core.List.{List}
 use mathlib.Core.Path.{_≡_, refl, ap, sym, _∙_}
 use Prim.Native.Nat.{ℕ, _+_, _*_, _≤_, _<_}
 use native.Mathlib.Nat.{zero-add}
 use native.Mathlib.Omega.{arith}
-use lib.ListN.{length, getD, drop}
-use lib.Seq.{sets, sets-eq}
+use lib.ListN.{length}
 use borrow.Author.Tests.{lt-ltb, le-ltb}
-use Rattle.base.specs.Tab.{overlay}
 use Rattle.answer.specs.declared.Outcome.{Outcome}
 use Rattle.answer.specs.declared.Outcome.the-variants.{Answered, NoRoom}
 use Rattle.answer.specs.Numbers.{answers}
 use Rattle.quad.specs.Numbers.{topLevel, none, maxWords}
 use Rattle.quad.specs.Tree.{Tree, sizeOf}
 use Rattle.quad.proofs.TreeLaws.{size-fits}
-use Rattle.table.specs.Preorder.{preorder, preorderTable}
+use Rattle.table.proofs.PreorderLaws.{Written, written-whole}
 use Rattle.file.specs.declared.Contents.{Contents}
 use Rattle.file.specs.declared.Contents.the-variants.{Sheet, Faulty}
 use Rattle.file.specs.File.{Opened, opened, faulty, blockAt, openOf, readOf, readTable}
 use Rattle.file.specs.Calls.{Reads}
 use Rattle.file.specs.Reading.{contentsOf}
 use Rattle.file.specs.Linking.{placeOf, treeIn, Ready, Linked}
-use Rattle.file.proofs.LinkLaws.{preorder-length}
 use Rattle.file.proofs.OpenLaws.{Whole, open-whole}
-
--- a stretch written from the start is laid over it
-pub sets-overlay : (new old : List ℕ) → length new ≤ length old → sets old 0 new ≡ overlay new old
-sets-overlay new old le = rw zero-add at (sets-eq new old 0 (omega arith))
 
 either : {A : Type 0} (b : Bool) (x : A) → cond b x x ≡ x
 either true x = refl
@@ -71,7 +64,7 @@ module _ (s old : List ℕ) (c : Contents) (e : c ≡ contentsOf (openOf s)) whe
 
     -- its numbers are small
     pub sheet-fits : (n ≤ topLevel) × (6 * count ≤ maxWords)
-    sheet-fits = (level, rw (its .size) at (size-fits n (its .tree) level (whole .sound .within)))
+    sheet-fits = (level, rw (its .size) at (size-fits n (its .tree) level (whole .spells .sound .within)))
 
     pub reads-full : length old < 6 * count → Reads s old (NoRoom (6 * count)) old
     unfolding readOf readTable
@@ -93,8 +86,8 @@ module _ (s old : List ℕ) (c : Contents) (e : c ≡ contentsOf (openOf s)) whe
     unfolding readOf readTable
     reads-sheet le after r h =
         let t : Tree = its .tree in
-        let w : after ≡ sets old 0 (preorderTable t) = h .words ∙ ap (λ (g : Tree). sets old 0 (preorderTable g)) (ap treeIn (whole .block)) in
+        let w : Written none 0 t old after = rw (whole .block) at (h .words) in
         record {
           answer = rw (its .is, its .size, le-ltb (length old) (6 * count) le);
-          table = w ∙ sets-overlay (preorderTable t) old (omega (arith, preorder-length none 0 t, its .size)) ∙ rw (its .is, its .size, le-ltb (length old) (6 * count) le);
+          table = written-whole t old after (omega (arith, its .size)) w ∙ rw (its .is, its .size, le-ltb (length old) (6 * count) le);
         }

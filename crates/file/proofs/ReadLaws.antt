@@ -20,7 +20,7 @@ use Rattle.file.specs.declared.Block.{Block}
 use Rattle.file.specs.declared.Block.the-variants.{Read, Bad}
 use Rattle.file.specs.File.{Got, got, bad, mark, nodeMark, marked, needed, isType, recordAt, onward, fourAt, blockAt}
 use Rattle.file.specs.Reading.{marksOf, recordOf, told, likeKinds, Reaches, FourReach}
-use Rattle.file.proofs.BlockLaws.{Sound, block-sound}
+use Rattle.file.proofs.BlockLaws.{block-spells}
 
 -- a function of a choice is the choice of its values
 pub push : {A B : Type 0} (f : A → B) (t : Bool) (x y : A) (x' y' : B) → f x ≡ x' → f y ≡ y' → f (cond t x y) ≡ cond t x' y'
@@ -122,8 +122,8 @@ found s l at i k r e f = go (blockAt s l at) refl (sym e ∙ f)
     go (got j t) is h =
         let ij : j ≡ i = cc in
         let is' : blockAt s l at ≡ got i t = rw ij at is in
-        let sound = block-sound s l at i t is' in
-        record { tree = t; is = is'; kind = cc; coloured = sound .coloured; near = omega (arith, sound .next, size-le l t (sound .within)) }
+        let spells = block-spells s l at i t is' in
+        record { tree = t; is = is'; kind = cc; coloured = spells .sound .coloured; near = omega (arith, spells .next, size-le l t (spells .sound .within)) }
     go (bad o) is h = absurd (let z : _≡_ {A = ℕ} 0 1 = cc in omega arith)
 
 pub told-bad : (g : Got) (r : Block) (o : Outcome) → r ≡ told g → r ≡ Bad o → g ≡ bad o

@@ -21,7 +21,7 @@ use Rattle.file.specs.declared.Contents.{Contents}
 use Rattle.file.specs.declared.Contents.the-variants.{Sheet, Faulty}
 use Rattle.file.specs.File.{Got, got, bad, Opened, opened, faulty, mark, sheetMark, closed, blockAt, openOf}
 use Rattle.file.specs.Reading.{marksOf, told, Reaches, headerOf, countOf, recordsTo, closingOf, contentsOf}
-use Rattle.file.proofs.BlockLaws.{block-sound}
+use Rattle.file.proofs.BlockLaws.{block-spells}
 use Rattle.file.proofs.ReadLaws.{push, push-case, marks-by, found, told-bad}
 
 -- a count that a call gave, held against another
@@ -122,13 +122,13 @@ module _ (s : List ℕ) (h : Outcome) (u : Bool) (e : h ≡ headerOf s) (a : u �
         pub close-asks : (5 ≤ i) × (5 ≤ length s)
         close-asks =
             let d = found s level 5 i k r b f in
-            (omega (arith, block-sound s level 5 i (d .tree) (d .is) .next), header .long)
+            (omega (arith, block-spells s level 5 i (d .tree) (d .is) .next), header .long)
 
         pub survey-read : (c : Contents) → c ≡ closingOf s level i → c ≡ contentsOf (openOf s)
         unfolding closingOf
         survey-read c g =
             let d = found s level 5 i k r b f in
             let t : Tree = d .tree in
-            let size : recordsTo i ≡ sizeOf t = omega (arith, block-sound s level 5 i t (d .is) .next) in
+            let size : recordsTo i ≡ sizeOf t = omega (arith, block-spells s level 5 i t (d .is) .next) in
             g ∙ rw (opens, d .is, size)
             (sym (push contentsOf (eqb (countOf s) (sizeOf t)) _ _ _ _ (push contentsOf (ltb i (length s)) _ _ _ _ refl refl) refl))

@@ -2,14 +2,16 @@
 use answer::Outcome;
 ghost use mathlib.Core.List.{[], _∷_};
 ghost use mathlib.Core.Path.{_≡_};
-ghost use Prim.Native.Nat.{_+_, _*_, _<_, _≤_};
+ghost use Prim.Native.Nat.{_+_, _*_, _/_, _%_, _<_, _≤_};
 ghost use lib.ListN.{length, getD};
 ghost use lib.Seq.{sets};
 ghost use Rattle.quad.specs.Numbers.{maxWords};
-ghost use Rattle.file.specs.File.{isType, blockAt, fourAt, openOf};
-ghost use Rattle.file.specs.Calls.{Reads};
+ghost use Rattle.table.specs.Nodes.{treeAt};
+ghost use Rattle.file.specs.File.{mark, sheetMark, nodeMark, isType, blockAt, fourAt, openOf};
+ghost use Rattle.file.specs.Calls.{Reads, Writes};
 ghost use Rattle.file.specs.Reading.{marksOf, recordOf, told, likeKinds, Reaches, FourReach, headerOf, countOf, closingOf, contentsOf};
 ghost use Rattle.file.specs.Linking.{placeOf, treeIn, Ready, Linked};
+ghost use Rattle.file.specs.Writing.{Writable, Wrote};
 
 // Every record stands after a two-byte mark: 51, and 53 before the header or 4E before a node's type.
 const MARK: u8 = 81;
@@ -21,9 +23,9 @@ const NODE: u8 = 78;
 // What reading a block, or four blocks, gives.
 pub enum Block {
     // The place after it, and its root's type.
-    Read { next: u32, kind: usize },
+    Read(u32, usize),
     // The first fault.
-    Bad { outcome: Outcome },
+    Bad(Outcome),
 }
 
 // What reading a whole file gives, before the room for its table is looked at.
@@ -78,22 +80,18 @@ fn read_record(file: &[u8], at: u32) -> Block
 {
     let outcome = marks(file, at, NODE);
     if !answer::answered(outcome) {
-        return Block::Bad { outcome };
+        return Block::Bad(outcome);
     }
     let place = at + 2;
     let type_at = place as usize;
     if file.len() <= type_at {
-        return Block::Bad {
-            outcome: Outcome::Absent { place },
-        };
+        return Block::Bad(Outcome::Absent { place });
     }
     let kind = wide(file[type_at]);
     if !is_type(kind) {
-        return Block::Bad {
-            outcome: Outcome::BadByte { place },
-        };
+        return Block::Bad(Outcome::BadByte { place });
     }
-    Block::Read { next: at + 3, kind }
+    Block::Read(at + 3, kind)
 }
 
 // Whether four types are those of four like leaves.
@@ -118,16 +116,14 @@ fn read_block(file: &[u8], level: u32, at: u32) -> Block
     ensures { λ r. ⌜ r ≡ told (blockAt (now (file .entry)) level at) ⌝ }
 {
     let root = read_record(file, at);
-    let Block::Read { next, kind } = root else {
+    let Block::Read(next, kind) = root else {
         return root;
     };
     if kind != quad::FORK {
         return root;
     }
     if level == 0 {
-        return Block::Bad {
-            outcome: Outcome::TooDeep { at: at + 2 },
-        };
+        return Block::Bad(Outcome::TooDeep { at: at + 2 });
     }
     read_four(file, level - 1, next)
 }
@@ -138,46 +134,25 @@ fn read_four(file: &[u8], level: u32, at: u32) -> Block
     ensures { λ r. ⌜ r ≡ told (fourAt (blockAt (now (file .entry)) level) at) ⌝ }
 {
     let nw = read_block(file, level, at);
-    let Block::Read {
-        next: at_ne,
-        kind: kind_nw,
-    } = nw
-    else {
+    let Block::Read(at_ne, kind_nw) = nw else {
         return nw;
     };
     let ne = read_block(file, level, at_ne);
-    let Block::Read {
-        next: at_sw,
-        kind: kind_ne,
-    } = ne
-    else {
+    let Block::Read(at_sw, kind_ne) = ne else {
         return ne;
     };
     let sw = read_block(file, level, at_sw);
-    let Block::Read {
-        next: at_se,
-        kind: kind_sw,
-    } = sw
-    else {
+    let Block::Read(at_se, kind_sw) = sw else {
         return sw;
     };
     let se = read_block(file, level, at_se);
-    let Block::Read {
-        next,
-        kind: kind_se,
-    } = se
-    else {
+    let Block::Read(next, kind_se) = se else {
         return se;
     };
     if like_leaves(kind_nw, kind_ne, kind_sw, kind_se) {
-        return Block::Bad {
-            outcome: Outcome::NeedlessFork { at: at_se + 2 },
-        };
+        return Block::Bad(Outcome::NeedlessFork { at: at_se + 2 });
     }
-    Block::Read {
-        next,
-        kind: quad::FORK,
-    }
+    Block::Read(next, quad::FORK)
 }
 
 // The header: its level as the answer, or the first fault.
@@ -245,8 +220,8 @@ fn survey(file: &[u8]) -> Contents
     let level = answer::value(header);
     let root = read_block(file, level, 5);
     match root {
-        Block::Bad { outcome } => Contents::Faulty { outcome },
-        Block::Read { next, kind: _ } => close(file, level, next),
+        Block::Bad(outcome) => Contents::Faulty { outcome },
+        Block::Read(next, _) => close(file, level, next),
     }
 }
 
@@ -259,20 +234,6 @@ fn type_of(file: &[u8], p: u32) -> usize
     wide(file[at + 2])
 }
 
-// The six words of node p.
-fn put_node(table: &mut [u32], p: u32, father: u32, nw: u32, ne: u32, sw: u32, se: u32, kind: u32)
-    requires { ⌜ 6 * p + 6 ≤ length (now table) ⌝ }
-    ensures { λ _. ⌜ now (table .exit) ≡ sets (now (table .entry)) (6 * p) (father ∷ nw ∷ ne ∷ sw ∷ se ∷ kind ∷ []) ⌝ }
-{
-    let i = 6 * (p as usize);
-    table[i] = father;
-    table[i + 1] = nw;
-    table[i + 2] = ne;
-    table[i + 3] = sw;
-    table[i + 4] = se;
-    table[i + 5] = kind;
-}
-
 // The second pass, for a block: its nodes from p on, in preorder, and the next node. A fork's words are written once its sons' numbers are known.
 fn link_block(file: &[u8], level: u32, table: &mut [u32], p: u32, father: u32) -> u32
     requires { ⌜ Ready (now file) level p (length (now table)) ⌝ }
@@ -281,7 +242,16 @@ fn link_block(file: &[u8], level: u32, table: &mut [u32], p: u32, father: u32) -
     let kind = type_of(file, p);
     let none = quad::NONE as u32;
     if kind != quad::FORK {
-        put_node(table, p, father, none, none, none, none, kind as u32);
+        table::put_node(
+            table,
+            p as usize,
+            father,
+            none,
+            none,
+            none,
+            none,
+            kind as u32,
+        );
         return p + 1;
     }
     let below = level - 1;
@@ -290,7 +260,7 @@ fn link_block(file: &[u8], level: u32, table: &mut [u32], p: u32, father: u32) -
     let sw = link_block(file, below, table, ne, p);
     let se = link_block(file, below, table, sw, p);
     let next = link_block(file, below, table, se, p);
-    put_node(table, p, father, nw, ne, sw, se, quad::FORK as u32);
+    table::put_node(table, p as usize, father, nw, ne, sw, se, quad::FORK as u32);
     next
 }
 
@@ -312,4 +282,66 @@ pub fn read(file: &[u8], table: &mut [u32]) -> Outcome
             }
         }
     }
+}
+
+// Writes the header: the level, and the node count in two bytes, low byte first.
+fn put_header(file: &mut [u8], level: u32, count: u32)
+    requires { ⌜ (5 ≤ length (now file)) × (level < 256) × (count < 65536) ⌝ }
+    ensures { λ _. ⌜ now (file .exit) ≡ sets (now (file .entry)) 0 (mark ∷ sheetMark ∷ level ∷ count % 256 ∷ count / 256 ∷ []) ⌝ }
+{
+    file[0] = MARK;
+    file[1] = SHEET;
+    file[2] = level as u8;
+    file[3] = (count % 256) as u8;
+    file[4] = (count / 256) as u8;
+}
+
+// Writes a node record.
+fn put_record(file: &mut [u8], at: usize, kind: u8)
+    requires { ⌜ at + 3 ≤ length (now file) ⌝ }
+    ensures { λ _. ⌜ now (file .exit) ≡ sets (now (file .entry)) at (mark ∷ nodeMark ∷ kind ∷ []) ⌝ }
+{
+    file[at] = MARK;
+    file[at + 1] = NODE;
+    file[at + 2] = kind;
+}
+
+// Writes the block of node p, its sons' in the order NW, NE, SW, SE, and gives the place after it.
+fn write_block(table: &[u32], level: u32, p: usize, file: &mut [u8], at: usize) -> usize
+    requires { ⌜ Writable (now table) level p at (length (now file)) ⌝ }
+    ensures { λ r. ⌜ Wrote (treeAt (now (table .entry)) level p) at (now (file .entry)) (now (file .exit)) r ⌝ }
+{
+    let kind = table::word_at(table, p, 5);
+    put_record(file, at, kind as u8);
+    let first = at + 3;
+    if kind != quad::FORK {
+        return first;
+    }
+    let below = level - 1;
+    let nw = table::word_at(table, p, 1);
+    let ne = table::word_at(table, p, 2);
+    let sw = table::word_at(table, p, 3);
+    let se = table::word_at(table, p, 4);
+    let second = write_block(table, below, nw, file, first);
+    let third = write_block(table, below, ne, file, second);
+    let fourth = write_block(table, below, sw, file, third);
+    write_block(table, below, se, file, fourth)
+}
+
+// A table's file, whichever numbering the table has; bytes beyond it stay.
+pub fn write(n: u32, table: &[u32], file: &mut [u8]) -> Outcome
+    ensures { λ r. ⌜ Writes n (now (table .entry)) (now (file .entry)) r (now (file .exit)) ⌝ }
+{
+    let checked = table::check(n, table);
+    if !answer::answered(checked) {
+        return checked;
+    }
+    let count = answer::value(checked);
+    let bytes = 5 + 3 * count;
+    if file.len() < bytes as usize {
+        return Outcome::NoRoom { needed: bytes };
+    }
+    put_header(file, n, count);
+    write_block(table, n, 0, file, 5);
+    Outcome::Answered { value: bytes }
 }

@@ -8,8 +8,8 @@ use borrow.Fn.PlainCycle.{Measures, is, falls, and}
 use Rattle.file.proofs.link_block.Reads as link-block
 use Rattle.file.proofs.link_block.Kinds as link-block-kinds
 use Rattle.file.proofs.+link_block.Lts-link_block as link-block-lts
-use Rattle.file.proofs.put_node.Reads as put-node-reads
 use Rattle.file.proofs.type_of.Reads as type-of-reads
+use Rattle.table.proofs.put_node.Reads as put-node-reads
 use Rattle.file.proofs.+link_block.{statement}
 use Rattle.file.proofs.+link_block.Tie.{close}
 
