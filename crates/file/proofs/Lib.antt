@@ -11,3 +11,4 @@ pub mod WriteCallLaws
 pub mod OneFile
 pub mod RoundTrip
 pub mod FileCalls
+pub mod FaultLaws

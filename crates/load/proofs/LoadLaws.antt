@@ -1,16 +1,19 @@
 -- The programs' read is sheet_read's but for a sheet that is too large, and has no second outcome.
 use mathlib.Core.Bool.{Bool, true, false, cond}
 use mathlib.Core.List.{List}
-use mathlib.Core.Path.{_≡_, refl, sym, _∙_}
-use Prim.Native.Nat.{ℕ, _≤_, _<_}
+use mathlib.Core.Path.{_≡_, refl, ap, sym, _∙_}
+use Prim.Native.Nat.{ℕ, _*_, _/_, _≤_, _<_}
+use native.Mathlib.Omega.{arith}
 use lib.Dec.{leb, eqb}
 use lib.ListN.{length, getD}
 use borrow.Author.Tests.{le-leb, lt-leb, eq-eqb}
 use Rattle.answer.specs.declared.Outcome.{Outcome}
-use Rattle.answer.specs.declared.Outcome.the-variants.{TooLarge}
+use Rattle.answer.specs.declared.Outcome.the-variants.{Answered, TooLarge}
 use Rattle.quad.specs.Numbers.{topLevel}
-use Rattle.file.specs.File.{mark, sheetMark}
+use Rattle.base.proofs.CaseLaws.{cond-case}
+use Rattle.file.specs.File.{mark, sheetMark, readTable}
 use Rattle.file.specs.Calls.{Reads}
+use Rattle.file.proofs.FaultLaws.{Answers, read-answers, read-length}
 use Rattle.load.specs.Load.{tooLarge, loadOf, loadedTable, printedLevel, Loads}
 
 -- the last test, with the level as the call gave it
@@ -34,6 +37,25 @@ module _ (s before : List ℕ) (u : Bool) (e : u ≡ tooLarge s) where
   pub load-read : (r : Outcome) (after : List ℕ) → u ≡ false → Reads s before r after → Loads s before r after
   unfolding loadOf loadedTable
   load-read r after h reads = record { answer = rw (loadOf, ← e, h) (reads .answer); table = rw (loadedTable, ← e, h) (reads .table) }
+
+-- an answer is the file reader's, so its nodes fit
+pub load-answers : (s : List ℕ) (words v : ℕ) → loadOf s words ≡ Answered v → Answers s words v
+unfolding loadOf
+load-answers s words v h = go (tooLarge s) refl
+  where
+    go : (b : Bool) → tooLarge s ≡ b → Answers s words v
+    go true e = absurd (let z : _≡_ {A = ℕ} 0 1 = (let f : TooLarge 2 ≡ Answered v = rw (loadOf, e) at h in cc) in omega arith)
+    go false e = read-answers s words v (rw (loadOf, e) at h)
+
+pub loaded-fits : (s before after : List ℕ) (r : Outcome) (v : ℕ) → Loads s before r after → r ≡ Answered v → 6 * (v / 8) ≤ length before
+loaded-fits s before after r v l e =
+    let a = load-answers s (length before) v (sym (l .answer) ∙ e) in
+    omega (arith, a .value, a .low, a .fits)
+
+pub loaded-length : (s before after : List ℕ) (r : Outcome) → Loads s before r after → length after ≡ length before
+unfolding loadedTable
+loaded-length s before after r l =
+    ap length (l .table) ∙ cond-case (λ (t : List ℕ). length t ≡ length before) (tooLarge s) before (readTable s before) (λ e. refl) (λ e. read-length s before)
 
 -- no second outcome
 pub one-outcome : (s before : List ℕ) (r q : Outcome) (after final : List ℕ) → Loads s before r after → Loads s before q final → (r ≡ q) × (after ≡ final)
