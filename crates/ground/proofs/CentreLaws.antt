@@ -15,13 +15,12 @@ use Rattle.answer.specs.Numbers.{answers, andThen, room}
 use Rattle.answer.proofs.OutcomeLaws.{then-stop, then-go}
 use Rattle.quad.specs.Numbers.{topLevel}
 use Rattle.table.specs.Rules.{askedOf, Asked}
-use Rattle.table.specs.Nodes.{centreAcross, centreDown}
-use Rattle.table.proofs.CheckLaws.{asked-call}
-use Rattle.table.proofs.BlockLaws.{Climbed, climbed-all, OnSheet, on-sheet}
+use Rattle.table.proofs.BlockLaws.{Climbed, climbed-all, on-sheet}
 use Rattle.ground.specs.declared.Ground.{Ground}
 use Rattle.ground.specs.declared.block.Block.{Block}
+use Rattle.ground.specs.declared.block.Middle.{Middle}
 use Rattle.ground.specs.Ground.{rangeOf, eastOf, northOf, centreOf, centreAfter}
-use Rattle.ground.specs.Blocks.{blockOf, middleOf}
+use Rattle.ground.specs.Blocks.{blockOf, halfPixels, middleOf}
 use Rattle.ground.specs.Call.{Centres}
 
 pub block-is : (n : ℕ) (T : List ℕ) (p q unit c r l : ℕ) → Asked n T p → Climbed n T p q unit c r l → q ≡ 0
@@ -30,6 +29,21 @@ unfolding blockOf
 block-is n T p q unit c r l a k z =
     let e = climbed-all n T (a .accepted) p q unit c r l k z in
     rw (blockOf, e .0, e .1, e .2)
+
+-- an index of a node's block and its level, as `half_pixels` takes them
+module _ {n : ℕ} {T : List ℕ} {p : ℕ} (a : Asked n T p) {b : Block} (e : b ≡ blockOf n T p) where
+  pub across-fits : (b .level ≤ topLevel) × (b .column < 2 ^ topLevel)
+  unfolding blockOf
+  across-fits = let o = on-sheet a in rw e (o .level, o .column)
+
+  pub down-fits : (b .level ≤ topLevel) × (b .row < 2 ^ topLevel)
+  unfolding blockOf
+  down-fits = let o = on-sheet a in rw e (o .level, o .row)
+
+pub middle-is : (n : ℕ) (T : List ℕ) (p : ℕ) (b : Block) (h k : ℕ) → b ≡ blockOf n T p → h ≡ halfPixels (b .column) (b .level)
+    → k ≡ halfPixels (b .row) (b .level) → _≡_ {A = Middle} (record { h = h; k = k }) (middleOf n T p)
+unfolding blockOf middleOf
+middle-is n T p b h k e eh ek = rw (middleOf, eh, ek, e)
 
 -- two numbers stored at the start
 pub two-stored : (x y : Float) (old : List Float) → 2 ≤ length old → set (set old 0 x) 1 y ≡ overlay (x ∷ y ∷ []) old
@@ -49,19 +63,6 @@ module _ (n : ℕ) (T : List ℕ) (p : ℕ) (g : Ground) (old : List Float) wher
     centre-asked h = refuses s (then-stop (askedOf n T p) s _ u es eu h) (off u (answers s) eu h)
 
     module _ (hu : not u ≡ false) where
-      -- what the node is known to be by then
-      pub centre-node : Asked n T p
-      centre-node = asked-call n T p s u es eu hu
-
-      -- an index of its block and its level, as the next function takes them
-      pub across-fits : (b : Block) → b ≡ blockOf n T p → (b .level ≤ topLevel) × (b .column < 2 ^ topLevel)
-      unfolding blockOf
-      across-fits b e = let o = on-sheet centre-node in rw e (o .level, o .column)
-
-      pub down-fits : (b : Block) → b ≡ blockOf n T p → (b .level ≤ topLevel) × (b .row < 2 ^ topLevel)
-      unfolding blockOf
-      down-fits b e = let o = on-sheet centre-node in rw e (o .level, o .row)
-
       module _ (o : Outcome) (v : Bool) (eo : o ≡ rangeOf g) (ev : v ≡ answers o) where
         pub centre-range : not v ≡ true → Centres n T p g old o old
         unfolding centreOf
@@ -76,11 +77,9 @@ module _ (n : ℕ) (T : List ℕ) (p : ℕ) (g : Ground) (old : List Float) wher
           pub centre-room : length old < 2 → Centres n T p g old (NoRoom 2) old
           centre-room h = refuses (NoRoom 2) (passed (NoRoom 2) (rw (lt-ltb (length old) 2 h))) refl
 
-          pub centre-put : (b : Block) (h k : ℕ) (x y : Float) → 2 ≤ length old → b ≡ blockOf n T p → h ≡ middleOf (b .column) (b .level)
-              → k ≡ middleOf (b .row) (b .level) → x ≡ eastOf g h → y ≡ northOf g k → Centres n T p g old (Answered 0) (set (set old 0 x) 1 y)
-          unfolding blockOf centreAfter
-          centre-put b h k x y l eb eh ek ex ey =
+          pub centre-put : (m : Middle) (x y : Float) → 2 ≤ length old → m ≡ middleOf n T p → x ≡ eastOf g (m .h) → y ≡ northOf g (m .k)
+              → Centres n T p g old (Answered 0) (set (set old 0 x) 1 y)
+          unfolding middleOf centreAfter
+          centre-put m x y l em ex ey =
               let e : Answered 0 ≡ centreOf n T p g (length old) = passed (Answered 0) (rw (le-ltb (length old) 2 l)) in
-              let ea : h ≡ centreAcross n T p = rw eb at eh in
-              let ed : k ≡ centreDown n T p = rw eb at ek in
-              record { gives = e; leaves = two-stored x y old l ∙ rw (centreAfter, ← e, ex, ey, ea, ed) }
+              record { gives = e; leaves = two-stored x y old l ∙ rw (centreAfter, ← e, ex, ey, em) }

@@ -14,7 +14,7 @@ use Rattle.answer.specs.declared.Outcome.the-variants.{Answered, OutOfRange}
 use Rattle.quad.specs.Numbers.{topLevel}
 use Rattle.ground.specs.declared.Ground.{Ground}
 use Rattle.ground.specs.Ground.{within, far, finest, coarsest, two, rangeOf, reachOf}
-use Rattle.ground.specs.Blocks.{middleOf}
+use Rattle.ground.specs.Blocks.{halfPixels}
 use Rattle.ground.proofs.Literals.{two-bits, far-bits, finest-bits, coarsest-bits}
 
 module _ (low high x : Float) where
@@ -52,7 +52,7 @@ unfolding reachOf
 reach-is g h = rw (reachOf, two-bits)
 
 -- a shift is exact where the index is one of a sheet's
-pub middle-is : (i l : ℕ) → l ≤ topLevel → i < 2 ^ topLevel → (2 * i + 1) * 2 ^ l % 2 ^ 32 ≡ middleOf i l
-middle-is i l hl hi =
+pub half-pixels-is : (i l : ℕ) → l ≤ topLevel → i < 2 ^ topLevel → (2 * i + 1) * 2 ^ l % 2 ^ 32 ≡ halfPixels i l
+half-pixels-is i l hl hi =
     shl-exact {a = 2 * i + 1} (suc topLevel) l 32 (omega arith) (omega arith)
     ∙ omega (arith, add-mul (2 * i) 1 (2 ^ l), mul-assoc 2 i (2 ^ l), one-mul (2 ^ l))

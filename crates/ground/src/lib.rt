@@ -72,8 +72,8 @@ pub fn centre(n: u32, table: &[u32], node: u32, g: Ground, place: &mut [f64]) ->
     if place.len() < 2 {
         return Outcome::NoRoom { needed: 2 };
     }
-    let b = block::block_of(n, table, node as usize);
-    place[0] = east_of(g, block::middle(b.column, b.level));
-    place[1] = north_of(g, block::middle(b.row, b.level));
+    let middle = block::middle_of(n, table, node as usize);
+    place[0] = east_of(g, middle.h);
+    place[1] = north_of(g, middle.k);
     Outcome::Answered { value: 0 }
 }

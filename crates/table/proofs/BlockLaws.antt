@@ -91,8 +91,7 @@ module _ (n : ℕ) (T : List ℕ) (acc : Accepted n T) where
   -- the numbers stay small
   small : (p q unit c r l : ℕ) → p < nodes T → Climbed n T p q unit c r l → (c < 2 ^ topLevel) × (r < 2 ^ topLevel) × (unit ≤ 2 ^ topLevel)
   small p q unit c r l lt k =
-      let top = across-top p in
-      (
+      let top = across-top p in (
         omega (arith, k .across, column-below p lt, top),
         omega (arith, k .down, row-below p lt, top),
         omega (arith, k .size, le-mul-of-pos-right unit (pow-pos (depthTo T n q)), top),

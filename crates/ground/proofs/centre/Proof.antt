@@ -1,12 +1,12 @@
-use Rattle.ground.proofs.CentreLaws.{centre-asked, centre-range, centre-room, centre-put, centre-node, across-fits, down-fits}
+use Rattle.ground.proofs.CentreLaws.{centre-asked, centre-range, centre-room, centre-put}
+use Rattle.table.proofs.CheckLaws.{asked-call}
 use borrow.Author.Needs.{needs}
 use Rattle.ground.proofs.centre.Statement.{statement}
 use Rattle.ground.proofs.centre.Tie as tie
 use Rattle.ground.proofs.centre.Reads as reads
 use Rattle.ground.proofs.centre.Lts as lts
 use Rattle.answer.proofs.answered.Reads as answered-reads
-use Rattle.ground.proofs.block.block_of.Reads as block-of-reads
-use Rattle.ground.proofs.block.middle.Reads as middle-reads
+use Rattle.ground.proofs.block.middle_of.Reads as middle-of-reads
 use Rattle.ground.proofs.east_of.Reads as east-of-reads
 use Rattle.ground.proofs.north_of.Reads as north-of-reads
 use Rattle.ground.proofs.range.Reads as range-reads
@@ -41,12 +41,8 @@ returns-3 : tie.Need-returns-3
 returns-3 c = search (centre-room, needs)
 
 -- src/lib.rt:75:9
-block-of-requires : tie.Need-block-of-requires
-block-of-requires c κs = search (centre-node, needs)
-
--- src/lib.rt:76:27
-middle-requires : tie.Need-middle-requires
-middle-requires c κs = search (across-fits, needs)
+middle-of-requires : tie.Need-middle-of-requires
+middle-of-requires c κs = search (asked-call, needs)
 
 -- src/lib.rt:76:16
 east-of-requires : tie.Need-east-of-requires
@@ -55,10 +51,6 @@ east-of-requires c κs = search needs
 -- src/lib.rt:76:5
 slice-write-place : tie.Need-slice-write-place
 slice-write-place c = search needs
-
--- src/lib.rt:77:28
-middle-requires-2 : tie.Need-middle-requires-2
-middle-requires-2 c κs = search (down-fits, needs)
 
 -- src/lib.rt:77:16
 north-of-requires : tie.Need-north-of-requires
@@ -87,11 +79,9 @@ centre-spec =
     answered-requires-2
     returns-2
     returns-3
-    block-of-requires
-    middle-requires
+    middle-of-requires
     east-of-requires
     slice-write-place
-    middle-requires-2
     north-of-requires
     slice-write-place-2
     same-length

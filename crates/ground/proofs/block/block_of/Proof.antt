@@ -22,7 +22,7 @@ loop-holds c = search (climbed-none, needs)
 
 -- src/block.rt:26:13
 son-type-requires : tie.Need-son-type-requires Inv-loop μ-loop
-son-type-requires c κs = 
+son-type-requires c κs =
     let t = turn (c .before .before .before .pre) (c .before .loop .inv) (c .loop-test .taken) refl in
     omega (arith, t .node, t .below)
 
@@ -32,61 +32,61 @@ cast-column c = omega arith
 
 -- src/block.rt:27:19
 mul-column : tie.Need-mul-column Inv-loop μ-loop
-mul-column c = 
+mul-column c =
     let t = turn (c .before .before .before .before .pre) (c .before .before .loop .inv) (c .before .loop-test .taken) (c .son-type .ensures) in
     omega (arith, t .column)
 
 -- src/block.rt:27:9
 add-column : tie.Need-add-column Inv-loop μ-loop
-add-column c = 
+add-column c =
     let t = turn (c .before .before .before .before .pre) (c .before .before .loop .inv) (c .before .loop-test .taken) (c .son-type .ensures) in
     omega (arith, t .column)
 
 -- src/block.rt:28:16
 cast-row : tie.Need-cast-row Inv-loop μ-loop
-cast-row c = 
+cast-row c =
     let t = turn (c .before .before .before .before .pre) (c .before .before .loop .inv) (c .before .loop-test .taken) (c .son-type .ensures) in
     omega (arith, t .son)
 
 -- src/block.rt:28:16
 mul-row : tie.Need-mul-row Inv-loop μ-loop
-mul-row c = 
+mul-row c =
     let t = turn (c .before .before .before .before .pre) (c .before .before .loop .inv) (c .before .loop-test .taken) (c .son-type .ensures) in
     omega (arith, t .row)
 
 -- src/block.rt:28:9
 add-row : tie.Need-add-row Inv-loop μ-loop
-add-row c = 
+add-row c =
     let t = turn (c .before .before .before .before .pre) (c .before .before .loop .inv) (c .before .loop-test .taken) (c .son-type .ensures) in
     omega (arith, t .row)
 
 -- src/block.rt:29:9
 mul-unit : tie.Need-mul-unit Inv-loop μ-loop
-mul-unit c = 
+mul-unit c =
     let t = turn (c .before .before .before .before .pre) (c .before .before .loop .inv) (c .before .loop-test .taken) (c .son-type .ensures) in
     omega (arith, t .size)
 
 -- src/block.rt:30:9
 sub-level : tie.Need-sub-level Inv-loop μ-loop
-sub-level c = 
+sub-level c =
     let t = turn (c .before .before .before .before .pre) (c .before .before .loop .inv) (c .before .loop-test .taken) (c .son-type .ensures) in
     omega (arith, t .level)
 
 -- src/block.rt:31:9
 word-at-requires : tie.Need-word-at-requires Inv-loop μ-loop
-word-at-requires c κs = 
+word-at-requires c κs =
     let t = turn (c .before .before .before .before .pre) (c .before .before .loop .inv) (c .before .loop-test .taken) (c .son-type .ensures) in
     omega (arith, t .node)
 
 -- src/block.rt:25:5
 loop-less : tie.Need-loop-less Inv-loop μ-loop
-loop-less c = 
+loop-less c =
     let t = turn (c .before .before .before .before .before .pre) (c .before .before .before .loop .inv) (c .before .before .loop-test .taken) (c .before .son-type .ensures) in
     omega (arith, t .below)
 
 -- src/block.rt:25:5
 loop-again : tie.Need-loop-again Inv-loop μ-loop
-loop-again c = 
+loop-again c =
     let t = turn (c .before .before .before .before .before .pre) (c .before .before .before .loop .inv) (c .before .before .loop-test .taken) (c .before .son-type .ensures) in
     t .next _ (c .word-at .ensures)
 
