@@ -1,1 +1,4 @@
 pub mod Literals
+pub mod GroundLaws
+pub mod CentreLaws
+pub mod CentreCall

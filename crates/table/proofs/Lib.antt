@@ -8,3 +8,4 @@ pub mod SizeLaws
 pub mod PreorderLaws
 pub mod PreorderAccepted
 pub mod SonTypeLaws
+pub mod BlockLaws
