@@ -1,1 +1,3 @@
 pub mod Neighbour
+pub mod Calls
+pub mod Search

@@ -9,3 +9,5 @@ pub mod PreorderLaws
 pub mod PreorderAccepted
 pub mod SonTypeLaws
 pub mod BlockLaws
+pub mod HolderLaws
+pub mod AskedLaws

@@ -1,0 +1,5 @@
+pub mod SearchLaws
+pub mod StepLaws
+pub mod TurnLaws
+pub mod FoundLaws
+pub mod CornerLaws
