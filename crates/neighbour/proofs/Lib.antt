@@ -3,3 +3,4 @@ pub mod StepLaws
 pub mod TurnLaws
 pub mod FoundLaws
 pub mod CornerLaws
+pub mod CallLaws

@@ -2,15 +2,16 @@
 use mathlib.Core.Bool.{Bool, true, false, cond}
 use mathlib.Core.List.{List}
 use mathlib.Core.Path.{_≡_, refl, ap, sym, _∙_}
-use Prim.Native.Nat.{ℕ, _+_, _-_, _<_}
+use Prim.Native.Nat.{ℕ, _+_, _-_, _≤_, _<_}
 use lib.Dec.{eqb}
 use borrow.Author.Tests.{eq-eqb, ne-eqb}
-use Rattle.quad.specs.Numbers.{forkType}
+use Rattle.answer.specs.declared.Outcome.the-variants.{Answered}
+use Rattle.quad.specs.Numbers.{forkType, none}
 use Rattle.table.specs.Table.{nodes, father, son, type, isFork}
 use Rattle.table.specs.Nodes.{firstQuadrant, sonType}
 use Rattle.neighbour.specs.declared.Found.{Found}
 use Rattle.neighbour.specs.declared.Found.the-variants.{At, Off}
-use Rattle.neighbour.specs.Search.{downTo, Steps}
+use Rattle.neighbour.specs.Search.{outcomeOf, downTo, Steps, Small}
 
 -- document 000's SONTYPE, test by test: a, b, c are the father's first sons
 module _ (T : List ℕ) (p f a : ℕ) (up : f ≡ father T p) (ea : a ≡ son T f 0) where
@@ -47,3 +48,11 @@ module _ (T : List ℕ) (q : ℕ) (found : Found) where
 pub steps-at : (T : List ℕ) (found : Found) (m l : ℕ) → Steps T found → found ≡ At m l → (m < nodes T) × (0 < l)
 unfolding Steps
 steps-at T found m l h e = rw e at h
+
+-- what was found as an outcome
+pub outcome-at : (found : Found) (m l : ℕ) → found ≡ At m l → Answered m ≡ outcomeOf found
+outcome-at found m l e = rw e
+
+pub small-at : (found : Found) (m l : ℕ) → Small found → found ≡ At m l → m ≤ none
+unfolding Small
+small-at found m l h e = rw e at h

@@ -1,3 +1,7 @@
+-- `neighbour::asked` is the check, then the test for 6. Assumes nothing.
+use Rattle.neighbour.proofs.CallLaws.{bounds}
+use Rattle.answer.proofs.OutcomeLaws.{thens}
+use Rattle.table.specs.Rules.{askedOf}
 use borrow.Author.Needs.{needs}
 use Rattle.neighbour.proofs.asked.Statement.{statement}
 use Rattle.neighbour.proofs.asked.Tie as tie
@@ -17,7 +21,8 @@ answered-requires c κs = search needs
 
 -- src/lib.rt:138:9
 returns : tie.Need-returns
-returns c = ?
+unfolding askedOf
+returns c = search (thens, bounds, needs)
 
 -- src/lib.rt:140:8
 node-count-requires : tie.Need-node-count-requires
@@ -25,11 +30,13 @@ node-count-requires c κs = search needs
 
 -- src/lib.rt:141:9
 returns-2 : tie.Need-returns-2
-returns-2 c = ?
+unfolding askedOf
+returns-2 c = search (thens, bounds, needs)
 
 -- src/lib.rt:133:1
 returns-3 : tie.Need-returns-3
-returns-3 c = ?
+unfolding askedOf
+returns-3 c = search (thens, bounds, needs)
 
 pub asked-spec : {M : Type 1} → statement M
 asked-spec =

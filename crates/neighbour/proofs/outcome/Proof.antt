@@ -1,3 +1,6 @@
+-- `neighbour::outcome` takes what was found apart. Assumes nothing.
+use native.Mathlib.Omega.{arith}
+use Rattle.neighbour.proofs.StepLaws.{outcome-at, small-at}
 use borrow.Author.Needs.{needs}
 use Rattle.neighbour.proofs.outcome.Statement.{statement}
 use Rattle.neighbour.proofs.outcome.Tie as tie
@@ -18,11 +21,11 @@ returns c = search needs
 
 -- src/lib.rt:129:32
 cast-t3 : tie.Need-cast-t3
-cast-t3 c = ?
+cast-t3 c = omega (arith, small-at _ _ _ (c .before .before .before .pre) (c .before .found .given .1))
 
 -- src/lib.rt:122:1
 returns-2 : tie.Need-returns-2
-returns-2 c = ?
+returns-2 c = search (outcome-at, needs)
 
 pub outcome-spec : {M : Type 1} → statement M
 outcome-spec = tie.close (tie.spec enum-known-found enum-told returns cast-t3 returns-2)
