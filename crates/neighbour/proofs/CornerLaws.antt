@@ -13,6 +13,7 @@ use lib.Pow.{pow-pos}
 use borrow.Author.Tests.{lt-ltb, eqb-true}
 use Rattle.base.proofs.AllLaws.{all-at}
 use Rattle.base.proofs.BoolLaws.{by-bool}
+use Rattle.base.proofs.CaseLaws.{cond-case}
 use Rattle.answer.specs.declared.Outcome.{Outcome}
 use Rattle.answer.specs.declared.Outcome.the-variants.{Answered, NoBlock}
 use Rattle.quad.specs.Block.{column, row, Quadrants}
@@ -20,7 +21,7 @@ use Rattle.quad.specs.Direction.{adjOf, diagonal}
 use Rattle.table.specs.Table.{nodes, son, isFork}
 use Rattle.table.specs.Rules.{depthTo, Accepted}
 use Rattle.table.specs.Nodes.{pathTo, holder, levelOf}
-use Rattle.table.proofs.AcceptedLaws.{depth-le, depth-son, fork-deep}
+use Rattle.table.proofs.AcceptedLaws.{depth-le, sons-of, depth-son, fork-deep}
 use Rattle.table.proofs.HolderLaws.{Held, held, path-quadrants, own-depth}
 use Rattle.neighbour.specs.Neighbour.{beside, leafBeyond, cornerColumn, cornerRow}
 use Rattle.neighbour.specs.declared.Found.{Found}
@@ -110,6 +111,17 @@ module _ (n : ℕ) (T : List ℕ) (acc : Accepted n T) (q p : ℕ) where
   unfolding cornerUnder
   corner-leaf f = sym (down-still T q (levelOf n T p) p f)
 
+  -- it is a node
+  pub corner-below : p < nodes T → q < 4 → cornerUnder n T q p < nodes T
+  unfolding cornerUnder cornerDown
+  corner-below lt q4 = go (levelOf n T p)
+    where
+      go : (k : ℕ) → cornerDown T q k p < nodes T
+      go zero = lt
+      go (suc k) =
+          let m : ℕ = cornerDown T q k p in
+          cond-case (λ (x : ℕ). x < nodes T) (isFork T m) (son T m q) m (λ f. sons-of n T acc m (go k) f q q4 .below) (λ f. go k)
+
 -- a corner that a side has at one end, and a corner in its own diagonal, go on in that direction
 pub side-on : (D C : ℕ) → D < 4 → adjOf D C ≡ true → onwardOf D C ≡ D
 unfolding onwardOf
@@ -173,3 +185,17 @@ module _ (n : ℕ) (T : List ℕ) (p D C : ℕ) (z : Cornered n T p D C) where
 
   pub beyond-off : foundIn n T 0 (moved D (pathTo T n p)) ≡ Off → NoBlock ≡ leafBeyond n T p C D
   beyond-off e = off-at (moved D (pathTo T n p)) e ∙ sym beyond-moved
+
+  -- what was found is a node
+  node-at : (w : Where) → MovedTo D (pathTo T n p) w → (m l : ℕ) → foundIn n T 0 w ≡ At m l → m < nodes T
+  unfolding MovedTo foundIn
+  node-at off d m l e = absurd (let z : _≡_ {A = ℕ} 0 1 = cc in omega arith)
+  node-at (block ρ) d m l e =
+      let em : holder T ρ ≡ m = cc in
+      rw em at (held n T acc ρ (d .quadrants) .below)
+
+  pub beyond-node : (m l : ℕ) → foundIn n T 0 (moved D (pathTo T n p)) ≡ At m l → m < nodes T
+  beyond-node m l e = node-at (moved D (pathTo T n p)) landed m l e
+
+  pub mirror-small : mirrorOf D C < 4
+  mirror-small = steers D C (omega (arith, z .way)) (z .corner) .small

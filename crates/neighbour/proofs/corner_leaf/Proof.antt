@@ -1,48 +1,54 @@
+-- `neighbour::corner_leaf`: the tests in their order, then the leaf beyond the corner in the side's direction. Assumes nothing.
+use Rattle.base.proofs.BoolLaws.{on}
+use native.Mathlib.Omega.{arith}
+use Rattle.answer.proofs.OutcomeLaws.{thens, then-go}
+use Rattle.table.proofs.AskedLaws.{Asked, asked-call}
+use Rattle.neighbour.specs.Neighbour.{cornerLeafOf}
+use Rattle.neighbour.specs.Search.{Cornered}
+use Rattle.neighbour.proofs.CallLaws.{bounds, good-within, good-joined}
+use Rattle.neighbour.proofs.CornerLaws.{side-on}
 use borrow.Author.Needs.{needs}
 use Rattle.neighbour.proofs.corner_leaf.Statement.{statement}
 use Rattle.neighbour.proofs.corner_leaf.Tie as tie
-use Rattle.neighbour.proofs.corner_leaf.Reads as reads
-use Rattle.neighbour.proofs.corner_leaf.Lts as lts
-use Rattle.answer.proofs.answered.Reads as answered-reads
-use Rattle.neighbour.proofs.asked.Reads as asked-reads
-use Rattle.neighbour.proofs.leaf_beyond.Reads as leaf-beyond-reads
-use Rattle.quad.proofs.adj.Reads as adj-reads
 
--- src/lib.rt:194:9
 asked-requires : tie.Need-asked-requires
 asked-requires c κs = search needs
 
--- src/lib.rt:195:9
 answered-requires : tie.Need-answered-requires
 answered-requires c κs = search needs
 
--- src/lib.rt:196:9
 returns : tie.Need-returns
-returns c = ?
+unfolding cornerLeafOf
+returns c = search (thens, bounds, needs)
 
--- src/lib.rt:199:9
 returns-2 : tie.Need-returns-2
-returns-2 c = ?
+unfolding cornerLeafOf
+returns-2 c = search (thens, bounds, needs)
 
--- src/lib.rt:202:9
 returns-3 : tie.Need-returns-3
-returns-3 c = ?
+unfolding cornerLeafOf
+returns-3 c = search (thens, bounds, needs)
 
--- src/lib.rt:204:9
 adj-requires : tie.Need-adj-requires
 adj-requires c κs = search needs
 
--- src/lib.rt:205:9
 returns-4 : tie.Need-returns-4
-returns-4 c = ?
+unfolding cornerLeafOf
+returns-4 c = search (thens, bounds, needs)
 
--- src/lib.rt:207:5
 leaf-beyond-requires : tie.Need-leaf-beyond-requires
-leaf-beyond-requires c κs = ?
+leaf-beyond-requires c κs =
+    let s = c .before .before .before .before .before .before .before .before .args in
+    let k = asked-call _ _ _ _ _ (c .before .before .before .before .before .before .asked .ensures) (c .before .before .before .before .before .answered .ensures) (c .before .before .before .before .if1 .left) in
+    record { accepted = k .accepted; node = k .node; way = omega arith; corner = omega arith; on = side-on (s .side) (s .corner) (omega arith) (on _ _ (c .before .adj .ensures) (c .if4 .left)) }
 
--- src/lib.rt:191:1
 returns-5 : tie.Need-returns-5
-returns-5 c = ?
+unfolding cornerLeafOf
+returns-5 c =
+    let s = c .before .before .before .before .before .before .before .before .before .args in
+    then-go _ _ _ _ (c .before .before .before .before .before .before .before .asked .ensures) (c .before .before .before .before .before .before .answered .ensures) _ (c .before .before .before .before .before .if1 .left)
+    (good-within 3 (s .side) _ _ (omega arith)
+    (good-within 3 (s .corner) _ _ (omega arith) (good-joined _ _ _ _ (c .before .before .adj .ensures) _ (c .before .if4 .left) (c .leaf-beyond .ensures))))
 
 pub corner-leaf-spec : {M : Type 1} → statement M
 corner-leaf-spec =

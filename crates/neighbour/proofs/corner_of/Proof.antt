@@ -10,9 +10,6 @@ use Rattle.neighbour.specs.Search.{cornerUnder}
 use Rattle.neighbour.proofs.CornerLaws.{corner-fork, corner-leaf}
 use Rattle.neighbour.proofs.corner_of.Statement.{statement}
 use Rattle.neighbour.proofs.corner_of.Tie as tie
-use Rattle.neighbour.proofs.corner_of.Reads as reads
-use Rattle.neighbour.proofs.corner_of.Lts as lts
-use Rattle.table.proofs.word_at.Reads as word-at-reads
 
 abbrev Inv-loop : tie.InvT-loop
 Inv-loop n table node quadrant p₀ p = (p < nodes table) × (cornerUnder n table quadrant p ≡ cornerUnder n table quadrant node)
@@ -20,38 +17,31 @@ Inv-loop n table node quadrant p₀ p = (p < nodes table) × (cornerUnder n tabl
 abbrev μ-loop : tie.MeasureT-loop
 μ-loop n table node quadrant p₀ p = nodes table - p
 
--- src/lib.rt:166:5
 loop-holds : tie.Need-loop-holds Inv-loop μ-loop
 loop-holds c = (c .before .pre .1, refl)
 
--- src/lib.rt:166:11
 word-at-requires : tie.Need-word-at-requires Inv-loop μ-loop
 word-at-requires c κs = (c .loop .inv .0, omega arith)
 
--- src/lib.rt:167:31
 add-word-at : tie.Need-add-word-at Inv-loop μ-loop
 add-word-at c = omega (arith, c .before .before .before .before .pre .2)
 
--- src/lib.rt:167:9
 word-at-requires-2 : tie.Need-word-at-requires-2 Inv-loop μ-loop
 word-at-requires-2 c κs = (c .before .before .loop .inv .0, omega (arith, c .before .before .before .before .pre .2))
 
--- src/lib.rt:166:5
 loop-less : tie.Need-loop-less Inv-loop μ-loop
-loop-less c = 
+loop-less c =
     let z = c .before .before .before .before .before .pre in
     let i = sons-of _ _ (z .0) _ (c .before .before .before .loop .inv .0) (eq-eqb _ _ (sym (c .before .before .word-at .ensures) ∙ c .before .if1 .taken)) _ (z .2) in
     omega (arith, i .above, i .below, c .word-at2 .ensures)
 
--- src/lib.rt:166:5
 loop-again : tie.Need-loop-again Inv-loop μ-loop
-loop-again c = 
+loop-again c =
     let z = c .before .before .before .before .before .pre in
     let v = c .before .before .before .loop .inv in
     let f = eq-eqb _ _ (sym (c .before .before .word-at .ensures) ∙ c .before .if1 .taken) in
     rw (c .word-at2 .ensures) (sons-of _ _ (z .0) _ (v .0) f _ (z .2) .below, corner-fork _ _ (z .0) _ _ (v .0) (z .2) f ∙ v .1)
 
--- src/lib.rt:161:1
 returns : tie.Need-returns Inv-loop μ-loop
 returns c = corner-leaf _ _ (c .before .before .before .before .pre .0) _ _ (ne-eqb _ _ (λ e. c .if1 .left (c .before .word-at .ensures ∙ e))) ∙ c .before .before .loop .inv .1
 

@@ -1,39 +1,41 @@
+-- `neighbour::diagonal_leaf`: the tests in their order, then the leaf beyond the corner in its own diagonal. Assumes nothing.
+use native.Mathlib.Omega.{arith}
+use Rattle.answer.proofs.OutcomeLaws.{thens}
+use Rattle.table.proofs.AskedLaws.{Asked, asked-call}
+use Rattle.neighbour.specs.Neighbour.{diagonalLeafOf}
+use Rattle.neighbour.specs.Search.{Cornered}
+use Rattle.neighbour.proofs.CallLaws.{bounds}
+use Rattle.neighbour.proofs.CornerLaws.{diagonal-on}
 use borrow.Author.Needs.{needs}
 use Rattle.neighbour.proofs.diagonal_leaf.Statement.{statement}
 use Rattle.neighbour.proofs.diagonal_leaf.Tie as tie
-use Rattle.neighbour.proofs.diagonal_leaf.Reads as reads
-use Rattle.neighbour.proofs.diagonal_leaf.Lts as lts
-use Rattle.answer.proofs.answered.Reads as answered-reads
-use Rattle.neighbour.proofs.asked.Reads as asked-reads
-use Rattle.neighbour.proofs.leaf_beyond.Reads as leaf-beyond-reads
 
--- src/lib.rt:214:9
 asked-requires : tie.Need-asked-requires
 asked-requires c κs = search needs
 
--- src/lib.rt:215:9
 answered-requires : tie.Need-answered-requires
 answered-requires c κs = search needs
 
--- src/lib.rt:216:9
 returns : tie.Need-returns
-returns c = ?
+unfolding diagonalLeafOf
+returns c = search (thens, bounds, needs)
 
--- src/lib.rt:219:9
 returns-2 : tie.Need-returns-2
-returns-2 c = ?
+unfolding diagonalLeafOf
+returns-2 c = search (thens, bounds, needs)
 
--- src/lib.rt:225:9
 add-leaf-beyond : tie.Need-add-leaf-beyond
 add-leaf-beyond c = search needs
 
--- src/lib.rt:221:5
 leaf-beyond-requires : tie.Need-leaf-beyond-requires
-leaf-beyond-requires c κs = ?
+leaf-beyond-requires c κs =
+    let s = c .before .before .before .before .before .args in
+    let k = asked-call _ _ _ _ _ (c .before .before .before .asked .ensures) (c .before .before .answered .ensures) (c .before .if1 .left) in
+    record { accepted = k .accepted; node = k .node; way = omega arith; corner = omega arith; on = diagonal-on (s .corner) (omega arith) }
 
--- src/lib.rt:211:1
 returns-3 : tie.Need-returns-3
-returns-3 c = ?
+unfolding diagonalLeafOf
+returns-3 c = search (thens, bounds, needs)
 
 pub diagonal-leaf-spec : {M : Type 1} → statement M
 diagonal-leaf-spec =

@@ -6,20 +6,15 @@ use Rattle.neighbour.specs.Search.{Sought}
 use Rattle.neighbour.proofs.FoundLaws.{found-neighbour}
 use Rattle.neighbour.proofs.find.Statement.{statement}
 use Rattle.neighbour.proofs.find.Tie as tie
-use Rattle.neighbour.proofs.find.Reads as reads
-use Rattle.neighbour.proofs.find.Lts as lts
-use Rattle.neighbour.proofs.seek.Reads as seek-reads
 
--- src/lib.rt:116:5
 seek-requires : tie.Need-seek-requires
-seek-requires c κs = 
+seek-requires c κs =
     let s = c .before .args in
     let z = c .before .pre in
     record { accepted = z .0; node = z .1; low = omega (arith, z .2, depth-le (s .table .now) (s .n) (s .p)); way = omega (arith, z .3) }
 
--- src/lib.rt:112:1
 returns : tie.Need-returns
-returns c = 
+returns c =
     let z = c .before .before .pre in
     c .seek .ensures ∙ rw (z .2) (found-neighbour _ _ (z .0) _ _ (z .1) (omega (arith, z .3)))
 

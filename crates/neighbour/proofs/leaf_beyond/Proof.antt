@@ -1,43 +1,48 @@
+-- `neighbour::leaf_beyond`: the neighbour, then down by the mirrored corner, is the leaf that holds the pixel beyond. Assumes nothing.
+use mathlib.Core.Path.{_≡_, sym, _∙_}
+use Prim.Native.Nat.{_<_}
+use native.Mathlib.Omega.{arith}
+use Rattle.table.proofs.AcceptedLaws.{depth-le}
+use Rattle.neighbour.specs.Search.{Sought, Cornered}
+use Rattle.neighbour.proofs.CornerLaws.{beyond-off, beyond-node, beyond-at, mirror-small, corner-below}
 use borrow.Author.Needs.{needs}
 use Rattle.neighbour.proofs.leaf_beyond.Statement.{statement}
 use Rattle.neighbour.proofs.leaf_beyond.Tie as tie
-use Rattle.neighbour.proofs.leaf_beyond.Reads as reads
-use Rattle.neighbour.proofs.leaf_beyond.Lts as lts
-use Rattle.neighbour.proofs.corner_of.Reads as corner-of-reads
-use Rattle.neighbour.proofs.mirror.Reads as mirror-reads
-use Rattle.neighbour.proofs.seek.Reads as seek-reads
 
--- src/lib.rt:182:9
 seek-requires : tie.Need-seek-requires
-seek-requires c κs = ?
+seek-requires c κs =
+    let s = c .before .args in
+    let z = c .before .pre in
+    record { accepted = z .accepted; node = z .node; low = omega (arith, depth-le (s .table .now) (s .n) (s .p)); way = omega (arith, z .way) }
 
--- src/lib.rt:183:21
 enum-known-found : tie.Need-enum-known-found
 enum-known-found c = search needs
 
--- src/lib.rt:184:9
 enum-told : tie.Need-enum-told
 enum-told c = search needs
 
--- src/lib.rt:184:9
 returns : tie.Need-returns
-returns c = ?
+returns c = beyond-off _ _ _ _ _ (c .before .before .before .before .pre) (sym (c .before .before .seek .ensures) ∙ c .enum-told .given .1)
 
--- src/lib.rt:186:42
 mirror-requires : tie.Need-mirror-requires
 mirror-requires c κs = search needs
 
--- src/lib.rt:186:9
 corner-of-requires : tie.Need-corner-of-requires
-corner-of-requires c κs = ?
+corner-of-requires c κs =
+    let z = c .before .before .before .before .before .before .pre in
+    (z .accepted, beyond-node _ _ _ _ _ z _ _ (sym (c .before .before .before .before .seek .ensures) ∙ c .before .before .found .given .1), rw (c .mirror .ensures) (mirror-small _ _ _ _ _ z))
 
--- src/lib.rt:187:32
 cast-t10 : tie.Need-cast-t10
-cast-t10 c = ?
+cast-t10 c =
+    let z = c .before .before .before .before .before .before .before .pre in
+    let lt = beyond-node _ _ _ _ _ z _ _ (sym (c .before .before .before .before .before .seek .ensures) ∙ c .before .before .before .found .given .1) in
+    let q4 : c .before .mirror .result < 4 = rw (c .before .mirror .ensures) (mirror-small _ _ _ _ _ z) in
+    omega (arith, c .corner-of .ensures, corner-below _ _ (z .accepted) _ _ lt q4, z .accepted .sized .few)
 
--- src/lib.rt:178:1
 returns-2 : tie.Need-returns-2
-returns-2 c = ?
+returns-2 c =
+    let z = c .before .before .before .before .before .before .before .pre in
+    rw (c .corner-of .ensures, c .before .mirror .ensures) (beyond-at _ _ _ _ _ z _ _ (sym (c .before .before .before .before .before .seek .ensures) ∙ c .before .before .before .found .given .1))
 
 pub leaf-beyond-spec : {M : Type 1} → statement M
 leaf-beyond-spec =

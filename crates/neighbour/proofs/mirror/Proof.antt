@@ -4,25 +4,17 @@ use Rattle.neighbour.specs.Search.{mirrorOf}
 use borrow.Author.Needs.{needs}
 use Rattle.neighbour.proofs.mirror.Statement.{statement}
 use Rattle.neighbour.proofs.mirror.Tie as tie
-use Rattle.neighbour.proofs.mirror.Reads as reads
-use Rattle.neighbour.proofs.mirror.Lts as lts
-use Rattle.quad.proofs.opquad.Reads as opquad-reads
-use Rattle.quad.proofs.reflect.Reads as reflect-reads
 
--- src/lib.rt:57:9
 reflect-requires : tie.Need-reflect-requires
 reflect-requires c κs = search needs
 
--- src/lib.rt:57:9
 returns : tie.Need-returns
 unfolding mirrorOf
 returns c = search (cases, needs)
 
--- src/lib.rt:59:5
 opquad-requires : tie.Need-opquad-requires
 opquad-requires c κs = search needs
 
--- src/lib.rt:52:1
 returns-2 : tie.Need-returns-2
 unfolding mirrorOf
 returns-2 c = search (cases, needs)

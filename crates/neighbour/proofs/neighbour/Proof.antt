@@ -11,49 +11,36 @@ use Rattle.neighbour.proofs.FoundLaws.{besideNode, found-small, found-o
 use borrow.Author.Needs.{needs}
 use Rattle.neighbour.proofs.neighbour.Statement.{statement}
 use Rattle.neighbour.proofs.neighbour.Tie as tie
-use Rattle.neighbour.proofs.neighbour.Reads as reads
-use Rattle.neighbour.proofs.neighbour.Lts as lts
-use Rattle.answer.proofs.answered.Reads as answered-reads
-use Rattle.neighbour.proofs.asked.Reads as asked-reads
-use Rattle.neighbour.proofs.outcome.Reads as outcome-reads
-use Rattle.neighbour.proofs.seek.Reads as seek-reads
 
--- src/lib.rt:150:9
 asked-requires : tie.Need-asked-requires
 asked-requires c κs = search needs
 
--- src/lib.rt:151:9
 answered-requires : tie.Need-answered-requires
 answered-requires c κs = search needs
 
--- src/lib.rt:152:9
 returns : tie.Need-returns
 unfolding neighbourOf
 returns c = search (thens, bounds, needs)
 
--- src/lib.rt:155:9
 returns-2 : tie.Need-returns-2
 unfolding neighbourOf
 returns-2 c = search (thens, bounds, needs)
 
--- src/lib.rt:157:13
 seek-requires : tie.Need-seek-requires
-seek-requires c κs = 
+seek-requires c κs =
     let s = c .before .before .before .before .before .args in
     let k = asked-call _ _ _ _ _ (c .before .before .before .asked .ensures) (c .before .before .answered .ensures) (c .before .if1 .left) in
     record { accepted = k .accepted; node = k .node; low = omega (arith, depth-le (s .table .now) (s .n) (s .node)); way = omega arith }
 
--- src/lib.rt:157:5
 outcome-requires : tie.Need-outcome-requires
-outcome-requires c κs = 
+outcome-requires c κs =
     let s = c .before .before .before .before .before .before .args in
     let k = asked-call _ _ _ _ _ (c .before .before .before .before .asked .ensures) (c .before .before .before .answered .ensures) (c .before .before .if1 .left) in
     rw (c .seek .ensures) (found-small _ _ (k .accepted) _ _ (k .node) (omega arith) 0)
 
--- src/lib.rt:147:1
 returns-3 : tie.Need-returns-3
 unfolding neighbourOf
-returns-3 c = 
+returns-3 c =
     let s = c .before .before .before .before .before .before .before .args in
     let k = asked-call _ _ _ _ _ (c .before .before .before .before .before .asked .ensures) (c .before .before .before .before .answered .ensures) (c .before .before .before .if1 .left) in
     let e : c .outcome .result ≡ besideNode (s .n) (s .table .now) (s .node) (s .direction) = c .outcome .ensures ∙ rw (c .before .seek .ensures) (found-outcome _ _ (k .accepted) _ _ (k .node) (omega arith) 0) in

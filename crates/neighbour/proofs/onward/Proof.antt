@@ -8,45 +8,32 @@ use Rattle.neighbour.specs.Search.{onwardOf}
 use borrow.Author.Needs.{needs}
 use Rattle.neighbour.proofs.onward.Statement.{statement}
 use Rattle.neighbour.proofs.onward.Tie as tie
-use Rattle.neighbour.proofs.onward.Reads as reads
-use Rattle.neighbour.proofs.onward.Lts as lts
-use Rattle.neighbour.proofs.shared_side.Reads as shared-side-reads
-use Rattle.quad.proofs.adj.Reads as adj-reads
-use Rattle.quad.proofs.opquad.Reads as opquad-reads
 
--- src/lib.rt:36:12
 adj-requires : tie.Need-adj-requires
 adj-requires c κs = search needs
 
--- src/lib.rt:37:13
 returns : tie.Need-returns
 unfolding onwardOf
 returns c = search (cases, needs)
 
--- src/lib.rt:39:9
 returns-2 : tie.Need-returns-2
 unfolding onwardOf
 returns-2 c = search (cases, needs)
 
--- src/lib.rt:42:20
 opquad-requires : tie.Need-opquad-requires
 opquad-requires c κs = search needs
 
--- src/lib.rt:43:9
 returns-3 : tie.Need-returns-3
 returns-3 c = search (onward-opposite, needs)
 
--- src/lib.rt:46:9
 returns-4 : tie.Need-returns-4
 returns-4 c = search (onward-corner, needs)
 
--- src/lib.rt:48:5
 shared-side-requires : tie.Need-shared-side-requires
 shared-side-requires c κs =
     let s = c .before .before .before .before .args in
     (search needs, omega arith, side-defined (s .quadrant) (s .direction - 4) (search needs) (omega arith) (λ e. c .before .if3 .left (e ∙ sym (c .before .before .opquad .ensures))) (c .if4 .left))
 
--- src/lib.rt:31:1
 returns-5 : tie.Need-returns-5
 returns-5 c = search (onward-shared, needs)
 

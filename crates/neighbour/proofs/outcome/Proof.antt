@@ -4,26 +4,19 @@ use Rattle.neighbour.proofs.StepLaws.{outcome-at, small-at}
 use borrow.Author.Needs.{needs}
 use Rattle.neighbour.proofs.outcome.Statement.{statement}
 use Rattle.neighbour.proofs.outcome.Tie as tie
-use Rattle.neighbour.proofs.outcome.Reads as reads
-use Rattle.neighbour.proofs.outcome.Lts as lts
 
--- src/lib.rt:126:21
 enum-known-found : tie.Need-enum-known-found
 enum-known-found c = search needs
 
--- src/lib.rt:127:9
 enum-told : tie.Need-enum-told
 enum-told c = search needs
 
--- src/lib.rt:127:9
 returns : tie.Need-returns
 returns c = search needs
 
--- src/lib.rt:129:32
 cast-t3 : tie.Need-cast-t3
 cast-t3 c = omega (arith, small-at _ _ _ (c .before .before .before .pre) (c .before .found .given .1))
 
--- src/lib.rt:122:1
 returns-2 : tie.Need-returns-2
 returns-2 c = search (outcome-at, needs)
 

@@ -3,39 +3,28 @@ use Rattle.neighbour.proofs.StepLaws.{type-nw, type-ne, type-sw, type-s
 use borrow.Author.Needs.{needs}
 use Rattle.neighbour.proofs.son_type.Statement.{statement}
 use Rattle.neighbour.proofs.son_type.Tie as tie
-use Rattle.neighbour.proofs.son_type.Reads as reads
-use Rattle.neighbour.proofs.son_type.Lts as lts
-use Rattle.table.proofs.word_at.Reads as word-at-reads
 
--- src/lib.rt:67:9
 word-at-requires : tie.Need-word-at-requires
 word-at-requires c κs = search needs
 
--- src/lib.rt:68:8
 word-at-requires-2 : tie.Need-word-at-requires-2
 word-at-requires-2 c κs = search needs
 
--- src/lib.rt:69:9
 returns : tie.Need-returns
 returns c = search (type-nw, needs)
 
--- src/lib.rt:71:8
 word-at-requires-3 : tie.Need-word-at-requires-3
 word-at-requires-3 c κs = search needs
 
--- src/lib.rt:72:9
 returns-2 : tie.Need-returns-2
 returns-2 c = search (type-ne, needs)
 
--- src/lib.rt:74:8
 word-at-requires-4 : tie.Need-word-at-requires-4
 word-at-requires-4 c κs = search needs
 
--- src/lib.rt:75:9
 returns-3 : tie.Need-returns-3
 returns-3 c = search (type-sw, needs)
 
--- src/lib.rt:63:1
 returns-4 : tie.Need-returns-4
 returns-4 c = search (type-se, needs)
 
