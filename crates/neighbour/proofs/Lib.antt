@@ -4,3 +4,5 @@ pub mod TurnLaws
 pub mod FoundLaws
 pub mod CornerLaws
 pub mod CallLaws
+pub mod SmallestLaws
+pub mod NeighbourLaws

@@ -148,14 +148,18 @@ and-no true true h = absurd (h refl refl)
 and-no true false h = refl
 and-no false b h = refl
 
-stays-of : (d x s : ℕ) → stays (2 ^ d) x s ≡ true → Stays d x s
+pub stays-of : (d x s : ℕ) → stays (2 ^ d) x s ≡ true → Stays d x s
 stays-of d x s e = record {
   low = ltb-true _ _ (and-left (ltb 0 (x + s)) (leb (x + s) (2 ^ d)) e);
   high = leb-true _ _ (and-right (ltb 0 (x + s)) (leb (x + s) (2 ^ d)) e);
 }
 
-stays-true : (d x s y : ℕ) → y < 2 ^ d → y + 1 ≡ x + s → stays (2 ^ d) x s ≡ true
-stays-true d x s y lt e = rw (lt-ltb 0 (x + s) (omega arith), le-leb (x + s) (2 ^ d) (omega arith))
+pub stays-both : (d x s : ℕ) → Stays d x s → stays (2 ^ d) x s ≡ true
+stays-both d x s h = rw (lt-ltb 0 (x + s) (h .low), le-leb (x + s) (2 ^ d) (h .high))
+
+-- where the moved column or row is y
+stays-at : (d x s y : ℕ) → y < 2 ^ d → y + 1 ≡ x + s → stays (2 ^ d) x s ≡ true
+stays-at d x s y lt e = stays-both d x s (record { low = omega arith; high = omega arith })
 
 -- the smallest node that contains a block, or code 20
 unfoldable pub heldBy : List ℕ → Where → Outcome
@@ -167,8 +171,8 @@ unfolding MovedTo beside heldBy
 beside-at T D π off m =
     rw (and-no (stays (2 ^ length π) (column π) (eastStep D)) (stays (2 ^ length π) (row π) (southStep D)) (λ a b. m (stays-of _ _ _ a) (stays-of _ _ _ b)))
 beside-at T D π (block ρ) m =
-    let x = stays-true (length π) (column π) (eastStep D) (column ρ) (rw (← m .size) (column-lt ρ (m .quadrants))) (m .east) in
-    let y = stays-true (length π) (row π) (southStep D) (row ρ) (rw (← m .size) (row-lt ρ (m .quadrants))) (m .south) in
+    let x = stays-at (length π) (column π) (eastStep D) (column ρ) (rw (← m .size) (column-lt ρ (m .quadrants))) (m .east) in
+    let y = stays-at (length π) (row π) (southStep D) (row ρ) (rw (← m .size) (row-lt ρ (m .quadrants))) (m .south) in
     let cx : column π + eastStep D - 1 ≡ column ρ = omega (arith, m) in
     let cy : row π + southStep D - 1 ≡ row ρ = omega (arith, m) in
     rw (x, y, cx, cy, ← m .size, path-back ρ (m .quadrants))

@@ -2,3 +2,4 @@ pub mod TableLaws
 pub mod PathLaws
 pub mod TreeLaws
 pub mod PictureLaws
+pub mod UpperLaws
