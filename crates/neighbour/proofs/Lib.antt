@@ -6,3 +6,4 @@ pub mod CornerLaws
 pub mod CallLaws
 pub mod SmallestLaws
 pub mod NeighbourLaws
+pub mod OutcomeTheorems
