@@ -93,12 +93,12 @@ module _ (n : ℕ) (T : List ℕ) (acc : Accepted n T) where
     holder-smallest = record {
       contains = holder-contains;
       others = λ k c ne.
-        let a : ℕ = depthTo T n k in
-        let b : ℕ = depthTo T n (holder T (pathOf d x y)) in
-        ⊎-elim
-        (λ (e : a ≡ b). absurd (ne (same-depth k c e)))
-        (λ (l : a < b). pow-lt {i = n - b} {j = n - a} (omega (arith, depth-le T n (holder T (pathOf d x y)))))
-        (eq-or-lt-of-le (deepest k c));
+          let a : ℕ = depthTo T n k in
+          let b : ℕ = depthTo T n (holder T (pathOf d x y)) in
+          ⊎-elim
+          (λ (e : a ≡ b). absurd (ne (same-depth k c e)))
+          (λ (l : a < b). pow-lt {i = n - b} {j = n - a} (omega (arith, depth-le T n (holder T (pathOf d x y)))))
+          (eq-or-lt-of-le (deepest k c));
     }
 
     -- a fork only at the block's own size

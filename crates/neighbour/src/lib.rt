@@ -110,8 +110,10 @@ fn seek(n: u32, table: &[u32], p: usize, level: u32, direction: usize) -> Found
     }
     let father = word_at(table, p, 0);
     let quadrant = son_type(table, p);
-    let above = seek(n, table, father, level + 1, onward(direction, quadrant));
-    down(table, above, mirror(direction, quadrant))
+    let way = onward(direction, quadrant);
+    let son = mirror(direction, quadrant);
+    let above = seek(n, table, father, level + 1, way);
+    down(table, above, son)
 }
 
 // The neighbour of p and the neighbour's level, from p and p's level.
@@ -183,7 +185,8 @@ fn leaf_beyond(n: u32, table: &[u32], p: usize, direction: usize, corner: usize)
     let Found::At { node, level: _ } = found else {
         return Outcome::NoBlock;
     };
-    let leaf = corner_of(n, table, node, mirror(direction, corner));
+    let quadrant = mirror(direction, corner);
+    let leaf = corner_of(n, table, node, quadrant);
     Outcome::Answered { value: leaf as u32 }
 }
 

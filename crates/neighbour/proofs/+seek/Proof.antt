@@ -29,7 +29,7 @@ abbrev seek-below : ℕ → In 1 seek-kinds.ps
 seek-below t = and 1 seek-kinds.ps (falls 1 seek-kinds.ps _<_ μ-seek t) seek.Pre
 
 abbrev calls : ℕ → seek-lts.Claims
-calls t = (word-at-reads.Asked, word-at-reads.Learnt, son-type-reads.Asked, son-type-reads.Learnt, onward-reads.Asked, onward-reads.Learnt, seek-below t, seek.Post, mirror-reads.Asked, mirror-reads.Learnt, down-reads.Asked, down-reads.Learnt)
+calls t = (word-at-reads.Asked, word-at-reads.Learnt, son-type-reads.Asked, son-type-reads.Learnt, onward-reads.Asked, onward-reads.Learnt, mirror-reads.Asked, mirror-reads.Learnt, seek-below t, seek.Post, down-reads.Asked, down-reads.Learnt)
 
 -- what one turn comes to, once the father and the quadrant are read
 turned : (t : ℕ) (c : seek-lts.After-son-type (calls t) (seek-at t) seek.Post)
@@ -54,29 +54,29 @@ seek-son-type-requires t c κs =
     let z = c .before .before .before .before .pre .1 in
     (z .node, rw (← c .word-at .ensures) (turn _ _ (z .accepted) _ _ _ _ _ _ _ z (c .before .if2 .left) (c .word-at .ensures) refl refl refl .father))
 
-seek-add-seek : (t : ℕ) → seek-lts.Need-add-seek (calls t) (seek-at t) seek.Post
-seek-add-seek t c =
-    let z = c .before .before .before .before .before .pre .1 in
-    omega (arith, z .low, z .accepted .sized .level)
-
 seek-onward-requires : (t : ℕ) → seek-lts.Need-onward-requires (calls t) (seek-at t) seek.Post
 seek-onward-requires t c κs = (omega (arith, c .before .before .before .before .before .pre .1 .way), turned t c .quadrant)
 
-seek-seek-requires : (t : ℕ) → seek-lts.Need-seek-requires (calls t) (seek-at t) seek.Post
-seek-seek-requires t c κs = (omega (arith, turned t (c .before) .falls), rw (c .onward .ensures) (turned t (c .before) .next))
-
 seek-mirror-requires : (t : ℕ) → seek-lts.Need-mirror-requires (calls t) (seek-at t) seek.Post
-seek-mirror-requires t c κs = (omega (arith, c .before .before .before .before .before .before .before .pre .1 .way), turned t (c .before .before) .quadrant)
+seek-mirror-requires t c κs = (omega (arith, c .before .before .before .before .before .before .pre .1 .way), turned t (c .before) .quadrant)
+
+seek-add-seek : (t : ℕ) → seek-lts.Need-add-seek (calls t) (seek-at t) seek.Post
+seek-add-seek t c =
+    let z = c .before .before .before .before .before .before .before .pre .1 in
+    omega (arith, z .low, z .accepted .sized .level)
+
+seek-seek-requires : (t : ℕ) → seek-lts.Need-seek-requires (calls t) (seek-at t) seek.Post
+seek-seek-requires t c κs = (omega (arith, turned t (c .before .before) .falls), rw (c .before .onward .ensures) (turned t (c .before .before) .next))
 
 seek-down-requires : (t : ℕ) → seek-lts.Need-down-requires (calls t) (seek-at t) seek.Post
 seek-down-requires t c κs =
     let u = turned t (c .before .before .before) in
-    (rw (c .before .seek .ensures, c .before .before .onward .ensures) (u .steps), rw (c .mirror .ensures) (u .son))
+    (rw (c .seek .ensures, c .before .before .onward .ensures) (u .steps), rw (c .before .mirror .ensures) (u .son))
 
 seek-returns-3 : (t : ℕ) → seek-lts.Need-returns-3 (calls t) (seek-at t) seek.Post
 seek-returns-3 t c =
     c .down .ensures
-    ∙ rw (c .before .before .seek .ensures, c .before .before .before .onward .ensures, c .before .mirror .ensures) (turned t (c .before .before .before .before) .gives)
+    ∙ rw (c .before .seek .ensures, c .before .before .before .onward .ensures, c .before .before .mirror .ensures) (turned t (c .before .before .before .before) .gives)
 
 pub +seek-spec : {M : Type 1} → statement M
 +seek-spec = close μ-seek λ t. seek-lts.spec (calls t)
@@ -86,9 +86,9 @@ pub +seek-spec : {M : Type 1} → statement M
     (seek-returns-2 t)
     (seek-word-at-requires t)
     (seek-son-type-requires t)
-    (seek-add-seek t)
     (seek-onward-requires t)
-    (seek-seek-requires t)
     (seek-mirror-requires t)
+    (seek-add-seek t)
+    (seek-seek-requires t)
     (seek-down-requires t)
     (seek-returns-3 t)
