@@ -199,3 +199,18 @@ module _ (n : ℕ) (T : List ℕ) (p D C : ℕ) (z : Cornered n T p D C) where
 
   pub mirror-small : mirrorOf D C < 4
   mirror-small = steers D C (omega (arith, z .way)) (z .corner) .small
+
+  -- where the neighbour is a leaf, it is the leaf beyond the corner too
+  leaf-at : (w : Where) (m : ℕ) → isFork T m ≡ false → heldBy T w ≡ Answered m → heldBy T (deepen (mirrorOf D C) (levelOf n T p) w) ≡ Answered m
+  unfolding heldBy
+  leaf-at off m f e = absurd (let z : _≡_ {A = ℕ} 0 1 = cc in omega arith)
+  leaf-at (block ρ) m f e =
+      let c : ℕ = mirrorOf D C in
+      let k : ℕ = levelOf n T p in
+      let em : holder T ρ ≡ m = cc in
+      rw (deepen-block c k ρ, heldBy, corners-holder T c k ρ, em, down-still T c k m f)
+
+  pub beyond-leaf-neighbour : (m : ℕ) → isFork T m ≡ false → (let π = pathTo T n p in beside T (length π) (column π) (row π) D ≡ Answered m)
+      → leafBeyond n T p C D ≡ Answered m
+  beyond-leaf-neighbour m f e =
+      beyond-moved ∙ leaf-at (moved D (pathTo T n p)) m f (sym (beside-moved T D (pathTo T n p) (omega (arith, z .way)) path) ∙ e)

@@ -7,3 +7,5 @@ pub mod CallLaws
 pub mod SmallestLaws
 pub mod NeighbourLaws
 pub mod OutcomeTheorems
+pub mod BackLaws
+pub mod SideLaws

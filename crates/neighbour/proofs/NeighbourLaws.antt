@@ -66,7 +66,7 @@ module _ (n : ℕ) (T : List ℕ) (acc : Accepted n T) (p : ℕ) (lt : p < nodes
 
   -- the block of p's size beside p's, and the node that is answered for it
   module _ (D m : ℕ) (h : D < 8) (e : neighbourOf n T p D ≡ Answered m) where
-    beside-p : Lies T (depthTo T n p) (column (pathTo T n p)) (row (pathTo T n p)) D m
+    pub beside-p : Lies T (depthTo T n p) (column (pathTo T n p)) (row (pathTo T n p)) D m
     beside-p = rw (own-depth n T acc p lt) at (lies T (length (pathTo T n p)) (column (pathTo T n p)) (row (pathTo T n p)) D m (sym (neighbour-is D h) ∙ e))
 
     -- it is the smallest node that contains that block

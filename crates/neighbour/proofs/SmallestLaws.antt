@@ -64,7 +64,7 @@ module _ (n : ℕ) (T : List ℕ) (acc : Accepted n T) where
         }
 
     -- a node that contains the block stands on its path
-    on-path : (m : ℕ) → Contains n T m d x y → pathTo T n m ≡ drop (d - depthTo T n m) (pathOf d x y)
+    pub on-path : (m : ℕ) → Contains n T m d x y → pathTo T n m ≡ drop (d - depthTo T n m) (pathOf d x y)
     on-path m c =
         let e : ℕ = depthTo T n m in
         let i = c .inside in

@@ -1,9 +1,11 @@
 -- 'The smallest node with side at least P's which contains that block' (document 01, 'Directions and neighbours'), word for word: what the theorems prove of
 -- the node that the calls' definitions name by `holder`.
-use mathlib.Core.List.{List}
+use mathlib.Core.List.{List, [], _∷_}
 use mathlib.Core.Path.{_≡_}
-use Prim.Native.Nat.{ℕ, _-_, _/_, _^_, _≤_, _<_}
+use Prim.Native.Nat.{ℕ, _+_, _-_, _/_, _^_, _≤_, _<_}
+use lib.ListN.{getD}
 use Rattle.quad.specs.Block.{column, row}
+use Rattle.quad.specs.Direction.{eastStep, southStep}
 use Rattle.table.specs.Table.{nodes}
 use Rattle.table.specs.Rules.{depthTo}
 use Rattle.table.specs.Nodes.{pathTo, sideOf}
@@ -23,3 +25,14 @@ pub record Contains (n : ℕ) (T : List ℕ) (m d x y : ℕ) : Type 0 where
 pub record Smallest (n : ℕ) (T : List ℕ) (m d x y : ℕ) : Type 0 where
   pub contains : Contains n T m d x y
   pub others : (k : ℕ) → Contains n T k d x y → (k ≡ m → ⊥) → sideOf n T m < sideOf n T k
+
+-- the direction that leads back
+unfoldable pub opposite : ℕ → ℕ
+opposite D = getD (2 ∷ 3 ∷ 0 ∷ 1 ∷ 7 ∷ 6 ∷ 5 ∷ 4 ∷ []) D D
+
+-- the pixel (x, y) is one of p's, and the pixel just beyond it in direction D is one of m's: for a side D, the two share a length of that side
+pub record Touches (n : ℕ) (T : List ℕ) (p m D x y : ℕ) : Type 0 where
+  pub east : 0 < x + eastStep D
+  pub south : 0 < y + southStep D
+  pub here : Contains n T p n x y
+  pub beyond : Contains n T m n (x + eastStep D - 1) (y + southStep D - 1)

@@ -1,0 +1,108 @@
+-- Leaves that share a length of side: the one that is not larger has the other as its neighbour on that side, and as the leaf at both ends of it.
+use mathlib.Core.Bool.{true, false}
+use mathlib.Core.List.{List, [], _∷_}
+use mathlib.Core.Logic.{_⊎_, inl, inr, ⊎-elim}
+use mathlib.Core.Path.{_≡_, refl, ap, sym, _∙_}
+use Prim.Native.Nat.{ℕ, zero, suc, _+_, _-_, _*_, _/_, _%_, _^_, _≤_, _<_}
+use native.Mathlib.Nat.{add-mul, div-div-eq-div-mul, div-lt-iff-lt-mul, div-add-mod', mod-lt, div-eq-of-lt-le}
+use native.Mathlib.Omega.{arith}
+use lib.ListN.{length, drop}
+use lib.Pow.{pow-pos, pow-lt, pow-add}
+use Rattle.base.proofs.BoolLaws.{lt-or-ge}
+use Rattle.answer.specs.declared.Outcome.the-variants.{Answered}
+use Rattle.quad.specs.Block.{pathOf, column, row, Quadrants}
+use Rattle.quad.specs.Direction.{eastStep, southStep, adjOf}
+use Rattle.quad.proofs.PathLaws.{column-lt, row-lt}
+use Rattle.quad.proofs.TreeLaws.{by-quadrant}
+use Rattle.table.specs.Table.{nodes, isFork}
+use Rattle.table.specs.Rules.{depthTo, Accepted}
+use Rattle.table.specs.Nodes.{pathTo, holder, levelOf, sideOf}
+use Rattle.table.proofs.AcceptedLaws.{depth-le}
+use Rattle.table.proofs.NodeLaws.{holder-leaf}
+use Rattle.table.proofs.HolderLaws.{path-quadrants, own-path, own-depth}
+use Rattle.neighbour.specs.Neighbour.{neighbourOf, leafBeyond, cornerLeafOf}
+use Rattle.neighbour.specs.Containing.{Inside, Contains, Touches}
+use Rattle.neighbour.specs.Search.{Cornered}
+use Rattle.neighbour.proofs.SearchLaws.{Stays}
+use Rattle.neighbour.proofs.CornerLaws.{side-on, beyond-leaf-neighbour}
+use Rattle.neighbour.proofs.SmallestLaws.{on-path}
+use Rattle.neighbour.proofs.FoundLaws.{besideNode}
+use Rattle.neighbour.proofs.NeighbourLaws.{lies-answers, neighbour-is, corner-is}
+
+-- the next column is in the same block of side w, or in the next one
+next-div : (w x : ℕ) → 0 < w → ((x + 1) / w ≡ x / w) ⊎ ((x + 1) / w ≡ x / w + 1)
+next-div w x pos =
+    let q : ℕ = x / w in
+    let r : x % w < w = mod-lt x pos in
+    let e : q * w + x % w ≡ x = div-add-mod' x w in
+    let a : (q + 1) * w ≡ q * w + 1 * w = add-mul q 1 w in
+    let b : (q + 1 + 1) * w ≡ (q + 1) * w + 1 * w = add-mul (q + 1) 1 w in
+    ⊎-elim
+    (λ (l : x + 1 < (q + 1) * w). inl (div-eq-of-lt-le {k = q} w (omega arith) l))
+    (λ (g : (q + 1) * w ≤ x + 1). inr (div-eq-of-lt-le {k = q + 1} w g (omega arith)))
+    (lt-or-ge (x + 1) ((q + 1) * w))
+
+-- one step along an axis stays in a block of side w, or leads to the one beside it
+axis-step : (w x s : ℕ) → 0 < w → s ≤ 2 → 0 < x + s → ((x + s - 1) / w ≡ x / w) ⊎ ((x + s - 1) / w + 1 ≡ x / w + s)
+axis-step w zero zero pos le h = absurd (omega arith)
+axis-step w (suc x) zero pos le h =
+    let e : suc x + 0 - 1 ≡ x = omega arith in
+    let f : suc x ≡ x + 1 = omega arith in
+    rw (e, f) (⊎-elim (λ (a : (x + 1) / w ≡ x / w). inl (sym a)) (λ (a : (x + 1) / w ≡ x / w + 1). inr (omega arith)) (next-div w x pos))
+axis-step w x (suc zero) pos le h =
+    let e : x + 1 - 1 ≡ x = omega arith in
+    rw e (inl refl)
+axis-step w x (suc (suc zero)) pos le h =
+    let e : x + 2 - 1 ≡ x + 1 = omega arith in
+    rw e (⊎-elim (λ (a : (x + 1) / w ≡ x / w). inl a) (λ (a : (x + 1) / w ≡ x / w + 1). inr (omega arith)) (next-div w x pos))
+axis-step w x (suc (suc (suc s))) pos le h = absurd (omega arith)
+
+-- a side goes along one axis
+straight : (D : ℕ) → D < 4 → ((eastStep D ≡ 1) × (southStep D ≤ 2)) ⊎ ((southStep D ≡ 1) × (eastStep D ≤ 2))
+unfolding eastStep southStep
+straight =
+    by-quadrant (λ (D : ℕ). ((eastStep D ≡ 1) × (southStep D ≤ 2)) ⊎ ((southStep D ≡ 1) × (eastStep D ≤ 2)))
+    (inl (refl, omega arith))
+    (inr (refl, omega arith))
+    (inl (refl, omega arith))
+    (inr (refl, omega arith))
+
+-- a block of blocks
+rescale : (n d e x : ℕ) → e ≤ d → d ≤ n → x / 2 ^ (n - d) / 2 ^ (d - e) ≡ x / 2 ^ (n - e)
+rescale n d e x le ld =
+    let s : (n - d) + (d - e) ≡ n - e = omega arith in
+    div-div-eq-div-mul x (2 ^ (n - d)) (2 ^ (d - e)) ∙ ap (λ (w : ℕ). x / w) (sym (pow-add 2 (n - d) (d - e)) ∙ ap (λ (k : ℕ). 2 ^ k) s)
+
+module _ (n : ℕ) (T : List ℕ) (acc : Accepted n T) where
+  -- what a node contains is on the sheet
+  bound : (d e x c : ℕ) → e ≤ d → x / 2 ^ (d - e) ≡ c → c < 2 ^ e → x < 2 ^ d
+  bound d e x c le q lt =
+      let s : e + (d - e) ≡ d = omega arith in
+      let b : x / 2 ^ (d - e) < 2 ^ e = rw q lt in
+      let m : x < 2 ^ e * 2 ^ (d - e) = div-lt-iff-lt-mul {k = 2 ^ (d - e)} {x = x} {y = 2 ^ e} (pow-pos (d - e)) .0 b in
+      rw (← pow-add 2 e (d - e), s) at m
+
+  on-sheet : (m d x y : ℕ) → Contains n T m d x y → (x < 2 ^ d) × (y < 2 ^ d)
+  on-sheet m d x y c =
+      let i = c .inside in
+      let o = own-depth n T acc m (c .node) in
+      let qs = path-quadrants n T acc m (c .node) in
+      let e : ℕ = depthTo T n m in
+      (bound d e x (column (pathTo T n m)) (i .large) (i .across) (rw o at (column-lt (pathTo T n m) qs)),
+       bound d e y (row (pathTo T n m)) (i .large) (i .down) (rw o at (row-lt (pathTo T n m) qs)))
+
+  -- where the holder of a larger block is a leaf, it holds the smaller one too
+  upper-leaf : (k : ℕ) (π : List ℕ) → isFork T (holder T (drop k π)) ≡ false → holder T π ≡ holder T (drop k π)
+  upper-leaf zero π f = refl
+  upper-leaf (suc k) [] f = refl
+  upper-leaf (suc k) (q ∷ qs) f =
+      let ih = upper-leaf k qs f in
+      holder-leaf T q qs (rw ih f) ∙ ih
+
+  -- a leaf that contains a block holds it
+  leaf-holds : (m d x y : ℕ) → Contains n T m d x y → isFork T m ≡ false → holder T (pathOf d x y) ≡ m
+  leaf-holds m d x y c f =
+      let s = on-sheet m d x y c in
+      let k : ℕ = d - depthTo T n m in
+      let e : holder T (drop k (pathOf d x y)) ≡ m = ap (holder T) (sym (on-path n T acc d x y (s .0) (s .1) m c)) ∙ own-path n T acc m (c .node) in
+      upper-leaf k (pathOf d x y) (rw e f) ∙ e
