@@ -87,9 +87,10 @@ module _ (n : ℕ) (T : List ℕ) (acc : Accepted n T) where
       let i = c .inside in
       let o = own-depth n T acc m (c .node) in
       let qs = path-quadrants n T acc m (c .node) in
-      let e : ℕ = depthTo T n m in
-      (bound d e x (column (pathTo T n m)) (i .large) (i .across) (rw o at (column-lt (pathTo T n m) qs)),
-       bound d e y (row (pathTo T n m)) (i .large) (i .down) (rw o at (row-lt (pathTo T n m) qs)))
+      let e : ℕ = depthTo T n m in (
+        bound d e x (column (pathTo T n m)) (i .large) (i .across) (rw o at (column-lt (pathTo T n m) qs)),
+        bound d e y (row (pathTo T n m)) (i .large) (i .down) (rw o at (row-lt (pathTo T n m) qs)),
+      )
 
   -- where the holder of a larger block is a leaf, it holds the smaller one too
   upper-leaf : (k : ℕ) (π : List ℕ) → isFork T (holder T (drop k π)) ≡ false → holder T π ≡ holder T (drop k π)
@@ -106,3 +107,89 @@ module _ (n : ℕ) (T : List ℕ) (acc : Accepted n T) where
       let k : ℕ = d - depthTo T n m in
       let e : holder T (drop k (pathOf d x y)) ≡ m = ap (holder T) (sym (on-path n T acc d x y (s .0) (s .1) m c)) ∙ own-path n T acc m (c .node) in
       upper-leaf k (pathOf d x y) (rw e f) ∙ e
+
+-- two leaves, p and m, that share a length of p's side D, p being not the larger
+module _
+    (n : ℕ) (T : List ℕ) (acc : Accepted n T) (p m D x y : ℕ) (side : D < 4)
+    (leaf-p : isFork T p ≡ false) (leaf-m : isFork T m ≡ false) (two : p ≡ m → ⊥)
+    (t : Touches n T p m D x y) (size : sideOf n T p ≤ sideOf n T m) where
+  shallow : depthTo T n m ≤ depthTo T n p
+  shallow =
+      ⊎-elim
+      (λ (l : n - depthTo T n m < n - depthTo T n p). absurd (omega (arith, pow-lt {i = n - depthTo T n m} {j = n - depthTo T n p} l)))
+      (λ (g : n - depthTo T n p ≤ n - depthTo T n m). omega (arith, depth-le T n m, depth-le T n p))
+      (lt-or-ge (n - depthTo T n m) (n - depthTo T n p))
+
+  -- the pixel beyond is none of p's
+  apart : (x + eastStep D - 1) / 2 ^ levelOf n T p ≡ column (pathTo T n p) → (y + southStep D - 1) / 2 ^ levelOf n T p ≡ row (pathTo T n p) → ⊥
+  apart ex ey =
+      let c : Contains n T p n (x + eastStep D - 1) (y + southStep D - 1) =
+      record { node = t .here .node; inside = record { large = t .here .inside .large; across = ex; down = ey } } in
+      two
+      (sym (leaf-holds n T acc p n (x + eastStep D - 1) (y + southStep D - 1) c leaf-p)
+      ∙ leaf-holds n T acc m n (x + eastStep D - 1) (y + southStep D - 1) (t .beyond) leaf-m)
+
+  -- so it lies in the block beside p's
+  beside-block : ((x + eastStep D - 1) / 2 ^ levelOf n T p + 1 ≡ column (pathTo T n p) + eastStep D)
+      × ((y + southStep D - 1) / 2 ^ levelOf n T p + 1 ≡ row (pathTo T n p) + southStep D)
+  beside-block =
+      let w : ℕ = 2 ^ levelOf n T p in
+      let hx : x / w ≡ column (pathTo T n p) = t .here .inside .across in
+      let hy : y / w ≡ row (pathTo T n p) = t .here .inside .down in
+      ⊎-elim
+      (λ (e : (eastStep D ≡ 1) × (southStep D ≤ 2)).
+      let still : x + eastStep D - 1 ≡ x = omega (arith, e .0) in
+      let ex : (x + eastStep D - 1) / w ≡ column (pathTo T n p) = ap (λ (z : ℕ). z / w) still ∙ hx in (
+        omega (arith, e .0),
+        ⊎-elim
+            (λ (s : (y + southStep D - 1) / w ≡ y / w). absurd (apart ex (s ∙ hy)))
+            (λ (s : (y + southStep D - 1) / w + 1 ≡ y / w + southStep D). omega arith)
+            (axis-step w y (southStep D) (pow-pos (levelOf n T p)) (e .1) (t .south)),
+      ))
+      (λ (e : (southStep D ≡ 1) × (eastStep D ≤ 2)).
+      let still : y + southStep D - 1 ≡ y = omega (arith, e .0) in
+      let ey : (y + southStep D - 1) / w ≡ row (pathTo T n p) = ap (λ (z : ℕ). z / w) still ∙ hy in (
+        ⊎-elim
+            (λ (s : (x + eastStep D - 1) / w ≡ x / w). absurd (apart (s ∙ hx) ey))
+            (λ (s : (x + eastStep D - 1) / w + 1 ≡ x / w + eastStep D). omega arith)
+            (axis-step w x (eastStep D) (pow-pos (levelOf n T p)) (e .1) (t .east)),
+        omega (arith, e .0),
+      ))
+      (straight D side)
+
+  beside-m : besideNode n T p D ≡ Answered m
+  beside-m =
+      let d : ℕ = depthTo T n p in
+      let w : ℕ = 2 ^ levelOf n T p in
+      let b = beside-block in
+      let i = t .beyond .inside in
+      let ex : column (pathTo T n p) + eastStep D - 1 ≡ (x + eastStep D - 1) / w = omega (arith, b .0) in
+      let ey : row (pathTo T n p) + southStep D - 1 ≡ (y + southStep D - 1) / w = omega (arith, b .1) in
+      let c : Contains n T m d ((x + eastStep D - 1) / w) ((y + southStep D - 1) / w) =
+      record {
+        node = t .beyond .node;
+        inside = record {
+          large = shallow;
+          across = rescale n d (depthTo T n m) (x + eastStep D - 1) shallow (depth-le T n p) ∙ i .across;
+          down = rescale n d (depthTo T n m) (y + southStep D - 1) shallow (depth-le T n p) ∙ i .down;
+        };
+      } in
+      let s = on-sheet n T acc m d ((x + eastStep D - 1) / w) ((y + southStep D - 1) / w) c in
+      let a = lies-answers T d (column (pathTo T n p)) (row (pathTo T n p)) D
+      (record { low = omega (arith, b .0); high = omega (arith, b .0, s .0) })
+      (record { low = omega (arith, b .1); high = omega (arith, b .1, s .1) }) in
+      rw (own-depth n T acc p (t .here .node)) (a ∙ rw (ex, ey) (ap Answered (leaf-holds n T acc m d ((x + eastStep D - 1) / w) ((y + southStep D - 1) / w) c leaf-m)))
+
+  -- m is p's neighbour on that side
+  pub touching-neighbour : neighbourOf n T p D ≡ Answered m
+  touching-neighbour = neighbour-is n T acc p (t .here .node) D (omega arith) ∙ beside-m
+
+  -- and the leaf at both ends of it
+  pub touching-corners : (C : ℕ) → C < 4 → adjOf D C ≡ true → cornerLeafOf n T p D C ≡ Answered m
+  touching-corners C corner a =
+      corner-is n T acc p (t .here .node) D C side corner a
+      ∙ beyond-leaf-neighbour n T p D C
+      (record { accepted = acc; node = t .here .node; way = omega arith; corner = corner; on = side-on D C side a })
+      m
+      leaf-m
+      beside-m
