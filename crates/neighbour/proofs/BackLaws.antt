@@ -2,7 +2,7 @@
 use mathlib.Core.Path.{_≡_, refl, ap, sym, _∙_}
 use mathlib.Core.List.{List}
 use mathlib.Core.Logic.{⊎-elim}
-use Prim.Native.Nat.{ℕ, _+_, _-_, _*_, _/_, _^_, _≤_, _<_}
+use Prim.Native.Nat.{ℕ, _+_, _-_, _^_, _≤_, _<_}
 use native.Mathlib.Nat.{div-one, eq-or-lt-of-le}
 use native.Mathlib.Omega.{arith}
 use lib.Dec.{ltb, eqb}
@@ -14,7 +14,7 @@ use Rattle.base.specs.All.{all}
 use Rattle.base.proofs.AllLaws.{all-at}
 use Rattle.base.proofs.BoolLaws.{and-left, and-right, lt-or-ge}
 use Rattle.answer.specs.declared.Outcome.the-variants.{Answered}
-use Rattle.quad.specs.Block.{pathOf, column, row}
+use Rattle.quad.specs.Block.{column, row}
 use Rattle.quad.specs.Direction.{eastStep, southStep}
 use Rattle.quad.proofs.PathLaws.{column-lt, row-lt, path-back}
 use Rattle.table.specs.Table.{nodes}
@@ -23,9 +23,8 @@ use Rattle.table.specs.Nodes.{pathTo, holder, levelOf, sideOf}
 use Rattle.table.proofs.AcceptedLaws.{depth-le}
 use Rattle.table.proofs.HolderLaws.{path-quadrants, own-path, own-depth}
 use Rattle.neighbour.specs.Neighbour.{neighbourOf}
-use Rattle.neighbour.specs.Containing.{Inside, Contains, Smallest, opposite}
-use Rattle.neighbour.proofs.SearchLaws.{Stays}
-use Rattle.neighbour.proofs.NeighbourLaws.{Lies, lies-answers, neighbour-is, beside-p, neighbour-smallest}
+use Rattle.neighbour.specs.Containing.{opposite}
+use Rattle.neighbour.proofs.NeighbourLaws.{lies-answers, neighbour-is, beside-p, neighbour-smallest}
 
 -- equal powers of two have equal exponents
 pub same-power : (a b : ℕ) → 2 ^ a ≡ 2 ^ b → a ≡ b

@@ -1,10 +1,10 @@
 -- The leaf at a corner: the pixel at corner C of a block is the block at the end of its path and as many C as the block has levels below it. Moved in
 -- direction D, C being at an end of that side or in that diagonal, each C becomes the mirrored one, and the rest of the path moves as the block does.
-use mathlib.Core.Bool.{Bool, true, false, cond}
-use mathlib.Core.List.{List, [], _∷_}
+use mathlib.Core.Bool.{true, false}
+use mathlib.Core.List.{List, _∷_}
 use mathlib.Core.Logic.{⊎-elim}
 use mathlib.Core.Path.{_≡_, refl, ap, sym, _∙_}
-use Prim.Native.Nat.{ℕ, zero, suc, _+_, _-_, _*_, _/_, _%_, _^_, _≤_, _<_}
+use Prim.Native.Nat.{ℕ, zero, suc, _+_, _-_, _*_, _/_, _%_, _^_, _<_}
 use native.Mathlib.Nat.{pow-succ', mul-left-comm}
 use native.Mathlib.Omega.{arith}
 use lib.Dec.{eqb}
@@ -14,20 +14,18 @@ use borrow.Author.Tests.{lt-ltb, eqb-true}
 use Rattle.base.proofs.AllLaws.{all-at}
 use Rattle.base.proofs.BoolLaws.{by-bool}
 use Rattle.base.proofs.CaseLaws.{cond-case}
-use Rattle.answer.specs.declared.Outcome.{Outcome}
 use Rattle.answer.specs.declared.Outcome.the-variants.{Answered, NoBlock}
 use Rattle.quad.specs.Block.{column, row, Quadrants}
 use Rattle.quad.specs.Direction.{adjOf, diagonal}
 use Rattle.table.specs.Table.{nodes, son, isFork}
-use Rattle.table.specs.Rules.{depthTo, Accepted}
+use Rattle.table.specs.Rules.{Accepted}
 use Rattle.table.specs.Nodes.{pathTo, holder, levelOf}
 use Rattle.table.proofs.AcceptedLaws.{depth-le, sons-of, depth-son, fork-deep}
-use Rattle.table.proofs.HolderLaws.{Held, held, path-quadrants, own-depth}
-use Rattle.neighbour.specs.Neighbour.{beside, leafBeyond, cornerColumn, cornerRow}
-use Rattle.neighbour.specs.declared.Found.{Found}
+use Rattle.table.proofs.HolderLaws.{held, path-quadrants, own-depth}
+use Rattle.neighbour.specs.Neighbour.{beside, leafBeyond}
 use Rattle.neighbour.specs.declared.Found.the-variants.{At, Off}
-use Rattle.neighbour.specs.Search.{stay, onwardOf, mirrorOf, Where, off, block, inner, moved, foundIn, stepTo, cornerDown, cornerUnder, Cornered}
-use Rattle.neighbour.proofs.SearchLaws.{MovedTo, moved-to, Beside, Steers, steers, heldBy, beside-moved}
+use Rattle.neighbour.specs.Search.{onwardOf, mirrorOf, Where, off, block, inner, moved, foundIn, stepTo, cornerDown, cornerUnder, Cornered}
+use Rattle.neighbour.proofs.SearchLaws.{MovedTo, moved-to, steers, heldBy, beside-moved}
 
 -- the path of the block at corner C of the block at the end of π, k levels down
 corners : ℕ → ℕ → List ℕ → List ℕ

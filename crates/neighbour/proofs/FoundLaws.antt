@@ -15,11 +15,10 @@ use Rattle.table.specs.Table.{nodes, isFork}
 use Rattle.table.specs.Rules.{depthTo, Accepted}
 use Rattle.table.specs.Nodes.{pathTo, holder, levelOf}
 use Rattle.table.proofs.AcceptedLaws.{depth-le}
-use Rattle.table.proofs.HolderLaws.{Held, held, path-quadrants, own-depth}
-use Rattle.neighbour.specs.declared.Found.{Found}
+use Rattle.table.proofs.HolderLaws.{held, path-quadrants, own-depth}
 use Rattle.neighbour.specs.declared.Found.the-variants.{At, Off}
 use Rattle.neighbour.specs.Neighbour.{beside}
-use Rattle.neighbour.specs.Search.{stay, outcomeOf, neighbourFound, Where, off, block, moved, foundIn, Sought, Small}
+use Rattle.neighbour.specs.Search.{stay, outcomeOf, neighbourFound, Where, off, block, moved, foundIn, Small}
 use Rattle.neighbour.proofs.SearchLaws.{MovedTo, moved-to, Beside, heldBy, beside-moved}
 
 -- the neighbour of p's block, as the outside call names it

@@ -9,3 +9,4 @@ pub mod NeighbourLaws
 pub mod OutcomeTheorems
 pub mod BackLaws
 pub mod SideLaws
+pub mod PixelLaws

@@ -1,26 +1,22 @@
 -- What the calls' definitions mean on an accepted sheet: the neighbour is the smallest node that contains the block beside p's own, the corner leaf is the
 -- leaf that holds the pixel beyond; each is a node of the table.
-use mathlib.Core.Bool.{Bool, true, false, not, cond, _&&_, false≢true}
+use mathlib.Core.Bool.{Bool, true, false, cond, _&&_}
 use mathlib.Core.List.{List}
 use mathlib.Core.Path.{_≡_, refl, ap, sym, _∙_}
-use Prim.Native.Nat.{ℕ, _+_, _-_, _*_, _^_, _≤_, _<_}
+use Prim.Native.Nat.{ℕ, _+_, _-_, _^_, _≤_, _<_}
 use native.Mathlib.Omega.{arith}
-use lib.Dec.{ltb}
 use lib.ListN.{length}
 use lib.Pow.{pow-mono}
 use borrow.Author.Tests.{le-ltb}
-use Rattle.answer.specs.declared.Outcome.{Outcome}
 use Rattle.answer.specs.declared.Outcome.the-variants.{Answered, NoBlock}
 use Rattle.quad.specs.Block.{pathOf, column, row}
 use Rattle.quad.specs.Direction.{eastStep, southStep, stays, adjOf, diagonal}
-use Rattle.quad.proofs.PathLaws.{path-quadrants}
 use Rattle.table.specs.Table.{nodes, isFork}
-use Rattle.table.specs.Rules.{depthTo, askedOf, Accepted}
+use Rattle.table.specs.Rules.{depthTo, Accepted}
 use Rattle.table.specs.Nodes.{pathTo, holder, levelOf, sideOf}
-use Rattle.table.proofs.AcceptedLaws.{depth-le, fork-deep}
+use Rattle.table.proofs.AcceptedLaws.{fork-deep}
 use Rattle.table.proofs.AskedLaws.{asked-good}
 use Rattle.table.proofs.HolderLaws.{own-depth}
-use Rattle.table.proofs.NodeLaws.{holder-below}
 use Rattle.neighbour.specs.Neighbour.{beside, neighbourOf, leafBeyond, cornerColumn, cornerRow, cornerLeafOf, diagonalLeafOf}
 use Rattle.neighbour.specs.Containing.{Contains, Smallest}
 use Rattle.neighbour.proofs.SearchLaws.{Stays, stays-of, stays-both}

@@ -1,9 +1,9 @@
 -- How tight the three statements are: no second outcome meets one, and a library that refuses everything, or that always names one node, fails each.
 -- Sheet A stands as the case, with its two ponds: node 6 is black, lies under node 1's eastern neighbour, and is the leaf at neither end of that side.
-use mathlib.Core.Bool.{Bool, true, false, cond, false≢true}
-use mathlib.Core.List.{List, [], _∷_}
+use mathlib.Core.Bool.{true, false, false≢true}
+use mathlib.Core.List.{List}
 use mathlib.Core.Path.{_≡_, refl, ap, sym, _∙_}
-use Prim.Native.Nat.{ℕ, _+_, _≤_, _<_}
+use Prim.Native.Nat.{ℕ, _<_}
 use native.Mathlib.Omega.{arith}
 use Rattle.answer.specs.declared.Outcome.{Outcome}
 use Rattle.answer.specs.declared.Outcome.the-variants.{Answered, BadDirection}

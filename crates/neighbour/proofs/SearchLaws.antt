@@ -1,10 +1,10 @@
 -- The moves of document 000 lead to the block that lies in that direction: one computed test over the four tables, nine directions and four quadrants,
 -- then an induction along the path. Sides and corners are one.
-use mathlib.Core.Bool.{Bool, true, false, not, cond, _&&_, _||_, false≢true}
+use mathlib.Core.Bool.{Bool, true, false, not, _&&_, _||_, false≢true}
 use mathlib.Core.List.{List, [], _∷_}
 use mathlib.Core.Logic.{⊎-elim}
 use mathlib.Core.Path.{_≡_, refl, ap, sym, _∙_}
-use Prim.Native.Nat.{ℕ, zero, suc, _+_, _-_, _*_, _/_, _%_, _^_, _≤_, _<_}
+use Prim.Native.Nat.{ℕ, suc, _+_, _-_, _*_, _/_, _%_, _^_, _≤_, _<_}
 use native.Mathlib.Nat.{pow-succ', eq-or-lt-of-le}
 use native.Mathlib.Omega.{arith}
 use lib.Dec.{leb, ltb, eqb}
@@ -16,7 +16,7 @@ use Rattle.base.proofs.BoolLaws.{and-left, and-right, or-second}
 use Rattle.base.proofs.CaseLaws.{at-ne}
 use Rattle.answer.specs.declared.Outcome.{Outcome}
 use Rattle.answer.specs.declared.Outcome.the-variants.{Answered, NoBlock}
-use Rattle.quad.specs.Block.{pathOf, column, row, Quadrants}
+use Rattle.quad.specs.Block.{column, row, Quadrants}
 use Rattle.quad.specs.Direction.{eastStep, southStep, stays, opquadOf, commonSideOf}
 use Rattle.quad.proofs.PathLaws.{column-lt, row-lt, path-back}
 use Rattle.table.specs.Nodes.{holder}

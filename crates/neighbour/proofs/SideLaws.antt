@@ -10,20 +10,18 @@ use lib.ListN.{length, drop}
 use lib.Pow.{pow-pos, pow-lt, pow-add}
 use Rattle.base.proofs.BoolLaws.{lt-or-ge}
 use Rattle.answer.specs.declared.Outcome.the-variants.{Answered}
-use Rattle.quad.specs.Block.{pathOf, column, row, Quadrants}
+use Rattle.quad.specs.Block.{pathOf, column, row}
 use Rattle.quad.specs.Direction.{eastStep, southStep, adjOf}
 use Rattle.quad.proofs.PathLaws.{column-lt, row-lt}
 use Rattle.quad.proofs.TreeLaws.{by-quadrant}
-use Rattle.table.specs.Table.{nodes, isFork}
+use Rattle.table.specs.Table.{isFork}
 use Rattle.table.specs.Rules.{depthTo, Accepted}
 use Rattle.table.specs.Nodes.{pathTo, holder, levelOf, sideOf}
 use Rattle.table.proofs.AcceptedLaws.{depth-le}
 use Rattle.table.proofs.NodeLaws.{holder-leaf}
 use Rattle.table.proofs.HolderLaws.{path-quadrants, own-path, own-depth}
-use Rattle.neighbour.specs.Neighbour.{neighbourOf, leafBeyond, cornerLeafOf}
-use Rattle.neighbour.specs.Containing.{Inside, Contains, Touches}
-use Rattle.neighbour.specs.Search.{Cornered}
-use Rattle.neighbour.proofs.SearchLaws.{Stays}
+use Rattle.neighbour.specs.Neighbour.{neighbourOf, cornerLeafOf}
+use Rattle.neighbour.specs.Containing.{Contains, Touches}
 use Rattle.neighbour.proofs.CornerLaws.{side-on, beyond-leaf-neighbour}
 use Rattle.neighbour.proofs.SmallestLaws.{on-path}
 use Rattle.neighbour.proofs.FoundLaws.{besideNode}

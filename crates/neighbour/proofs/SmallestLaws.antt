@@ -3,8 +3,8 @@
 use mathlib.Core.Bool.{true, false}
 use mathlib.Core.List.{List, [], _∷_}
 use mathlib.Core.Logic.{⊎-elim}
-use mathlib.Core.Path.{_≡_, refl, ap, sym, _∙_}
-use Prim.Native.Nat.{ℕ, zero, suc, _+_, _-_, _*_, _/_, _^_, _≤_, _<_}
+use mathlib.Core.Path.{_≡_, ap, sym, _∙_}
+use Prim.Native.Nat.{ℕ, zero, suc, _-_, _/_, _^_, _≤_, _<_}
 use native.Mathlib.Nat.{eq-or-lt-of-le, le-refl, le-trans}
 use native.Mathlib.Omega.{arith}
 use lib.Dec.{eqb}
@@ -15,14 +15,14 @@ use Rattle.base.proofs.BoolLaws.{by-bool}
 use Rattle.quad.specs.Block.{pathOf, column, row, Quadrants}
 use Rattle.quad.proofs.PathLaws.{path-length, path-quadrants, path-column, path-row, path-back}
 use Rattle.quad.proofs.UpperLaws.{column-drop, row-drop, path-drop}
-use Rattle.table.specs.Table.{nodes, son, isFork}
+use Rattle.table.specs.Table.{nodes, isFork}
 use Rattle.table.specs.Rules.{depthTo, Accepted}
-use Rattle.table.specs.Nodes.{pathTo, holder, levelOf, sideOf}
+use Rattle.table.specs.Nodes.{pathTo, holder}
 use Rattle.table.proofs.AcceptedLaws.{depth-le, depth-son}
 use Rattle.table.proofs.NodeLaws.{holder-fork, holder-leaf}
 use Rattle.table.proofs.HolderLaws.{Held, held, own-path, own-depth}
 use Rattle.table.proofs.HolderLaws as up
-use Rattle.neighbour.specs.Containing.{Inside, Contains, Smallest}
+use Rattle.neighbour.specs.Containing.{Contains, Smallest}
 
 module _ (n : ℕ) (T : List ℕ) (acc : Accepted n T) where
   -- the holder of a larger block stands no deeper

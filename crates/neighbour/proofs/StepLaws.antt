@@ -1,13 +1,11 @@
 -- The search turn by turn, in the code's own values: which son a node is, and a step down from what was found.
-use mathlib.Core.Bool.{Bool, true, false, cond}
 use mathlib.Core.List.{List}
-use mathlib.Core.Path.{_≡_, refl, ap, sym, _∙_}
-use Prim.Native.Nat.{ℕ, _+_, _-_, _≤_, _<_}
-use lib.Dec.{eqb}
+use mathlib.Core.Path.{_≡_}
+use Prim.Native.Nat.{ℕ, _-_, _≤_, _<_}
 use borrow.Author.Tests.{eq-eqb, ne-eqb}
 use Rattle.answer.specs.declared.Outcome.the-variants.{Answered}
 use Rattle.quad.specs.Numbers.{forkType, none}
-use Rattle.table.specs.Table.{nodes, father, son, type, isFork}
+use Rattle.table.specs.Table.{nodes, father, son, type}
 use Rattle.table.specs.Nodes.{firstQuadrant, sonType}
 use Rattle.neighbour.specs.declared.Found.{Found}
 use Rattle.neighbour.specs.declared.Found.the-variants.{At, Off}

@@ -1,9 +1,9 @@
 -- One turn of the search in an accepted table: up to the father with the onward direction, and from what is found there down to the mirrored quadrant.
-use mathlib.Core.Bool.{Bool, true, false, cond}
-use mathlib.Core.List.{List, [], _∷_}
+use mathlib.Core.Bool.{true, false}
+use mathlib.Core.List.{List, _∷_}
 use mathlib.Core.Logic.{⊎-elim}
-use mathlib.Core.Path.{_≡_, refl, ap, sym, _∙_}
-use Prim.Native.Nat.{ℕ, zero, suc, _+_, _-_, _≤_, _<_}
+use mathlib.Core.Path.{_≡_, refl}
+use Prim.Native.Nat.{ℕ, suc, _+_, _-_, _≤_, _<_}
 use native.Mathlib.Omega.{arith}
 use lib.ListN.{length}
 use borrow.Author.Tests.{ne-eqb}
@@ -14,11 +14,10 @@ use Rattle.table.specs.Rules.{depthTo, Accepted}
 use Rattle.table.specs.Nodes.{sonType, pathTo, holder}
 use Rattle.table.proofs.AcceptedLaws.{father-below, sonType-lt, depth-up, depth-son}
 use Rattle.table.proofs.NodeLaws.{path-root, holder-fork, holder-leaf}
-use Rattle.table.proofs.HolderLaws.{Held, held, path-up, path-quadrants, own-path, own-depth}
-use Rattle.neighbour.specs.declared.Found.{Found}
+use Rattle.table.proofs.HolderLaws.{held, path-up, path-quadrants, own-path, own-depth}
 use Rattle.neighbour.specs.declared.Found.the-variants.{At, Off}
 use Rattle.neighbour.specs.Search.{stay, onwardOf, mirrorOf, Where, off, block, inner, moved, foundIn, downTo, Sought, Steps}
-use Rattle.neighbour.proofs.SearchLaws.{moved-stay, MovedTo, moved-to, Beside, Steers, steers}
+use Rattle.neighbour.proofs.SearchLaws.{moved-stay, MovedTo, moved-to, steers}
 
 -- one turn, in the code's own values: f the father, q the quadrant, m the onward direction, s the mirrored quadrant
 pub record Turn (n : ℕ) (T : List ℕ) (p level D f q m s : ℕ) : Type 0 where

@@ -2,13 +2,13 @@
 -- the node that the calls' definitions name by `holder`.
 use mathlib.Core.List.{List, [], _∷_}
 use mathlib.Core.Path.{_≡_}
-use Prim.Native.Nat.{ℕ, _+_, _-_, _/_, _^_, _≤_, _<_}
+use Prim.Native.Nat.{ℕ, _+_, _-_, _*_, _/_, _^_, _≤_, _<_}
 use lib.ListN.{getD}
 use Rattle.quad.specs.Block.{column, row}
 use Rattle.quad.specs.Direction.{eastStep, southStep}
 use Rattle.table.specs.Table.{nodes}
 use Rattle.table.specs.Rules.{depthTo}
-use Rattle.table.specs.Nodes.{pathTo, sideOf}
+use Rattle.table.specs.Nodes.{pathTo, sideOf, leftOf, topOf}
 
 -- the block (x, y) of depth d lies in the block (x', y') of depth d', which is as large, or larger: 2 ^ (d - d') blocks of depth d lie along its side
 pub record Inside (d x y d' x' y' : ℕ) : Type 0 where
@@ -20,6 +20,13 @@ pub record Inside (d x y d' x' y' : ℕ) : Type 0 where
 pub record Contains (n : ℕ) (T : List ℕ) (m d x y : ℕ) : Type 0 where
   pub node : m < nodes T
   pub inside : Inside d x y (depthTo T n m) (column (pathTo T n m)) (row (pathTo T n m))
+
+-- the same in pixels: the block (x, y) of depth d is 2 ^ (n - d) pixels wide, and does not reach beyond the four sides of m's block
+pub record Covers (n : ℕ) (T : List ℕ) (m d x y : ℕ) : Type 0 where
+  pub west : leftOf n T m ≤ x * 2 ^ (n - d)
+  pub east : (x + 1) * 2 ^ (n - d) ≤ leftOf n T m + sideOf n T m
+  pub north : topOf n T m ≤ y * 2 ^ (n - d)
+  pub south : (y + 1) * 2 ^ (n - d) ≤ topOf n T m + sideOf n T m
 
 -- and every other node that contains it is larger
 pub record Smallest (n : ℕ) (T : List ℕ) (m d x y : ℕ) : Type 0 where

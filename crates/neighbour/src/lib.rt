@@ -4,7 +4,7 @@ use answer::Outcome;
 use table::node_count;
 use table::word_at;
 ghost use mathlib.Core.Path.{_≡_};
-ghost use Prim.Native.Nat.{_+_, _<_, _≤_};
+ghost use Prim.Native.Nat.{_+_, _<_};
 ghost use Rattle.quad.specs.Direction.{commonSideOf};
 ghost use Rattle.table.specs.Table.{nodes, father};
 ghost use Rattle.table.specs.Rules.{Accepted, askedOf};

@@ -1,10 +1,10 @@
 -- The upper end of a path: without its k deepest quadrants it leads to the block, 2 ^ k times as large, that contains the block at the end of it.
 use mathlib.Core.List.{List, [], _∷_}
-use mathlib.Core.Path.{_≡_, refl, ap, sym, _∙_}
-use Prim.Native.Nat.{ℕ, zero, suc, _+_, _-_, _*_, _/_, _%_, _^_, _≤_, _<_}
+use mathlib.Core.Path.{_≡_, ap, sym, _∙_}
+use Prim.Native.Nat.{ℕ, zero, suc, _+_, _-_, _*_, _/_, _%_, _^_, _≤_}
 use native.Mathlib.Nat.{div-one, zero-div, sub-zero}
 use native.Mathlib.Omega.{arith}
-use lib.ListN.{length, drop}
+use lib.ListN.{drop}
 use Rattle.quad.specs.Block.{pathOf, column, row, Quadrants}
 use Rattle.quad.proofs.PathLaws.{half-first}
 

@@ -15,7 +15,7 @@ use Rattle.answer.specs.declared.Outcome.{Outcome}
 use Rattle.answer.specs.declared.Outcome.the-variants.{Answered, BadNode, TooDeep, NeedlessFork, NoNode}
 use Rattle.answer.specs.Numbers.{answers, andThen, unless}
 use Rattle.table.specs.Table.{nodes}
-use Rattle.table.specs.Rules.{faultAt, faulty, faultFrom, faultsOf, sizesOf, checkOf, askedOf, Sized, Accepted}
+use Rattle.table.specs.Rules.{faultAt, faulty, faultFrom, faultsOf, sizesOf, checkOf, askedOf, Accepted}
 use Rattle.table.proofs.CheckLaws.{sized-of, sizes-good}
 
 -- both of two tests answer

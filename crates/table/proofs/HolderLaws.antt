@@ -1,21 +1,20 @@
 -- Where the node that holds a block stands in an accepted table: it is no deeper than the block, a fork only at the block's own depth, and its path is
 -- the upper end of the block's path.
-use mathlib.Core.Bool.{Bool, true, false, true≢false}
+use mathlib.Core.Bool.{true, false, true≢false}
 use mathlib.Core.List.{List, [], _∷_}
 use mathlib.Core.Logic.{⊎-elim}
-use mathlib.Core.Path.{_≡_, refl, ap, sym, _∙_}
-use Prim.Native.Nat.{ℕ, zero, suc, _+_, _-_, _≤_, _<_}
+use mathlib.Core.Path.{_≡_, ap, sym, _∙_}
+use Prim.Native.Nat.{ℕ, suc, _-_, _≤_, _<_}
 use native.Mathlib.Omega.{arith}
 use lib.ListN.{length, drop}
 use Rattle.base.proofs.BoolLaws.{by-bool}
 use Rattle.quad.specs.Block.{Quadrants}
 use Rattle.table.specs.Table.{nodes, father, son, isFork}
-use Rattle.table.specs.Links.{SonIn}
 use Rattle.table.specs.Rules.{depthTo, Accepted}
 use Rattle.table.specs.Nodes.{sonType, pathTo, holder, Real}
 use Rattle.table.proofs.RuleLaws.{depth-root}
 use Rattle.table.proofs.AcceptedLaws.{father-below, sons-of, sonType-lt, son-sonType, sonType-only, father-fork, depth-le, depth-up, depth-son}
-use Rattle.table.proofs.NodeLaws.{path-root, holder-root, holder-fork, holder-leaf, real-quadrants, PathOf, path-of, NodeAt, node-at}
+use Rattle.table.proofs.NodeLaws.{path-root, holder-root, holder-fork, holder-leaf, real-quadrants, path-of, node-at}
 
 -- what is known of the node that holds the block at the end of π
 pub record Held (n : ℕ) (T : List ℕ) (π : List ℕ) : Type 0 where

@@ -3,7 +3,7 @@
 use native.Mathlib.Omega.{arith}
 use mathlib.Core.Path.{refl, _∙_}
 use borrow.Author.Needs.{needs}
-use Rattle.neighbour.specs.Search.{onwardOf, mirrorOf, Sought}
+use Rattle.neighbour.specs.Search.{onwardOf, mirrorOf}
 use Rattle.neighbour.proofs.TurnLaws.{seek-stay, seek-root, Turn, turn}
 use Prim.Native.Nat.{ℕ, _<_}
 use borrow.Fn.Kinds.{In}

@@ -1,8 +1,7 @@
 -- `neighbour::find` starts the search at p's own level. Assumes nothing.
-use mathlib.Core.Path.{_≡_, _∙_}
+use mathlib.Core.Path.{_∙_}
 use native.Mathlib.Omega.{arith}
 use Rattle.table.proofs.AcceptedLaws.{depth-le}
-use Rattle.neighbour.specs.Search.{Sought}
 use Rattle.neighbour.proofs.FoundLaws.{found-neighbour}
 use Rattle.neighbour.proofs.find.Statement.{statement}
 use Rattle.neighbour.proofs.find.Tie as tie

@@ -1,9 +1,8 @@
 -- `neighbour::leaf_beyond`: the neighbour, then down by the mirrored corner, is the leaf that holds the pixel beyond. Assumes nothing.
-use mathlib.Core.Path.{_≡_, sym, _∙_}
+use mathlib.Core.Path.{sym, _∙_}
 use Prim.Native.Nat.{_<_}
 use native.Mathlib.Omega.{arith}
 use Rattle.table.proofs.AcceptedLaws.{depth-le}
-use Rattle.neighbour.specs.Search.{Sought, Cornered}
 use Rattle.neighbour.proofs.CornerLaws.{beyond-off, beyond-node, beyond-at, mirror-small, corner-below}
 use borrow.Author.Needs.{needs}
 use Rattle.neighbour.proofs.leaf_beyond.Statement.{statement}
