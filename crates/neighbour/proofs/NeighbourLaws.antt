@@ -15,7 +15,7 @@ use Rattle.table.specs.Table.{nodes, isFork}
 use Rattle.table.specs.Rules.{depthTo, Accepted}
 use Rattle.table.specs.Nodes.{pathTo, holder, levelOf, sideOf}
 use Rattle.table.proofs.AcceptedLaws.{fork-deep}
-use Rattle.table.proofs.AskedLaws.{asked-good}
+use Rattle.table.proofs.CheckLaws.{asked-good}
 use Rattle.table.proofs.HolderLaws.{own-depth}
 use Rattle.neighbour.specs.Neighbour.{beside, neighbourOf, leafBeyond, cornerColumn, cornerRow, cornerLeafOf, diagonalLeafOf}
 use Rattle.neighbour.specs.Containing.{Contains, Smallest}
@@ -50,15 +50,15 @@ module _ (n : ℕ) (T : List ℕ) (acc : Accepted n T) (p : ℕ) (lt : p < nodes
   -- the calls on an accepted sheet, with a good node and good directions
   pub neighbour-is : (D : ℕ) → D < 8 → neighbourOf n T p D ≡ besideNode n T p D
   unfolding neighbourOf
-  neighbour-is D h = rw (neighbourOf, asked-good n T p acc lt, le-ltb 7 D (omega arith))
+  neighbour-is D h = rw (neighbourOf, asked-good n T p (record { accepted = acc; node = lt }), le-ltb 7 D (omega arith))
 
   pub corner-is : (D C : ℕ) → D < 4 → C < 4 → adjOf D C ≡ true → cornerLeafOf n T p D C ≡ leafBeyond n T p C D
   unfolding cornerLeafOf
-  corner-is D C hD hC a = rw (cornerLeafOf, asked-good n T p acc lt, le-ltb 3 D (omega arith), le-ltb 3 C (omega arith), a)
+  corner-is D C hD hC a = rw (cornerLeafOf, asked-good n T p (record { accepted = acc; node = lt }), le-ltb 3 D (omega arith), le-ltb 3 C (omega arith), a)
 
   pub diagonal-is : (C : ℕ) → C < 4 → diagonalLeafOf n T p C ≡ leafBeyond n T p C (diagonal C)
   unfolding diagonalLeafOf
-  diagonal-is C hC = rw (diagonalLeafOf, asked-good n T p acc lt, le-ltb 3 C (omega arith))
+  diagonal-is C hC = rw (diagonalLeafOf, asked-good n T p (record { accepted = acc; node = lt }), le-ltb 3 C (omega arith))
 
   -- the block of p's size beside p's, and the node that is answered for it
   module _ (D m : ℕ) (h : D < 8) (e : neighbourOf n T p D ≡ Answered m) where

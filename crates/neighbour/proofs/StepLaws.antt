@@ -1,4 +1,4 @@
--- The search turn by turn, in the code's own values: which son a node is, and a step down from what was found.
+-- The search turn by turn, in the code's own values: a step down from what was found.
 use mathlib.Core.List.{List}
 use mathlib.Core.Path.{_≡_}
 use Prim.Native.Nat.{ℕ, _-_, _≤_, _<_}
@@ -6,28 +6,9 @@ use borrow.Author.Tests.{eq-eqb, ne-eqb}
 use Rattle.answer.specs.declared.Outcome.the-variants.{Answered}
 use Rattle.quad.specs.Numbers.{forkType, none}
 use Rattle.table.specs.Table.{nodes, father, son, type}
-use Rattle.table.specs.Nodes.{firstQuadrant, sonType}
 use Rattle.neighbour.specs.declared.Found.{Found}
 use Rattle.neighbour.specs.declared.Found.the-variants.{At, Off}
 use Rattle.neighbour.specs.Search.{outcomeOf, downTo, Steps, Small}
-
--- document 000's SONTYPE, test by test: a, b, c are the father's first sons
-module _ (T : List ℕ) (p f a : ℕ) (up : f ≡ father T p) (ea : a ≡ son T f 0) where
-  pub type-nw : a ≡ p → 0 ≡ sonType T p
-  unfolding sonType firstQuadrant
-  type-nw e = rw (sonType, firstQuadrant, ← up, ← ea, eq-eqb a p e)
-
-  pub type-ne : (b : ℕ) → b ≡ son T f 1 → (a ≡ p → ⊥) → b ≡ p → 1 ≡ sonType T p
-  unfolding sonType firstQuadrant
-  type-ne b eb na e = rw (sonType, firstQuadrant, ← up, ← ea, ne-eqb a p na, ← eb, eq-eqb b p e)
-
-  pub type-sw : (b c : ℕ) → b ≡ son T f 1 → c ≡ son T f 2 → (a ≡ p → ⊥) → (b ≡ p → ⊥) → c ≡ p → 2 ≡ sonType T p
-  unfolding sonType firstQuadrant
-  type-sw b c eb ec na nb e = rw (sonType, firstQuadrant, ← up, ← ea, ne-eqb a p na, ← eb, ne-eqb b p nb, ← ec, eq-eqb c p e)
-
-  pub type-se : (b c : ℕ) → b ≡ son T f 1 → c ≡ son T f 2 → (a ≡ p → ⊥) → (b ≡ p → ⊥) → (c ≡ p → ⊥) → 3 ≡ sonType T p
-  unfolding sonType firstQuadrant
-  type-se b c eb ec na nb nc = rw (sonType, firstQuadrant, ← up, ← ea, ne-eqb a p na, ← eb, ne-eqb b p nb, ← ec, ne-eqb c p nc)
 
 -- a step down, by what was found
 module _ (T : List ℕ) (q : ℕ) (found : Found) where

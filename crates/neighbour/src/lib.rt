@@ -1,14 +1,15 @@
 // Neighbours in eight directions, and the leaf at a corner (document 000, section 3): up to the nearest common ancestor, and back by reflected or
 // opposite moves.
 use answer::Outcome;
-use table::node_count;
+use table::asked;
+use table::son_type;
 use table::word_at;
 ghost use mathlib.Core.Path.{_≡_};
 ghost use Prim.Native.Nat.{_+_, _<_};
 ghost use Rattle.quad.specs.Direction.{commonSideOf};
-ghost use Rattle.table.specs.Table.{nodes, father};
-ghost use Rattle.table.specs.Rules.{Accepted, askedOf};
-ghost use Rattle.table.specs.Nodes.{pathTo, sonType, levelOf};
+ghost use Rattle.table.specs.Table.{nodes};
+ghost use Rattle.table.specs.Rules.{Accepted};
+ghost use Rattle.table.specs.Nodes.{pathTo, levelOf};
 ghost use Rattle.neighbour.specs.Search.{stay, onwardOf, mirrorOf, moved, foundIn, downTo, Sought, Steps, neighbourFound, outcomeOf, cornerUnder, Cornered, Small};
 ghost use Rattle.neighbour.specs.Neighbour.{leafBeyond};
 ghost use Rattle.neighbour.specs.Calls.{Neighbours, CornerLeaves, DiagonalLeaves};
@@ -60,24 +61,6 @@ fn mirror(direction: usize, quadrant: usize) -> usize
         return quad::reflect(direction, quadrant);
     }
     quad::opquad(quadrant)
-}
-
-// Which son of its father p is. The root is never asked.
-fn son_type(table: &[u32], p: usize) -> usize
-    requires { ⌜ (p < nodes (now table)) × (father (now table) p < nodes (now table)) ⌝ }
-    ensures { λ r. ⌜ r ≡ sonType (now (table .entry)) p ⌝ }
-{
-    let father = word_at(table, p, 0);
-    if word_at(table, father, 1) == p {
-        return 0;
-    }
-    if word_at(table, father, 2) == p {
-        return 1;
-    }
-    if word_at(table, father, 3) == p {
-        return 2;
-    }
-    3
 }
 
 // From a fork that was found down to one of its sons; a leaf stays.
@@ -133,20 +116,6 @@ fn outcome(found: Found) -> Outcome
         return Outcome::NoBlock;
     };
     Outcome::Answered { value: node as u32 }
-}
-
-// The tests that every question about a node begins with: the check, then the node.
-fn asked(n: u32, table: &[u32], node: u32) -> Outcome
-    ensures { λ r. ⌜ r ≡ askedOf n (now (table .entry)) node ⌝ }
-{
-    let checked = table::check(n, table);
-    if !answer::answered(checked) {
-        return checked;
-    }
-    if node_count(table) <= node as usize {
-        return Outcome::NoNode { node };
-    }
-    Outcome::Answered { value: 0 }
 }
 
 // The neighbour of a node in a direction: the smallest node, at least as large, that contains the block of its size there.

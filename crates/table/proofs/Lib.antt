@@ -10,4 +10,3 @@ pub mod PreorderAccepted
 pub mod SonTypeLaws
 pub mod BlockLaws
 pub mod HolderLaws
-pub mod AskedLaws

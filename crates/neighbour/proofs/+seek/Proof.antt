@@ -14,7 +14,7 @@ use Rattle.neighbour.proofs.+seek.Lts-seek as seek-lts
 use Rattle.neighbour.proofs.down.Reads as down-reads
 use Rattle.neighbour.proofs.mirror.Reads as mirror-reads
 use Rattle.neighbour.proofs.onward.Reads as onward-reads
-use Rattle.neighbour.proofs.son_type.Reads as son-type-reads
+use Rattle.table.proofs.son_type.Reads as son-type-reads
 use Rattle.table.proofs.word_at.Reads as word-at-reads
 use Rattle.neighbour.proofs.+seek.{statement}
 use Rattle.neighbour.proofs.+seek.Tie.{close}

@@ -2,7 +2,7 @@
 use Rattle.base.proofs.BoolLaws.{on}
 use native.Mathlib.Omega.{arith}
 use Rattle.answer.proofs.OutcomeLaws.{thens, then-go}
-use Rattle.table.proofs.AskedLaws.{asked-call}
+use Rattle.table.proofs.CheckLaws.{asked-call}
 use Rattle.neighbour.specs.Neighbour.{cornerLeafOf}
 use Rattle.neighbour.proofs.CallLaws.{bounds, good-within, good-joined}
 use Rattle.neighbour.proofs.CornerLaws.{side-on}

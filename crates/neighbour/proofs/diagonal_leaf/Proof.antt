@@ -1,7 +1,7 @@
 -- `neighbour::diagonal_leaf`: the tests in their order, then the leaf beyond the corner in its own diagonal. Assumes nothing.
 use native.Mathlib.Omega.{arith}
 use Rattle.answer.proofs.OutcomeLaws.{thens}
-use Rattle.table.proofs.AskedLaws.{asked-call}
+use Rattle.table.proofs.CheckLaws.{asked-call}
 use Rattle.neighbour.specs.Neighbour.{diagonalLeafOf}
 use Rattle.neighbour.proofs.CallLaws.{bounds}
 use Rattle.neighbour.proofs.CornerLaws.{diagonal-on}

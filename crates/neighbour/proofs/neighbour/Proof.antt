@@ -3,7 +3,7 @@ use mathlib.Core.Path.{_≡_, _∙_}
 use native.Mathlib.Omega.{arith}
 use Rattle.answer.proofs.OutcomeLaws.{thens}
 use Rattle.table.proofs.AcceptedLaws.{depth-le}
-use Rattle.table.proofs.AskedLaws.{asked-call}
+use Rattle.table.proofs.CheckLaws.{asked-call}
 use Rattle.neighbour.specs.Neighbour.{neighbourOf}
 use Rattle.neighbour.proofs.CallLaws.{bounds}
 use Rattle.neighbour.proofs.FoundLaws.{besideNode, found-small, found-outcome}
