@@ -1,5 +1,5 @@
--- What the statement of sheet_check settles: there is no second outcome, code 0 is given exactly to accepted sheets, and neither a library that refuses
--- everything nor one that accepts everything meets it (demand 2).
+-- What the statement of sheet_check settles: code 0 is given exactly to accepted sheets, and neither a library that refuses everything nor one that
+-- accepts everything meets it (demand 2).
 use mathlib.Core.Bool.{Bool, true, false}
 use mathlib.Core.List.{List, []}
 use mathlib.Core.Path.{_≡_, refl, ap, sym, _∙_}
@@ -14,21 +14,16 @@ use Rattle.table.specs.Table.{nodes}
 use Rattle.table.specs.Rules.{Accepted, checkOf, sizesOf, lengthOk, faultsOf, faultFrom, faultAt, typeOk, fatherOk, onceOk, sonsOk, sonOk, wordOk, depthOk, depthTo, allOf, sonAlike, mixedOk}
 use Rattle.table.specs.SheetA.{tableA}
 use Rattle.table.proofs.CheckLaws.{accepted-of, check-accepted}
-use Rattle.sheet.specs.Calls.{Checks}
-
--- no second outcome
-pub one-outcome : (n : ℕ) (T : List ℕ) (r s : ℕ) → Checks n T r → Checks n T s → r ≡ s
-unfolding Checks
-one-outcome n T r s a b = a ∙ sym b
+use Rattle.sheet.specs.Calls.{Gives, Checks}
 
 -- code 0 exactly for accepted sheets, and then the value is the node count
 pub answered-accepted : (n : ℕ) (T : List ℕ) (r : ℕ) → Checks n T r → r % 256 ≡ 0 → Accepted n T
-unfolding Checks
+unfolding Gives
 answered-accepted n T r e h =
     accepted-of n T (eq-eqb (codeOf (checkOf n T)) 0 (omega (arith, e, h, code-small (checkOf n T))))
 
 pub accepted-answered : (n : ℕ) (T : List ℕ) (r : ℕ) → Checks n T r → Accepted n T → r ≡ 256 * nodes T
-unfolding Checks
+unfolding Gives
 accepted-answered n T r e acc = e ∙ rw (check-accepted n T acc) (omega arith)
 
 -- sheet A is answered, an empty table is refused
@@ -42,9 +37,9 @@ on-nothing = refl
 
 module _ (library : ℕ → List ℕ → ℕ) (meets : (n : ℕ) (T : List ℕ) → Checks n T (library n T)) where
   pub not-all-refused : ((n : ℕ) (T : List ℕ) → library n T % 256 ≡ 0 → ⊥) → ⊥
-  unfolding Checks
+  unfolding Gives
   not-all-refused refuses = refuses 2 tableA (rw (meets 2 tableA, on-sheet-A) (omega arith))
 
   pub not-all-accepted : ((n : ℕ) (T : List ℕ) → library n T % 256 ≡ 0) → ⊥
-  unfolding Checks
+  unfolding Gives
   not-all-accepted accepts = omega (arith, meets 0 [], on-nothing, accepts 0 [])

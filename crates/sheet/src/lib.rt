@@ -1,9 +1,61 @@
 // The exported C calls, and nothing else: each calls one function of a floor below and packs code and value (include/sheet.h is the manual).
-ghost use Rattle.sheet.specs.Calls.{Checks};
+use ground::Ground;
+ghost use Rattle.sheet.specs.Calls.{Checks, FindsNeighbour, FindsCornerLeaf, FindsDiagonalLeaf, ReadsFile, WritesFile, FindsCentre, groundAt};
 
 #[no_mangle]
 pub extern "C" fn sheet_check(n: u32, table: &[u32]) -> u64
     ensures { λ r. ⌜ Checks n (now (table .entry)) r ⌝ }
 {
     answer::number(table::check(n, table))
+}
+
+#[no_mangle]
+pub extern "C" fn sheet_neighbour(n: u32, table: &[u32], node: u32, direction: u32) -> u64
+    ensures { λ r. ⌜ FindsNeighbour n (now (table .entry)) node direction r ⌝ }
+{
+    answer::number(neighbour::neighbour(n, table, node, direction))
+}
+
+#[no_mangle]
+pub extern "C" fn sheet_corner_leaf(n: u32, table: &[u32], node: u32, side: u32, corner: u32) -> u64
+    ensures { λ r. ⌜ FindsCornerLeaf n (now (table .entry)) node side corner r ⌝ }
+{
+    answer::number(neighbour::corner_leaf(n, table, node, side, corner))
+}
+
+#[no_mangle]
+pub extern "C" fn sheet_diagonal_leaf(n: u32, table: &[u32], node: u32, corner: u32) -> u64
+    ensures { λ r. ⌜ FindsDiagonalLeaf n (now (table .entry)) node corner r ⌝ }
+{
+    answer::number(neighbour::diagonal_leaf(n, table, node, corner))
+}
+
+#[no_mangle]
+pub extern "C" fn sheet_read(file: &[u8], table: &mut [u32]) -> u64
+    ensures { λ r. ⌜ ReadsFile (now (file .entry)) (now (table .entry)) r (now (table .exit)) ⌝ }
+{
+    answer::number(file::read(file, table))
+}
+
+#[no_mangle]
+pub extern "C" fn sheet_write(n: u32, table: &[u32], file: &mut [u8]) -> u64
+    ensures { λ r. ⌜ WritesFile n (now (table .entry)) (now (file .entry)) r (now (file .exit)) ⌝ }
+{
+    answer::number(file::write(n, table, file))
+}
+
+#[no_mangle]
+pub extern "C" fn sheet_centre(
+    n: u32,
+    table: &[u32],
+    node: u32,
+    east: f64,
+    north: f64,
+    step: f64,
+    place: &mut [f64],
+) -> u64
+    ensures { λ r. ⌜ FindsCentre n (now (table .entry)) node (groundAt east north step) (now (place .entry)) r (now (place .exit)) ⌝ }
+{
+    let g = Ground { east, north, step };
+    answer::number(ground::centre(n, table, node, g, place))
 }

@@ -1,7 +1,5 @@
--- `sheet::sheet_check` packs what the check gives. Assumes nothing.
-use Rattle.sheet.specs.Calls.{Checks}
-use Rattle.answer.specs.Numbers.{numberOf}
-use mathlib.Core.Path.{ap, _∙_}
+-- `sheet::sheet_check` packs what `check` below gives. Assumes nothing.
+use Rattle.sheet.proofs.CallLaws.{packed}
 use borrow.Author.Needs.{needs}
 use Rattle.sheet.proofs.sheet_check.Statement.{statement}
 use Rattle.sheet.proofs.sheet_check.Tie as tie
@@ -13,8 +11,7 @@ number-requires : tie.Need-number-requires
 number-requires c κs = search needs
 
 returns : tie.Need-returns
-unfolding Checks
-returns c = c .number .ensures ∙ ap numberOf (c .before .check .ensures)
+returns c = packed _ _ _ (c .number .ensures) (c .before .check .ensures)
 
 pub sheet-check-spec : {M : Type 1} → statement M
 sheet-check-spec = tie.close (tie.spec check-requires number-requires returns)
