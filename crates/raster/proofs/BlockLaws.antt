@@ -1,5 +1,5 @@
 -- Blocks of a sheet and what their trees come to: quarters lie on the sheet, sizes fit, and four measures join as four trees do.
-use mathlib.Core.Bool.{true, false, not, cond, _&&_}
+use mathlib.Core.Bool.{Bool, true, false, cond, false≢true}
 use mathlib.Core.List.{List}
 use mathlib.Core.Path.{_≡_, refl, ap, sym, _∙_}
 use Prim.Native.Nat.{ℕ, zero, suc, _+_, _-_, _*_, _^_, _≤_, _<_}
@@ -8,11 +8,10 @@ use native.Mathlib.Omega.{arith}
 use lib.Arith.{digits-lt}
 use lib.Dec.{eqb}
 use lib.Pow.{pow-add}
-use lib.ListN.{length, getD}
 use borrow.Author.Tests.{eq-eqb, ne-eqb}
 use Rattle.base.proofs.CaseLaws.{cond-case}
-use Rattle.quad.specs.Numbers.{topLevel, topColour, forkType, maxWords}
-use Rattle.quad.specs.Tree.{Tree, leaf, fork, colour, sameLeaf, alike, Within, Coloured, sizeOf, join, treeOf}
+use Rattle.quad.specs.Numbers.{topLevel, forkType}
+use Rattle.quad.specs.Tree.{Tree, leaf, fork, colour, sameLeaf, alike, Coloured, sizeOf, join, treeOf}
 use Rattle.quad.proofs.TreeLaws.{size-fits}
 use Rattle.quad.proofs.PictureLaws.{tree-within, tree-coloured}
 use Rattle.raster.specs.declared.Measured.{Measured}
@@ -64,7 +63,7 @@ pub like-kinds : (A B C D : Tree) → Coloured A → Coloured B → Coloured C �
 unfolding likeKinds
 like-kinds A B C D ha hb hc hd = rw (same-kind A B ha hb, same-kind A C ha hc, same-kind A D ha hd)
 
-join-measure : (A B C D : Tree) → Coloured A → Coloured B → Coloured C → Coloured D
+pub join-measure : (A B C D : Tree) → Coloured A → Coloured B → Coloured C → Coloured D
     → joinedOf (measureOf A) (measureOf B) (measureOf C) (measureOf D) ≡ measureOf (join A B C D)
 unfolding joinedOf measureOf join
 join-measure A B C D ha hb hc hd =
@@ -83,7 +82,7 @@ tree-quarters f (suc l) x y z =
     rw e
 
 module _ (n : ℕ) (R : List ℕ) (pic : Picture n R) where
-  block-coloured : (l x y : ℕ) → Coloured (treeOf (pictureOf n R) l x y)
+  pub block-coloured : (l x y : ℕ) → Coloured (treeOf (pictureOf n R) l x y)
   block-coloured l x y = tree-coloured (pictureOf n R) l x y (λ i j hi hj. pic .colours (j * 2 ^ n + i))
 
 -- four kinds, test by test
@@ -122,3 +121,17 @@ module _ (n : ℕ) (R : List ℕ) (l x y : ℕ) where
 pub measure-few : (f : ℕ → ℕ → ℕ) (l x y : ℕ) (m : Measured) → l ≤ topLevel → m ≡ measureOf (treeOf f l x y) → Few m
 unfolding measureOf
 measure-few f l x y m top e = rw e (size-fits l (treeOf f l x y) top (tree-within f l x y))
+
+-- measures that join to a fork's
+pub joined-fork : (a b c d w : Measured) → w ≡ joinedOf a b c d → w .kind ≡ forkType → w .nodes ≡ 1 + (a .nodes + (b .nodes + (c .nodes + d .nodes)))
+unfolding joinedOf
+joined-fork a b c d w e k = go (likeKinds (a .kind) (b .kind) (c .kind) (d .kind)) refl
+  where
+    go : (u : Bool) → likeKinds (a .kind) (b .kind) (c .kind) (d .kind) ≡ u → w .nodes ≡ 1 + (a .nodes + (b .nodes + (c .nodes + d .nodes)))
+    go true q =
+        let h : w ≡ a = rw q at e in
+        absurd (false≢true (kinds-fork (a .kind) (b .kind) (c .kind) (d .kind) (ap (λ (m : Measured). m .kind) (sym h) ∙ k) ∙ q))
+    go false q = ap (λ (m : Measured). m .nodes) (rw q at e)
+
+pub square-fits : (n s : ℕ) → n ≤ topLevel → s ≡ 2 ^ n → s * s ≤ 4 ^ topLevel
+square-fits n s top e = rw (e, ← four-pow n) (pow-le-pow-right {n = 4} (omega arith) {i = n} {j = topLevel} top)

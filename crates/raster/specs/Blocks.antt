@@ -3,10 +3,14 @@ use mathlib.Core.Bool.{Bool, not, cond, _&&_}
 use mathlib.Core.List.{List}
 use mathlib.Core.Path.{_≡_}
 use Prim.Native.Nat.{ℕ, _+_, _-_, _*_, _^_, _≤_, _<_}
-use lib.Dec.{eqb}
+use lib.Dec.{eqb, ltb}
 use lib.ListN.{length, getD}
+use Rattle.answer.specs.declared.Outcome.{Outcome}
+use Rattle.answer.specs.declared.Outcome.the-variants.{BadLevel}
+use Rattle.answer.specs.Numbers.{andThen, unless}
 use Rattle.quad.specs.Numbers.{topLevel, topColour, forkType, maxWords}
 use Rattle.quad.specs.Tree.{Tree, colour, sizeOf}
+use Rattle.raster.specs.Raster.{rasterLength, pixelsFrom}
 use Rattle.raster.specs.declared.Measured.{Measured}
 
 -- a raster of level n that is not refused: 4 ^ n bytes, all of them colours
@@ -14,6 +18,10 @@ pub record Picture (n : ℕ) (R : List ℕ) : Type 0 where
   pub top : n ≤ topLevel
   pub whole : length R ≡ 4 ^ n
   pub colours : (i : ℕ) → getD R i 0 ≤ topColour
+
+-- the tests that a raster's picture is read after: 1, 2, 8
+unfoldable pub readableOf : ℕ → List ℕ → Outcome
+readableOf n R = andThen (unless (ltb topLevel n) (BadLevel 0)) (andThen (rasterLength n (length R)) (pixelsFrom R 0))
 
 -- the block (x, y) of level l lies on a sheet of level n
 pub record OnSheet (n l x y : ℕ) : Type 0 where

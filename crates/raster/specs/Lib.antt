@@ -1,2 +1,4 @@
 pub mod Raster
+pub mod Calls
 pub mod Blocks
+pub mod Writing

@@ -1,11 +1,15 @@
 // A table and its raster are one picture: building and decoding.
 use answer::Outcome;
 ghost use mathlib.Core.Path.{_≡_};
-ghost use Prim.Native.Nat.{_≤_, _^_};
+ghost use Prim.Native.Nat.{_+_, _*_, _≤_, _^_};
+ghost use lib.ListN.{length};
+ghost use lib.Seq.{sets};
 ghost use Rattle.quad.specs.Numbers.{topLevel};
 ghost use Rattle.quad.specs.Tree.{treeOf};
-ghost use Rattle.raster.specs.Raster.{pictureOf};
-ghost use Rattle.raster.specs.Blocks.{Picture, OnSheet, Few, likeKinds, joinedOf, measureOf};
+ghost use Rattle.raster.specs.Raster.{pictureOf, rasterLength, pixelsFrom};
+ghost use Rattle.raster.specs.Calls.{Builds};
+ghost use Rattle.raster.specs.Blocks.{Picture, readableOf, OnSheet, Few, likeKinds, joinedOf, measureOf};
+ghost use Rattle.raster.specs.Writing.{lateWords, ForkRoom, forkPut, Ready, Put};
 
 // What a block's tree comes to: its nodes, and a leaf's colour or a fork's type.
 pub struct Measured {
@@ -81,4 +85,142 @@ fn measure(raster: &[u8], n: u32, level: u32, x: usize, y: usize) -> Measured
     let sw = measure(raster, n, half, west, south);
     let se = measure(raster, n, half, east, south);
     joined(nw, ne, sw, se)
+}
+
+// Writes node p where its kind is a leaf's; a fork stands there already.
+fn put_leaf(table: &mut [u32], p: u32, father: u32, kind: u32)
+    requires { ⌜ 6 * p + 6 ≤ length (now table) ⌝ }
+    ensures { λ _. ⌜ now (table .exit) ≡ sets (now (table .entry)) (6 * p) (lateWords father kind) ⌝ }
+{
+    if kind == quad::FORK as u32 {
+        return;
+    }
+    let none = quad::NONE as u32;
+    table::put_node(table, p as usize, father, none, none, none, none, kind);
+}
+
+// Writes what a fork at node p still lacks once the forks among its sons stand: its leaves, and its own six words.
+fn put_fork(
+    table: &mut [u32],
+    p: u32,
+    father: u32,
+    nw: Measured,
+    ne: Measured,
+    sw: Measured,
+    se: Measured,
+)
+    requires { ⌜ ForkRoom p nw ne sw se (length (now table)) ⌝ }
+    ensures { λ _. ⌜ now (table .exit) ≡ forkPut (now (table .entry)) p father nw ne sw se ⌝ }
+{
+    let a = p + 1;
+    let b = a + nw.nodes;
+    let c = b + ne.nodes;
+    let d = c + sw.nodes;
+    put_leaf(table, a, p, nw.kind);
+    put_leaf(table, b, p, ne.kind);
+    put_leaf(table, c, p, sw.kind);
+    put_leaf(table, d, p, se.kind);
+    table::put_node(table, p as usize, father, a, b, c, d, quad::FORK as u32);
+}
+
+// Writes a block's tree from node p on where it is a fork; a leaf is left to its father. Gives what the tree comes to.
+fn put(
+    raster: &[u8],
+    n: u32,
+    level: u32,
+    x: usize,
+    y: usize,
+    table: &mut [u32],
+    p: u32,
+    father: u32,
+) -> Measured
+    requires { ⌜ Picture n (now raster) × OnSheet n level x y × Ready (treeOf (pictureOf n (now raster)) level x y) level p (length (now table)) ⌝ }
+    ensures { λ r. ⌜ Put (treeOf (pictureOf n (now (raster .entry))) level x y) father p (now (table .entry)) (now (table .exit)) r ⌝ }
+{
+    if level == 0 {
+        return Measured {
+            nodes: 1,
+            kind: pixel_at(raster, n, x, y),
+        };
+    }
+    let half = level - 1;
+    let west = 2 * x;
+    let north = 2 * y;
+    let east = west + 1;
+    let south = north + 1;
+    let a = p + 1;
+    let nw = put(raster, n, half, west, north, table, a, p);
+    let b = a + nw.nodes;
+    let ne = put(raster, n, half, east, north, table, b, p);
+    let c = b + ne.nodes;
+    let sw = put(raster, n, half, west, south, table, c, p);
+    let d = c + sw.nodes;
+    let se = put(raster, n, half, east, south, table, d, p);
+    let whole = joined(nw, ne, sw, se);
+    if whole.kind != quad::FORK as u32 {
+        return whole;
+    }
+    put_fork(table, p, father, nw, ne, sw, se);
+    whole
+}
+
+// Whether a raster of level n has that many bytes.
+fn raster_length(n: u32, bytes: usize) -> Outcome
+    requires { ⌜ n ≤ topLevel ⌝ }
+    ensures { λ r. ⌜ r ≡ rasterLength n bytes ⌝ }
+{
+    let across = side(n);
+    if bytes != across * across {
+        return Outcome::WrongLength { which: 1 };
+    }
+    Outcome::Answered { value: 0 }
+}
+
+// The first byte that is no colour.
+fn pixels(raster: &[u8]) -> Outcome
+    requires { ⌜ length (now raster) ≤ 4 ^ topLevel ⌝ }
+    ensures { λ r. ⌜ r ≡ pixelsFrom (now (raster .entry)) 0 ⌝ }
+{
+    let mut i = 0;
+    while i < raster.len() {
+        if quad::TOP_COLOUR < raster[i] as usize {
+            return Outcome::BadPixel { place: i as u32 };
+        }
+        i += 1;
+    }
+    Outcome::Answered { value: 0 }
+}
+
+// The tests for 1, 2 and 8.
+fn readable(n: u32, raster: &[u8]) -> Outcome
+    ensures { λ r. ⌜ r ≡ readableOf n (now (raster .entry)) ⌝ }
+{
+    if quad::TOP_LEVEL < n {
+        return Outcome::BadLevel { place: 0 };
+    }
+    let sized = raster_length(n, raster.len());
+    if !answer::answered(sized) {
+        return sized;
+    }
+    pixels(raster)
+}
+
+// Building: for any level, any bytes and any table, the preorder table of the raster's one tree at the table's start and its node count, or the first
+// refusal and the table as it was.
+pub fn build(n: u32, raster: &[u8], table: &mut [u32]) -> Outcome
+    ensures { λ r. ⌜ Builds n (now (raster .entry)) (now (table .entry)) r (now (table .exit)) ⌝ }
+{
+    let read = readable(n, raster);
+    if !answer::answered(read) {
+        return read;
+    }
+    let whole = measure(raster, n, n, 0, 0);
+    let needed = 6 * whole.nodes;
+    if table.len() < needed as usize {
+        return Outcome::NoRoom { needed };
+    }
+    let none = quad::NONE as u32;
+    let root = put(raster, n, n, 0, 0, table, 0, none);
+    put_leaf(table, 0, none, root.kind);
+    Outcome::Answered { value: whole.nodes }
 }

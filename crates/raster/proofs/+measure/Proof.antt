@@ -1,5 +1,4 @@
 -- `raster::measure`: a pixel is a leaf, and four quarters join. The measure is the level. Assumes nothing.
-use mathlib.Core.Path.{_≡_}
 use native.Mathlib.Omega.{arith}
 use Rattle.raster.specs.Raster.{pictureOf}
 use Rattle.raster.proofs.BlockLaws.{on-son, on-small, measure-pixel, measure-four, measure-few}

@@ -1,8 +1,6 @@
 -- `raster::pixel_at`: the pixel's place lies in the raster. Assumes nothing.
-use Prim.Native.Nat.{_+_, _*_, _^_, _≤_}
-use native.Mathlib.Nat.{pow-le-pow-right}
+use Prim.Native.Nat.{_+_, _*_}
 use native.Mathlib.Omega.{arith}
-use Rattle.quad.specs.Numbers.{topLevel}
 use Rattle.raster.proofs.BlockLaws.{place-lt, place-fits}
 use borrow.Author.Needs.{needs}
 use Rattle.raster.proofs.pixel_at.Statement.{statement}
