@@ -3,7 +3,7 @@ use mathlib.Core.Bool.{Bool, true, false, cond, false≢true}
 use mathlib.Core.List.{List}
 use mathlib.Core.Path.{_≡_, refl, ap, sym, _∙_}
 use Prim.Native.Nat.{ℕ, zero, suc, _+_, _-_, _*_, _^_, _≤_, _<_}
-use native.Mathlib.Nat.{pow-succ', pow-le-pow-right}
+use native.Mathlib.Nat.{suc-mul, mul-le-mul-right, pow-succ', pow-le-pow-right}
 use native.Mathlib.Omega.{arith}
 use lib.Arith.{digits-lt}
 use lib.Dec.{eqb}
@@ -135,3 +135,17 @@ joined-fork a b c d w e k = go (likeKinds (a .kind) (b .kind) (c .kind) (d .kind
 
 pub square-fits : (n s : ℕ) → n ≤ topLevel → s ≡ 2 ^ n → s * s ≤ 4 ^ topLevel
 square-fits n s top e = rw (e, ← four-pow n) (pow-le-pow-right {n = 4} (omega arith) {i = n} {j = topLevel} top)
+
+-- a block ends where the sheet does, or before; and so do its rows
+pub block-fits : {n l x y : ℕ} → OnSheet n l x y → (x * 2 ^ l + 2 ^ l ≤ 2 ^ n) × (y * 2 ^ l + 2 ^ l ≤ 2 ^ n)
+block-fits {n} {l} {x} {y} o =
+    let low = o .low in
+    let s : n - l + l ≡ n = omega arith in
+    let e : 2 ^ n ≡ 2 ^ (n - l) * 2 ^ l = ap (λ (k : ℕ). 2 ^ k) (sym s) ∙ pow-add 2 (n - l) l in
+    (omega (arith, suc-mul x (2 ^ l), mul-le-mul-right (2 ^ l) (o .across)), omega (arith, suc-mul y (2 ^ l), mul-le-mul-right (2 ^ l) (o .down)))
+
+pub side-small : (n : ℕ) → n ≤ topLevel → 2 ^ n ≤ 2 ^ topLevel
+side-small n top = pow-le-pow-right {n = 2} (omega arith) {i = n} {j = topLevel} top
+
+pub row-fits : (n t e : ℕ) → t < 2 ^ n → e ≤ 2 ^ n → t * 2 ^ n + e ≤ 4 ^ n
+row-fits n t e lt le = rw (four-pow n) (omega (arith, suc-mul t (2 ^ n), mul-le-mul-right (2 ^ n) lt))

@@ -2,3 +2,4 @@ pub mod Raster
 pub mod Calls
 pub mod Blocks
 pub mod Writing
+pub mod Painting

@@ -9,6 +9,7 @@ ghost use Rattle.quad.specs.Tree.{treeOf};
 ghost use Rattle.raster.specs.Raster.{pictureOf, rasterLength, pixelsFrom};
 ghost use Rattle.raster.specs.Calls.{Builds};
 ghost use Rattle.raster.specs.Blocks.{Picture, readableOf, OnSheet, Few, likeKinds, joinedOf, measureOf};
+ghost use Rattle.raster.specs.Painting.{Filled, Painted, inBlock};
 ghost use Rattle.raster.specs.Writing.{lateWords, ForkRoom, forkPut, Ready, Put};
 
 // What a block's tree comes to: its nodes, and a leaf's colour or a fork's type.
@@ -223,4 +224,32 @@ pub fn build(n: u32, raster: &[u8], table: &mut [u32]) -> Outcome
     let root = put(raster, n, n, 0, 0, table, 0, none);
     put_leaf(table, 0, none, root.kind);
     Outcome::Answered { value: whole.nodes }
+}
+
+// Fills `width` bytes from a place on.
+fn fill_row(raster: &mut [u8], start: usize, width: usize, colour: u8)
+    requires { ⌜ start + width ≤ length (now raster) ⌝ }
+    ensures { λ _. ⌜ Filled start width colour (now (raster .entry)) (now (raster .exit)) ⌝ }
+{
+    let mut i = 0;
+    while i < width {
+        raster[start + i] = colour;
+        i += 1;
+    }
+}
+
+// Fills a block, row by row.
+fn fill_block(raster: &mut [u8], n: u32, level: u32, x: usize, y: usize, colour: u8)
+    requires { ⌜ (n ≤ topLevel) × OnSheet n level x y × (length (now raster) ≡ 4 ^ n) ⌝ }
+    ensures { λ _. ⌜ Painted n (inBlock level x y) (λ i j. colour) (now (raster .entry)) (now (raster .exit)) ⌝ }
+{
+    let across = side(n);
+    let width = side(level);
+    let left = x * width;
+    let top = y * width;
+    let mut j = 0;
+    while j < width {
+        fill_row(raster, (top + j) * across + left, width, colour);
+        j += 1;
+    }
 }
