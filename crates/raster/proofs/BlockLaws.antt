@@ -41,12 +41,15 @@ on-small {n} {l} top o =
     (omega (arith, o), omega (arith, o))
 
 -- a pixel's place
+pub digits-four : (n x y : ℕ) → x < 2 ^ n → y < 2 ^ n → y * 2 ^ n + x < 4 ^ n
+digits-four n x y hx hy = rw (four-pow n) (digits-lt hy hx)
+
 pub place-lt : {n x y : ℕ} → OnSheet n 0 x y → y * 2 ^ n + x < 4 ^ n
 place-lt {n} {x} {y} o =
     let e : n - 0 ≡ n = omega arith in
     let hy : y < 2 ^ n = rw e at (o .down) in
     let hx : x < 2 ^ n = rw e at (o .across) in
-    rw (four-pow n) (digits-lt hy hx)
+    digits-four n x y hx hy
 
 pub place-fits : {n x y : ℕ} → n ≤ topLevel → OnSheet n 0 x y → y * 2 ^ n + x < 4 ^ topLevel
 place-fits {n} top o = omega (arith, place-lt o, pow-le-pow-right {n = 4} (omega arith) {i = n} {j = topLevel} top)

@@ -34,6 +34,12 @@ then-then a b c = go (answers a) refl
     go true q = rw q
     go false q = rw (q, q)
 
+-- the whole sheet is a block
+pub sheet-on : (n : ℕ) → OnSheet n n 0 0
+sheet-on n =
+    let e : n - n ≡ 0 = omega arith in
+    record { low = omega arith; across = rw e (omega arith); down = rw e (omega arith) }
+
 module _ (n : ℕ) (R U : List ℕ) where
   abbrev tree : Tree
   tree = treeOf (pictureOf n R) n 0 0
@@ -81,12 +87,7 @@ module _ (n : ℕ) (R U : List ℕ) where
             w ∙ rw (of-kind tree root (p .measured), p .words) (whole-part U none 0 tree (block-coloured n R passed-picture n 0 0)) in
             record { answer = sym b; table = rw b (written-whole tree U after (omega arith) all) }
 
-  -- the whole sheet is a block, and there is room for its tree
-  pub sheet-on : OnSheet n n 0 0
-  sheet-on =
-      let e : n - n ≡ 0 = omega arith in
-      record { low = omega arith; across = rw e (omega arith); down = rw e (omega arith) }
-
+  -- there is room for its tree
   pub sheet-ready : n ≤ topLevel → (m : Measured) → m ≡ measureOf tree → 6 * m .nodes ≤ length U → Ready tree n 0 (length U)
   sheet-ready top m em le = record {
     room = room-of tree 0 (length U) (omega (arith, of-nodes tree m em));

@@ -3,7 +3,7 @@ use mathlib.Core.Bool.{Bool, true, false, cond, _&&_, _||_, false≢true}
 use mathlib.Core.List.{List}
 use mathlib.Core.Logic.{⊎-elim}
 use mathlib.Core.Path.{_≡_, refl, ap, sym, _∙_}
-use Prim.Native.Nat.{ℕ, zero, suc, _+_, _-_, _*_, _/_, _%_, _^_, _≤_, _<_}
+use Prim.Native.Nat.{ℕ, suc, _+_, _-_, _*_, _/_, _%_, _^_, _≤_, _<_}
 use native.Mathlib.Nat.{eq-or-lt-of-le, suc-mul, mul-le-mul-right, mod-lt}
 use native.Mathlib.Omega.{arith}
 use lib.Dec.{leb, ltb, eqb}
@@ -12,7 +12,16 @@ use lib.Pow.{pow-pos, split, high}
 use lib.Seq.{getD-set-same, getD-set-other}
 use borrow.Author.Tests.{eq-eqb, ne-eqb, eqb-true, eqb-false, lt-ltb, le-leb, ltb-true, leb-true}
 use Rattle.base.proofs.BoolLaws.{and-left, and-right, or-second, by-bool, lt-or-ge}
-use Rattle.raster.specs.Painting.{within, Filled, Painted, inBlock, inRows}
+use Rattle.quad.specs.Numbers.{forkType}
+use Rattle.quad.specs.Block.{quadrantOf}
+use Rattle.quad.specs.Tree.{sonOf}
+use Rattle.quad.proofs.PathLaws.{half-last, shade-top, shade-leaf}
+use Rattle.table.specs.Table.{son, type, isFork}
+use Rattle.table.specs.Rules.{depthTo}
+use Rattle.table.specs.Nodes.{treeAt}
+use Rattle.table.proofs.AcceptedLaws.{tree-leaf, sons-of, fork-deep, depth-son}
+use Rattle.raster.proofs.BlockLaws.{on-son}
+use Rattle.raster.specs.Painting.{within, Filled, Painted, inBlock, inRows, coloursAt, Paintable}
 
 -- places in one row of a sheet of side s, both between its ends, are in the same row
 same-row : (y t s x left : ℕ) → x < s → t * s + left ≤ y * s + x → y * s + x < t * s + s → y ≡ t
@@ -128,12 +137,135 @@ module _ (n l X Y c : ℕ) (U : List ℕ) where
   rows-more j U₁ W fits p f = record {
     size = f .size ∙ p .size;
     pixels =
-      λ x y hx hy.
-      f .bytes (y * 2 ^ n + x)
-      ∙ rw (row-hit l X (2 ^ n) (Y * 2 ^ l + j) x y fits hx, p .pixels x y hx hy, within-more (Y * 2 ^ l) j y)
-      (over-again (eqb (x / 2 ^ l) X) (eqb y (Y * 2 ^ l + j)) (within (Y * 2 ^ l) j y) c _);
+        λ x y hx hy.
+        f .bytes (y * 2 ^ n + x)
+        ∙ rw (row-hit l X (2 ^ n) (Y * 2 ^ l + j) x y fits hx, p .pixels x y hx hy, within-more (Y * 2 ^ l) j y)
+        (over-again (eqb (x / 2 ^ l) X) (eqb y (Y * 2 ^ l + j)) (within (Y * 2 ^ l) j y) c _);
   }
 
   pub rows-all : (j : ℕ) (W : List ℕ) → j ≡ 2 ^ l → Painted n (inRows l X Y j) (λ i j. c) U W → Painted n (inBlock l X Y) (λ i j. c) U W
   unfolding inRows inBlock
   rows-all j W e p = record { size = p .size; pixels = λ x y hx hy. p .pixels x y hx hy ∙ rw (e, span l Y y) }
+
+-- a block, quarter by quarter
+half-test : (b X : ℕ) → eqb (b / 2) X ≡ eqb b (2 * X) || eqb b (2 * X + 1)
+half-test b X =
+    same-test _ _
+    (λ e.
+    let h : b / 2 ≡ X = eqb-true (b / 2) X e in
+    ⊎-elim
+    (λ (q : eqb b (2 * X) ≡ true). rw q)
+    (λ (q : eqb b (2 * X) ≡ false).
+    let z = eqb-false b (2 * X) q in
+    rw (q, eq-eqb b (2 * X + 1) (omega arith)))
+    (by-bool (eqb b (2 * X))))
+    (λ e.
+    ⊎-elim
+    (λ (q : eqb b (2 * X) ≡ true). eq-eqb (b / 2) X (omega (arith, eqb-true b (2 * X) q)))
+    (λ (q : eqb b (2 * X) ≡ false). eq-eqb (b / 2) X (omega (arith, eqb-true b (2 * X + 1) (or-second (eqb b (2 * X)) _ e q))))
+    (by-bool (eqb b (2 * X))))
+
+four-over : (w e n s : Bool) (g u : ℕ) → cond (e && s) g (cond (w && s) g (cond (e && n) g (cond (w && n) g u))) ≡ cond ((w || e) && (n || s)) g u
+four-over true e true s g u = over-west e s g u
+  where
+    over-west : (e s : Bool) (g u : ℕ) → cond (e && s) g (cond s g (cond (e && true) g g)) ≡ g
+    over-west true true g u = refl
+    over-west true false g u = refl
+    over-west false true g u = refl
+    over-west false false g u = refl
+four-over true true false true g u = refl
+four-over true true false false g u = refl
+four-over true false false true g u = refl
+four-over true false false false g u = refl
+four-over false true true true g u = refl
+four-over false true true false g u = refl
+four-over false true false true g u = refl
+four-over false true false false g u = refl
+four-over false false n s g u = refl
+
+same-where : (b : Bool) (g k u : ℕ) → (b ≡ true → k ≡ g) → cond b k u ≡ cond b g u
+same-where true g k u f = f refl
+same-where false g k u f = refl
+
+module _ (T : List ℕ) (l p X Y : ℕ) where
+  -- a leaf's block
+  pub painted-leaf : (n c : ℕ) (U W : List ℕ) → c ≡ type T p → (c ≡ forkType → ⊥) → Painted n (inBlock l X Y) (λ i j. c) U W
+      → Painted n (inBlock l X Y) (coloursAt T l p) U W
+  painted-leaf n c U W e z h =
+      let f : isFork T p ≡ false = ne-eqb (type T p) forkType (λ q. z (e ∙ q)) in
+      record {
+        size = h .size;
+        pixels =
+            λ x y hx hy. h .pixels x y hx hy
+            ∙ ap (λ (k : ℕ). cond (inBlock l X Y x y) k (getD U (y * 2 ^ n + x) 0)) (e ∙ sym (rw (tree-leaf T l p f) (shade-leaf l (type T p) x y)));
+      }
+
+  -- a pixel of quarter q has the colour that son q gives it
+  quarter-colour : (q u v x y : ℕ) → isFork T p ≡ true → q < 4 → u ≡ 2 * X + q % 2 → v ≡ 2 * Y + q / 2 → inBlock l u v x y ≡ true
+      → coloursAt T l (son T p q) x y ≡ coloursAt T (suc l) p x y
+  unfolding inBlock
+  quarter-colour q u v x y f hq eu ev h =
+      let hx : x / 2 ^ l ≡ u = eqb-true _ _ (and-left (eqb (x / 2 ^ l) u) (eqb (y / 2 ^ l) v) h) in
+      let hy : y / 2 ^ l ≡ v = eqb-true _ _ (and-right (eqb (x / 2 ^ l) u) (eqb (y / 2 ^ l) v) h) in
+      let at : quadrantOf (x / 2 ^ l) (y / 2 ^ l) ≡ q = omega arith in
+      let s : sonOf (treeAt T (suc l) p) q ≡ treeAt T l (son T p q) = rw f at (table-son T l p q hq) in
+      sym (shade-top l (treeAt T (suc l) p) x y ∙ rw (at, s))
+
+  four-quarters : (x y g u : ℕ) → cond (inBlock l (2 * X + 1) (2 * Y + 1) x y) g
+      (cond (inBlock l (2 * X) (2 * Y + 1) x y) g (cond (inBlock l (2 * X + 1) (2 * Y) x y) g (cond (inBlock l (2 * X) (2 * Y) x y) g u)))
+      ≡ cond (inBlock (suc l) X Y x y) g u
+  unfolding inBlock
+  four-quarters x y g u =
+      four-over (eqb (x / 2 ^ l) (2 * X)) (eqb (x / 2 ^ l) (2 * X + 1)) (eqb (y / 2 ^ l) (2 * Y)) (eqb (y / 2 ^ l) (2 * Y + 1)) g u
+      ∙ rw (← half-test (x / 2 ^ l) X, ← half-test (y / 2 ^ l) Y, half-last l x, half-last l y)
+
+  -- a fork's four quarters are its block
+  pub painted-four : (n : ℕ) (U₀ U₁ U₂ U₃ U₄ : List ℕ) → isFork T p ≡ true
+      → Painted n (inBlock l (2 * X) (2 * Y)) (coloursAt T l (son T p 0)) U₀ U₁ → Painted n (inBlock l (2 * X + 1) (2 * Y)) (coloursAt T l (son T p 1)) U₁ U₂
+      → Painted n (inBlock l (2 * X) (2 * Y + 1)) (coloursAt T l (son T p 2)) U₂ U₃ → Painted n (inBlock l (2 * X + 1) (2 * Y + 1)) (coloursAt T l (son T p 3)) U₃ U₄
+      → Painted n (inBlock (suc l) X Y) (coloursAt T (suc l) p) U₀ U₄
+  painted-four n U₀ U₁ U₂ U₃ U₄ f a b c d = record {
+    size = d .size ∙ c .size ∙ b .size ∙ a .size;
+    pixels =
+        λ x y hx hy.
+        d .pixels x y hx hy
+        ∙ rw (
+          c .pixels x y hx hy,
+          b .pixels x y hx hy,
+          a .pixels x y hx hy,
+          same-where (inBlock l (2 * X) (2 * Y) x y) (coloursAt T (suc l) p x y) _ _ (quarter-colour 0 _ _ x y f (omega arith) (omega arith) (omega arith)),
+          same-where (inBlock l (2 * X + 1) (2 * Y) x y) (coloursAt T (suc l) p x y) _ _ (quarter-colour 1 _ _ x y f (omega arith) (omega arith) (omega arith)),
+          same-where (inBlock l (2 * X) (2 * Y + 1) x y) (coloursAt T (suc l) p x y) _ _ (quarter-colour 2 _ _ x y f (omega arith) (omega arith) (omega arith)),
+          same-where (inBlock l (2 * X + 1) (2 * Y + 1) x y) (coloursAt T (suc l) p x y) _ _ (quarter-colour 3 _ _ x y f (omega arith) (omega arith) (omega arith)),
+        )
+        (four-quarters x y _ _);
+  }
+
+-- the same in the code's numbers
+pub painted-fork : (T : List ℕ) (l p X Y n : ℕ) (U₀ U₁ U₂ U₃ U₄ : List ℕ) → 0 < l → isFork T p ≡ true
+    → Painted n (inBlock (l - 1) (2 * X) (2 * Y)) (coloursAt T (l - 1) (son T p 0)) U₀ U₁
+    → Painted n (inBlock (l - 1) (2 * X + 1) (2 * Y)) (coloursAt T (l - 1) (son T p 1)) U₁ U₂
+    → Painted n (inBlock (l - 1) (2 * X) (2 * Y + 1)) (coloursAt T (l - 1) (son T p 2)) U₂ U₃
+    → Painted n (inBlock (l - 1) (2 * X + 1) (2 * Y + 1)) (coloursAt T (l - 1) (son T p 3)) U₃ U₄
+    → Painted n (inBlock l X Y) (coloursAt T l p) U₀ U₄
+painted-fork T l p X Y n U₀ U₁ U₂ U₃ U₄ pos f a b c d =
+    let e : l ≡ suc (l - 1) = omega arith in
+    rw e (painted-four T (l - 1) p X Y n U₀ U₁ U₂ U₃ U₄ f a b c d)
+
+-- a fork is above level 0, and each son may be painted in its quarter
+module _ {n : ℕ} {T : List ℕ} {p l x y bytes : ℕ} (h : Paintable n T p l x y bytes) (f : isFork T p ≡ true) where
+  pub fork-above : 0 < l
+  fork-above = omega (arith, h .level, fork-deep n T (h .accepted) p (h .node) f)
+
+  pub paintable-son : (q s u v : ℕ) → q < 4 → s ≡ son T p q → u ≤ 2 * x + 1 → v ≤ 2 * y + 1 → Paintable n T s (l - 1) u v bytes
+  paintable-son q s u v lt e hu hv =
+      let pos = fork-above in
+      let lev = h .level in
+      let d : l - 1 + depthTo T n (son T p q) ≡ n = omega (arith, depth-son n T (h .accepted) p q (h .node) f lt) in
+      rw e (record {
+        accepted = h .accepted;
+        node = sons-of n T (h .accepted) p (h .node) f q lt .below;
+        level = d;
+        block = on-son (h .block) pos u v hu hv;
+        whole = h .whole;
+      })

@@ -7,9 +7,9 @@ ghost use lib.Seq.{sets};
 ghost use Rattle.quad.specs.Numbers.{topLevel};
 ghost use Rattle.quad.specs.Tree.{treeOf};
 ghost use Rattle.raster.specs.Raster.{pictureOf, rasterLength, pixelsFrom};
-ghost use Rattle.raster.specs.Calls.{Builds};
+ghost use Rattle.raster.specs.Calls.{Builds, Decodes};
 ghost use Rattle.raster.specs.Blocks.{Picture, readableOf, OnSheet, Few, likeKinds, joinedOf, measureOf};
-ghost use Rattle.raster.specs.Painting.{Filled, Painted, inBlock};
+ghost use Rattle.raster.specs.Painting.{Filled, Painted, inBlock, coloursAt, Paintable};
 ghost use Rattle.raster.specs.Writing.{lateWords, ForkRoom, forkPut, Ready, Put};
 
 // What a block's tree comes to: its nodes, and a leaf's colour or a fork's type.
@@ -252,4 +252,49 @@ fn fill_block(raster: &mut [u8], n: u32, level: u32, x: usize, y: usize, colour:
         fill_row(raster, (top + j) * across + left, width, colour);
         j += 1;
     }
+}
+
+// Paints the block of node p, each pixel once: a leaf fills its block, a fork paints its quarters.
+fn paint(table: &[u32], p: usize, n: u32, level: u32, x: usize, y: usize, raster: &mut [u8])
+    requires { ⌜ Paintable n (now table) p level x y (length (now raster)) ⌝ }
+    ensures { λ _. ⌜ Painted n (inBlock level x y) (coloursAt (now (table .entry)) level p) (now (raster .entry)) (now (raster .exit)) ⌝ }
+{
+    let kind = table::word_at(table, p, 5);
+    if kind != quad::FORK {
+        fill_block(raster, n, level, x, y, kind as u8);
+        return;
+    }
+    let half = level - 1;
+    let west = 2 * x;
+    let north = 2 * y;
+    let east = west + 1;
+    let south = north + 1;
+    let nw = table::word_at(table, p, 1);
+    let ne = table::word_at(table, p, 2);
+    let sw = table::word_at(table, p, 3);
+    let se = table::word_at(table, p, 4);
+    paint(table, nw, n, half, west, north, raster);
+    paint(table, ne, n, half, east, north, raster);
+    paint(table, sw, n, half, west, south, raster);
+    paint(table, se, n, half, east, south, raster);
+}
+
+// Decoding: for any level and any words, the table's picture in every byte of the raster, or the first refusal and the raster as it was.
+pub fn decode(n: u32, table: &[u32], raster: &mut [u8]) -> Outcome
+    ensures { λ r. ⌜ Decodes n (now (table .entry)) (now (raster .entry)) r (now (raster .exit)) ⌝ }
+{
+    let sized = table::sizes(n, table);
+    if !answer::answered(sized) {
+        return sized;
+    }
+    let long = raster_length(n, raster.len());
+    if !answer::answered(long) {
+        return long;
+    }
+    let checked = table::faults(n, table);
+    if !answer::answered(checked) {
+        return checked;
+    }
+    paint(table, 0, n, n, 0, 0, raster);
+    Outcome::Answered { value: 0 }
 }

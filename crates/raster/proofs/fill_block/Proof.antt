@@ -1,5 +1,4 @@
 -- `raster::fill_block`: the first j rows are filled. The measure is the rows left. Assumes nothing.
-use mathlib.Core.Path.{_≡_, sym, _∙_}
 use native.Mathlib.Omega.{arith}
 use Rattle.raster.proofs.BlockLaws.{block-fits, side-small, row-fits}
 use Rattle.raster.proofs.PaintingLaws.{rows-none, rows-more, rows-all}
@@ -24,14 +23,14 @@ side-requires-2 : tie.Need-side-requires-2 Inv-loop μ-loop
 side-requires-2 c κs = omega (arith, c .before .before .pre .0, c .before .before .pre .1 .low)
 
 mul-left : tie.Need-mul-left Inv-loop μ-loop
-mul-left c = 
+mul-left c =
     let s = c .before .before .before .args in
     let fit = block-fits (c .before .before .before .pre .1) in
     let small = side-small (s .n) (c .before .before .before .pre .0) in
     record { fits = rw (c .side2 .ensures) (omega arith) }
 
 mul-top : tie.Need-mul-top Inv-loop μ-loop
-mul-top c = 
+mul-top c =
     let s = c .before .before .before .args in
     let fit = block-fits (c .before .before .before .pre .1) in
     let small = side-small (s .n) (c .before .before .before .pre .0) in
@@ -41,7 +40,7 @@ loop-holds : tie.Need-loop-holds Inv-loop μ-loop
 loop-holds c = (omega arith, rows-none _ _ _ _ _ _)
 
 add-fill-row : tie.Need-add-fill-row Inv-loop μ-loop
-add-fill-row c = 
+add-fill-row c =
     let s = c .before .before .before .before .before .before .args in
     let fit = block-fits (c .before .before .before .before .before .before .pre .1) in
     let small = side-small (s .n) (c .before .before .before .before .before .before .pre .0) in
@@ -52,7 +51,7 @@ add-fill-row c =
     record { fits = rw (c .before .before .before .side2 .ensures) (omega arith) }
 
 mul-fill-row : tie.Need-mul-fill-row Inv-loop μ-loop
-mul-fill-row c = 
+mul-fill-row c =
     let s = c .before .before .before .before .before .before .args in
     let fit = block-fits (c .before .before .before .before .before .before .pre .1) in
     let small = side-small (s .n) (c .before .before .before .before .before .before .pre .0) in
@@ -63,7 +62,7 @@ mul-fill-row c =
     record { fits = rw (c .before .before .before .side2 .ensures, c .before .before .before .before .side .ensures) (omega arith) }
 
 add-fill-row-2 : tie.Need-add-fill-row-2 Inv-loop μ-loop
-add-fill-row-2 c = 
+add-fill-row-2 c =
     let s = c .before .before .before .before .before .before .args in
     let fit = block-fits (c .before .before .before .before .before .before .pre .1) in
     let small = side-small (s .n) (c .before .before .before .before .before .before .pre .0) in
@@ -74,7 +73,7 @@ add-fill-row-2 c =
     record { fits = rw (c .before .before .before .side2 .ensures, c .before .before .before .before .side .ensures) (omega arith) }
 
 fill-row-requires : tie.Need-fill-row-requires Inv-loop μ-loop
-fill-row-requires c κs = 
+fill-row-requires c κs =
     let s = c .before .before .before .before .before .before .args in
     let fit = block-fits (c .before .before .before .before .before .before .pre .1) in
     let small = side-small (s .n) (c .before .before .before .before .before .before .pre .0) in
@@ -85,7 +84,7 @@ fill-row-requires c κs =
     rw (c .before .before .before .side2 .ensures, c .before .before .before .before .side .ensures, c .before .before .loop .inv .1 .size, c .before .before .before .before .before .before .pre .2) (omega arith)
 
 add-j : tie.Need-add-j Inv-loop μ-loop
-add-j c = 
+add-j c =
     let s = c .before .before .before .before .before .before .before .before .before .args in
     let fit = block-fits (c .before .before .before .before .before .before .before .before .before .pre .1) in
     let small = side-small (s .n) (c .before .before .before .before .before .before .before .before .before .pre .0) in
@@ -95,12 +94,13 @@ loop-less : tie.Need-loop-less Inv-loop μ-loop
 loop-less c = omega (arith, rw (c .before .before .before .before .before .before .side2 .ensures) at (c .before .before .before .before .loop-test .taken))
 
 loop-again : tie.Need-loop-again Inv-loop μ-loop
-loop-again c = 
+loop-again c =
     let s = c .before .before .before .before .before .before .before .before .before .args in
     let fit = block-fits (c .before .before .before .before .before .before .before .before .before .pre .1) in
-    let small = side-small (s .n) (c .before .before .before .before .before .before .before .before .before .pre .0) in
-    (omega (arith, rw (c .before .before .before .before .before .before .side2 .ensures) at (c .before .before .before .before .loop-test .taken)),
-    rows-more (s .n) (s .level) (s .x) (s .y) _ _ _ _ _ (fit .0) (c .before .before .before .before .before .loop .inv .1) (rw (c .before .before .before .before .before .before .side2 .ensures, c .before .before .before .before .before .before .before .side .ensures) at (c .before .before .fill-row .ensures)))
+    let small = side-small (s .n) (c .before .before .before .before .before .before .before .before .before .pre .0) in (
+      omega (arith, rw (c .before .before .before .before .before .before .side2 .ensures) at (c .before .before .before .before .loop-test .taken)),
+      rows-more (s .n) (s .level) (s .x) (s .y) _ _ _ _ _ (fit .0) (c .before .before .before .before .before .loop .inv .1) (rw (c .before .before .before .before .before .before .side2 .ensures, c .before .before .before .before .before .before .before .side .ensures) at (c .before .before .fill-row .ensures)),
+    )
 
 same-length : tie.Need-same-length Inv-loop μ-loop
 same-length c = c .before .loop .inv .1 .size
