@@ -20,6 +20,7 @@ use Rattle.table.specs.Table.{son, type, isFork}
 use Rattle.table.specs.Rules.{depthTo}
 use Rattle.table.specs.Nodes.{treeAt}
 use Rattle.table.proofs.AcceptedLaws.{tree-leaf, sons-of, fork-deep, depth-son}
+use Rattle.table.proofs.PictureLaws.{tree-son as table-son}
 use Rattle.raster.proofs.BlockLaws.{on-son}
 use Rattle.raster.specs.Painting.{within, Filled, Painted, inBlock, inRows, coloursAt, Paintable}
 

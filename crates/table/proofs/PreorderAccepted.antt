@@ -201,7 +201,7 @@ or-true : (b : Bool) → b || true ≡ true
 or-true true = refl
 or-true false = refl
 
-coloured-son : (t : Tree) → Coloured t → (q : ℕ) → Coloured (sonOf t q)
+pub coloured-son : (t : Tree) → Coloured t → (q : ℕ) → Coloured (sonOf t q)
 unfolding Coloured
 coloured-son (leaf c) h q = unfold sonOf in h
 coloured-son (fork a b c d) h q = each-son Coloured h q
