@@ -44,7 +44,7 @@ module _ (n : ℕ) (R U : List ℕ) where
   abbrev tree : Tree
   tree = treeOf (pictureOf n R) n 0 0
 
-  build-then : buildOf n R (length U) ≡ andThen (readableOf n R) (andThen (room (6 * sizeOf tree) (length U)) (Answered (sizeOf tree)))
+  pub build-then : buildOf n R (length U) ≡ andThen (readableOf n R) (andThen (room (6 * sizeOf tree) (length U)) (Answered (sizeOf tree)))
   unfolding buildOf readableOf rasterTree
   build-then =
       sym (

@@ -1,36 +1,26 @@
 -- A sheet and its raster are one picture (document 01, demand 2), for every n: what is built is accepted and decodes to the raster that it was built
 -- from; what an accepted table decodes to builds to the preorder table of that table's one tree, whatever the table's numbering.
-use mathlib.Core.Bool.{Bool, true, false}
-use mathlib.Core.List.{List, _++_}
-use mathlib.Core.Path.{_≡_, refl, ap, sym, _∙_}
+use mathlib.Core.List.{List}
+use mathlib.Core.Path.{_≡_, ap, sym, _∙_}
 use mathlib.Core.Logic.{⊎-elim}
-use Prim.Native.Nat.{ℕ, zero, suc, _+_, _*_, _/_, _%_, _^_, _≤_, _<_}
+use Prim.Native.Nat.{ℕ, zero, suc, _/_, _%_, _^_, _≤_, _<_}
 use native.Mathlib.Nat.{mod-lt, div-lt-iff-lt-mul}
 use native.Mathlib.Omega.{arith}
-use lib.ListN.{length, getD, take, drop, List·getD-eq-default}
+use lib.ListN.{getD, List·getD-eq-default}
 use lib.Pow.{pow-pos, split}
-use lib.Seq.{take-at, drop-at}
-use Rattle.base.specs.Tab.{overlay}
 use Rattle.base.proofs.BoolLaws.{lt-or-ge}
-use Rattle.answer.specs.declared.Outcome.{Outcome}
-use Rattle.answer.specs.declared.Outcome.the-variants.{Answered}
-use Rattle.answer.specs.Numbers.{answers}
-use Rattle.quad.specs.Numbers.{topLevel, topColour}
-use Rattle.quad.specs.Tree.{Tree, leaf, fork, sonOf, colour, shade, Within, Coloured, sizeOf, Shows}
+use Rattle.quad.specs.Numbers.{topColour}
+use Rattle.quad.specs.Tree.{Tree, leaf, fork, sonOf, colour, shade, Within, Coloured, Shows}
 use Rattle.quad.proofs.PathLaws.{shade-top, shade-leaf}
 use Rattle.quad.proofs.TreeLaws.{within-zero, within-son}
 use Rattle.quad.proofs.PictureLaws.{tree-within, tree-reduced, built, same-picture, pixel-lt}
-use Rattle.table.specs.Table.{nodes}
 use Rattle.table.specs.Rules.{Accepted}
 use Rattle.table.specs.Nodes.{treeAt, pixel}
 use Rattle.table.specs.Preorder.{preorderTable}
 use Rattle.table.proofs.AcceptedLaws.{Sound}
 use Rattle.table.proofs.PictureLaws.{pixel-shade, sheet-tree, sheet-sound}
-use Rattle.table.proofs.PreorderLaws.{preorder-length}
 use Rattle.table.proofs.PreorderAccepted.{coloured-son, preorder-tree, preorder-accepted}
-use Rattle.table.proofs.SizeLaws.{tree-size}
-use Rattle.raster.specs.Raster.{pictureOf, rasterOf, rasterTree, buildOf, builtTable}
-use Rattle.raster.specs.Calls.{Builds, Decodes}
+use Rattle.raster.specs.Raster.{pictureOf, rasterOf, rasterTree}
 use Rattle.raster.specs.Blocks.{Picture}
 use Rattle.raster.proofs.BlockLaws.{four-pow, block-coloured}
 use Rattle.raster.proofs.RasterLaws.{raster-size, raster-pixel, same-raster}
