@@ -1,1 +1,5 @@
 pub mod Raster
+pub mod Calls
+pub mod Blocks
+pub mod Writing
+pub mod Painting

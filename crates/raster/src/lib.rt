@@ -1,1 +1,300 @@
-// A table and its raster are one picture: building and decoding. So far what the two calls mean; the code is to come.
+// A table and its raster are one picture: building and decoding.
+use answer::Outcome;
+ghost use mathlib.Core.Path.{_≡_};
+ghost use Prim.Native.Nat.{_+_, _*_, _≤_, _^_};
+ghost use lib.ListN.{length};
+ghost use lib.Seq.{sets};
+ghost use Rattle.quad.specs.Numbers.{topLevel};
+ghost use Rattle.quad.specs.Tree.{treeOf};
+ghost use Rattle.raster.specs.Raster.{pictureOf, rasterLength, pixelsFrom};
+ghost use Rattle.raster.specs.Calls.{Builds, Decodes};
+ghost use Rattle.raster.specs.Blocks.{Picture, readableOf, OnSheet, Few, likeKinds, joinedOf, measureOf};
+ghost use Rattle.raster.specs.Painting.{Filled, Painted, inBlock, coloursAt, Paintable};
+ghost use Rattle.raster.specs.Writing.{lateWords, ForkRoom, forkPut, Ready, Put};
+
+// What a block's tree comes to: its nodes, and a leaf's colour or a fork's type.
+pub struct Measured {
+    pub nodes: u32,
+    pub kind: u32,
+}
+
+// The side of a sheet.
+fn side(n: u32) -> usize
+    requires { ⌜ n ≤ topLevel ⌝ }
+    ensures { λ r. ⌜ r ≡ 2 ^ n ⌝ }
+{
+    1 << n
+}
+
+// The pixel in column x and row y.
+fn pixel_at(raster: &[u8], n: u32, x: usize, y: usize) -> u32
+    requires { ⌜ Picture n (now raster) × OnSheet n 0 x y ⌝ }
+    ensures { λ r. ⌜ r ≡ pictureOf n (now (raster .entry)) x y ⌝ }
+{
+    let across = side(n);
+    raster[y * across + x] as u32
+}
+
+// Whether four kinds are those of four like leaves.
+fn alike(nw: u32, ne: u32, sw: u32, se: u32) -> bool
+    ensures { λ r. ⌜ r ≡ likeKinds nw ne sw se ⌝ }
+{
+    if nw == quad::FORK as u32 {
+        return false;
+    }
+    if nw != ne {
+        return false;
+    }
+    if nw != sw {
+        return false;
+    }
+    nw == se
+}
+
+// What four quarters come to: one of them where they are like leaves, else a fork over them.
+fn joined(nw: Measured, ne: Measured, sw: Measured, se: Measured) -> Measured
+    requires { ⌜ Few nw × Few ne × Few sw × Few se ⌝ }
+    ensures { λ r. ⌜ r ≡ joinedOf nw ne sw se ⌝ }
+{
+    if alike(nw.kind, ne.kind, sw.kind, se.kind) {
+        return nw;
+    }
+    Measured {
+        nodes: 1 + (nw.nodes + (ne.nodes + (sw.nodes + se.nodes))),
+        kind: quad::FORK as u32,
+    }
+}
+
+// What the tree of a block comes to, from its pixels up.
+fn measure(raster: &[u8], n: u32, level: u32, x: usize, y: usize) -> Measured
+    requires { ⌜ Picture n (now raster) × OnSheet n level x y ⌝ }
+    ensures { λ r. ⌜ r ≡ measureOf (treeOf (pictureOf n (now (raster .entry))) level x y) ⌝ }
+{
+    if level == 0 {
+        return Measured {
+            nodes: 1,
+            kind: pixel_at(raster, n, x, y),
+        };
+    }
+    let half = level - 1;
+    let west = 2 * x;
+    let north = 2 * y;
+    let east = west + 1;
+    let south = north + 1;
+    let nw = measure(raster, n, half, west, north);
+    let ne = measure(raster, n, half, east, north);
+    let sw = measure(raster, n, half, west, south);
+    let se = measure(raster, n, half, east, south);
+    joined(nw, ne, sw, se)
+}
+
+// Writes node p where its kind is a leaf's; a fork stands there already.
+fn put_leaf(table: &mut [u32], p: u32, father: u32, kind: u32)
+    requires { ⌜ 6 * p + 6 ≤ length (now table) ⌝ }
+    ensures { λ _. ⌜ now (table .exit) ≡ sets (now (table .entry)) (6 * p) (lateWords father kind) ⌝ }
+{
+    if kind == quad::FORK as u32 {
+        return;
+    }
+    let none = quad::NONE as u32;
+    table::put_node(table, p as usize, father, none, none, none, none, kind);
+}
+
+// Writes what a fork at node p still lacks once the forks among its sons stand: its leaves, and its own six words.
+fn put_fork(
+    table: &mut [u32],
+    p: u32,
+    father: u32,
+    nw: Measured,
+    ne: Measured,
+    sw: Measured,
+    se: Measured,
+)
+    requires { ⌜ ForkRoom p nw ne sw se (length (now table)) ⌝ }
+    ensures { λ _. ⌜ now (table .exit) ≡ forkPut (now (table .entry)) p father nw ne sw se ⌝ }
+{
+    let a = p + 1;
+    let b = a + nw.nodes;
+    let c = b + ne.nodes;
+    let d = c + sw.nodes;
+    put_leaf(table, a, p, nw.kind);
+    put_leaf(table, b, p, ne.kind);
+    put_leaf(table, c, p, sw.kind);
+    put_leaf(table, d, p, se.kind);
+    table::put_node(table, p as usize, father, a, b, c, d, quad::FORK as u32);
+}
+
+// Writes a block's tree from node p on where it is a fork; a leaf is left to its father. Gives what the tree comes to.
+fn put(
+    raster: &[u8],
+    n: u32,
+    level: u32,
+    x: usize,
+    y: usize,
+    table: &mut [u32],
+    p: u32,
+    father: u32,
+) -> Measured
+    requires { ⌜ Picture n (now raster) × OnSheet n level x y × Ready (treeOf (pictureOf n (now raster)) level x y) level p (length (now table)) ⌝ }
+    ensures { λ r. ⌜ Put (treeOf (pictureOf n (now (raster .entry))) level x y) father p (now (table .entry)) (now (table .exit)) r ⌝ }
+{
+    if level == 0 {
+        return Measured {
+            nodes: 1,
+            kind: pixel_at(raster, n, x, y),
+        };
+    }
+    let half = level - 1;
+    let west = 2 * x;
+    let north = 2 * y;
+    let east = west + 1;
+    let south = north + 1;
+    let a = p + 1;
+    let nw = put(raster, n, half, west, north, table, a, p);
+    let b = a + nw.nodes;
+    let ne = put(raster, n, half, east, north, table, b, p);
+    let c = b + ne.nodes;
+    let sw = put(raster, n, half, west, south, table, c, p);
+    let d = c + sw.nodes;
+    let se = put(raster, n, half, east, south, table, d, p);
+    let whole = joined(nw, ne, sw, se);
+    if whole.kind != quad::FORK as u32 {
+        return whole;
+    }
+    put_fork(table, p, father, nw, ne, sw, se);
+    whole
+}
+
+// Whether a raster of level n has that many bytes.
+fn raster_length(n: u32, bytes: usize) -> Outcome
+    requires { ⌜ n ≤ topLevel ⌝ }
+    ensures { λ r. ⌜ r ≡ rasterLength n bytes ⌝ }
+{
+    let across = side(n);
+    if bytes != across * across {
+        return Outcome::WrongLength { which: 1 };
+    }
+    Outcome::Answered { value: 0 }
+}
+
+// The first byte that is no colour.
+fn pixels(raster: &[u8]) -> Outcome
+    requires { ⌜ length (now raster) ≤ 4 ^ topLevel ⌝ }
+    ensures { λ r. ⌜ r ≡ pixelsFrom (now (raster .entry)) 0 ⌝ }
+{
+    let mut i = 0;
+    while i < raster.len() {
+        if quad::TOP_COLOUR < raster[i] as usize {
+            return Outcome::BadPixel { place: i as u32 };
+        }
+        i += 1;
+    }
+    Outcome::Answered { value: 0 }
+}
+
+// The tests for 1, 2 and 8.
+fn readable(n: u32, raster: &[u8]) -> Outcome
+    ensures { λ r. ⌜ r ≡ readableOf n (now (raster .entry)) ⌝ }
+{
+    if quad::TOP_LEVEL < n {
+        return Outcome::BadLevel { place: 0 };
+    }
+    let sized = raster_length(n, raster.len());
+    if !answer::answered(sized) {
+        return sized;
+    }
+    pixels(raster)
+}
+
+// Building: for any level, any bytes and any table, the preorder table of the raster's one tree at the table's start and its node count, or the first
+// refusal and the table as it was.
+pub fn build(n: u32, raster: &[u8], table: &mut [u32]) -> Outcome
+    ensures { λ r. ⌜ Builds n (now (raster .entry)) (now (table .entry)) r (now (table .exit)) ⌝ }
+{
+    let read = readable(n, raster);
+    if !answer::answered(read) {
+        return read;
+    }
+    let whole = measure(raster, n, n, 0, 0);
+    let needed = 6 * whole.nodes;
+    if table.len() < needed as usize {
+        return Outcome::NoRoom { needed };
+    }
+    let none = quad::NONE as u32;
+    let root = put(raster, n, n, 0, 0, table, 0, none);
+    put_leaf(table, 0, none, root.kind);
+    Outcome::Answered { value: whole.nodes }
+}
+
+// Fills `width` bytes from a place on.
+fn fill_row(raster: &mut [u8], start: usize, width: usize, colour: u8)
+    requires { ⌜ start + width ≤ length (now raster) ⌝ }
+    ensures { λ _. ⌜ Filled start width colour (now (raster .entry)) (now (raster .exit)) ⌝ }
+{
+    let mut i = 0;
+    while i < width {
+        raster[start + i] = colour;
+        i += 1;
+    }
+}
+
+// Fills a block, row by row.
+fn fill_block(raster: &mut [u8], n: u32, level: u32, x: usize, y: usize, colour: u8)
+    requires { ⌜ (n ≤ topLevel) × OnSheet n level x y × (length (now raster) ≡ 4 ^ n) ⌝ }
+    ensures { λ _. ⌜ Painted n (inBlock level x y) (λ i j. colour) (now (raster .entry)) (now (raster .exit)) ⌝ }
+{
+    let across = side(n);
+    let width = side(level);
+    let left = x * width;
+    let top = y * width;
+    let mut j = 0;
+    while j < width {
+        fill_row(raster, (top + j) * across + left, width, colour);
+        j += 1;
+    }
+}
+
+// Paints the block of node p, each pixel once: a leaf fills its block, a fork paints its quarters.
+fn paint(table: &[u32], p: usize, n: u32, level: u32, x: usize, y: usize, raster: &mut [u8])
+    requires { ⌜ Paintable n (now table) p level x y (length (now raster)) ⌝ }
+    ensures { λ _. ⌜ Painted n (inBlock level x y) (coloursAt (now (table .entry)) level p) (now (raster .entry)) (now (raster .exit)) ⌝ }
+{
+    let kind = table::word_at(table, p, 5);
+    if kind != quad::FORK {
+        fill_block(raster, n, level, x, y, kind as u8);
+        return;
+    }
+    let half = level - 1;
+    let west = 2 * x;
+    let north = 2 * y;
+    let east = west + 1;
+    let south = north + 1;
+    let nw = table::word_at(table, p, 1);
+    let ne = table::word_at(table, p, 2);
+    let sw = table::word_at(table, p, 3);
+    let se = table::word_at(table, p, 4);
+    paint(table, nw, n, half, west, north, raster);
+    paint(table, ne, n, half, east, north, raster);
+    paint(table, sw, n, half, west, south, raster);
+    paint(table, se, n, half, east, south, raster);
+}
+
+// Decoding: for any level and any words, the table's picture in every byte of the raster, or the first refusal and the raster as it was.
+pub fn decode(n: u32, table: &[u32], raster: &mut [u8]) -> Outcome
+    ensures { λ r. ⌜ Decodes n (now (table .entry)) (now (raster .entry)) r (now (raster .exit)) ⌝ }
+{
+    let sized = table::sizes(n, table);
+    if !answer::answered(sized) {
+        return sized;
+    }
+    let long = raster_length(n, raster.len());
+    if !answer::answered(long) {
+        return long;
+    }
+    let checked = table::faults(n, table);
+    if !answer::answered(checked) {
+        return checked;
+    }
+    paint(table, 0, n, n, 0, 0, raster);
+    Outcome::Answered { value: 0 }
+}

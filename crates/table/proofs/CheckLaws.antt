@@ -20,14 +20,14 @@ use Rattle.table.proofs.RuleLaws.{from-none}
 use Rattle.table.specs.Rules.{faultAt, faulty, faultFrom, faultsOf, lengthOk, sizesOf, checkOf, askedOf, Sized, Accepted, Asked}
 
 -- an outcome that answers, followed by the next
-go-on : (o next : Outcome) → answers (andThen o next) ≡ true → (answers o ≡ true) × (answers next ≡ true)
+pub go-on : (o next : Outcome) → answers (andThen o next) ≡ true → (answers o ≡ true) × (answers next ≡ true)
 go-on o next e = go (answers o) refl
   where
     go : (b : Bool) → answers o ≡ b → (answers o ≡ true) × (answers next ≡ true)
     go true q = (q, rw q at e)
     go false q = absurd (false≢true (sym q ∙ rw q at e))
 
-answers-unless : (b : Bool) (o : Outcome) → answers o ≡ false → answers (unless b o) ≡ true → b ≡ false
+pub answers-unless : (b : Bool) (o : Outcome) → answers o ≡ false → answers (unless b o) ≡ true → b ≡ false
 answers-unless true o f e = absurd (false≢true (sym f ∙ e))
 answers-unless false o f e = refl
 

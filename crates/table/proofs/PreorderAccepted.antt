@@ -75,7 +75,7 @@ unfolding sonNode sizeOf sonOf
 nodes-end p a b c d = omega arith
 
 -- the part of son q ends before the fork's part does
-node-end : (p : ℕ) (a b c d : Tree) (q : ℕ) → q < 4 → sonNode p (fork a b c d) q + sizeOf (sonOf (fork a b c d) q) ≤ p + sizeOf (fork a b c d)
+pub node-end : (p : ℕ) (a b c d : Tree) (q : ℕ) → q < 4 → sonNode p (fork a b c d) q + sizeOf (sonOf (fork a b c d) q) ≤ p + sizeOf (fork a b c d)
 node-end p a b c d q lt =
     let t : Tree = fork a b c d in
     let s : sonNode p t (suc q) ≡ sonNode p t q + sizeOf (sonOf t q) = unfold sonNode in refl in
@@ -201,7 +201,7 @@ or-true : (b : Bool) → b || true ≡ true
 or-true true = refl
 or-true false = refl
 
-coloured-son : (t : Tree) → Coloured t → (q : ℕ) → Coloured (sonOf t q)
+pub coloured-son : (t : Tree) → Coloured t → (q : ℕ) → Coloured (sonOf t q)
 unfolding Coloured
 coloured-son (leaf c) h q = unfold sonOf in h
 coloured-son (fork a b c d) h q = each-son Coloured h q

@@ -1,0 +1,95 @@
+-- Building, from its refusals to the table: the outcome and the table that the call leaves, each way that it ends.
+use mathlib.Core.Bool.{Bool, true, false, not}
+use mathlib.Core.List.{List}
+use mathlib.Core.Path.{_≡_, refl, ap, sym, _∙_}
+use Prim.Native.Nat.{ℕ, _-_, _*_, _≤_, _<_}
+use native.Mathlib.Nat.{pow-le-pow-right}
+use native.Mathlib.Omega.{arith}
+use lib.Dec.{ltb}
+use lib.ListN.{length}
+use lib.Seq.{sets}
+use borrow.Author.Tests.{lt-ltb, le-ltb}
+use Rattle.base.proofs.BoolLaws.{on, off}
+use Rattle.answer.specs.declared.Outcome.{Outcome}
+use Rattle.answer.specs.declared.Outcome.the-variants.{Answered, BadLevel, NoRoom}
+use Rattle.answer.specs.Numbers.{answers, andThen, unless, room}
+use Rattle.quad.specs.Numbers.{topLevel, none}
+use Rattle.quad.specs.Tree.{Tree, sizeOf, treeOf}
+use Rattle.table.specs.Preorder.{preorderTable}
+use Rattle.table.proofs.PreorderLaws.{written-whole}
+use Rattle.raster.specs.declared.Measured.{Measured}
+use Rattle.raster.specs.Raster.{pictureOf, rasterTree, rasterLength, pixelsFrom, buildOf, builtTable}
+use Rattle.raster.specs.Calls.{Builds}
+use Rattle.raster.specs.Blocks.{Picture, OnSheet, readableOf, measureOf}
+use Rattle.raster.specs.Writing.{lateWords, Ready, Put}
+use Rattle.raster.proofs.BlockLaws.{block-coloured}
+use Rattle.raster.proofs.WritingLaws.{of-nodes, of-kind, whole-part, room-of}
+use Rattle.raster.proofs.TestLaws.{readable-picture}
+
+-- refusals may be taken together
+then-then : (a b c : Outcome) → andThen (andThen a b) c ≡ andThen a (andThen b c)
+then-then a b c = go (answers a) refl
+  where
+    go : (u : Bool) → answers a ≡ u → andThen (andThen a b) c ≡ andThen a (andThen b c)
+    go true q = rw q
+    go false q = rw (q, q)
+
+-- the whole sheet is a block
+pub sheet-on : (n : ℕ) → OnSheet n n 0 0
+sheet-on n =
+    let e : n - n ≡ 0 = omega arith in
+    record { low = omega arith; across = rw e (omega arith); down = rw e (omega arith) }
+
+module _ (n : ℕ) (R U : List ℕ) where
+  abbrev tree : Tree
+  tree = treeOf (pictureOf n R) n 0 0
+
+  pub build-then : buildOf n R (length U) ≡ andThen (readableOf n R) (andThen (room (6 * sizeOf tree) (length U)) (Answered (sizeOf tree)))
+  unfolding buildOf readableOf rasterTree
+  build-then =
+      sym (
+      then-then (unless (ltb topLevel n) (BadLevel 0)) (andThen (rasterLength n (length R)) (pixelsFrom R 0)) _
+      ∙ ap (andThen (unless (ltb topLevel n) (BadLevel 0))) (then-then (rasterLength n (length R)) (pixelsFrom R 0) _)
+      )
+
+  -- nothing is written where the outcome is no answer
+  builds-not : (o : Outcome) → o ≡ buildOf n R (length U) → answers o ≡ false → Builds n R U o U
+  unfolding builtTable
+  builds-not o e f = record { answer = e; table = rw (← e, f) }
+
+  module _ (o : Outcome) (u : Bool) (e : o ≡ readableOf n R) (a : u ≡ answers o) where
+    pub builds-refused : not u ≡ true → Builds n R U o U
+    builds-refused h =
+        let f : answers o ≡ false = off u (answers o) a h in
+        builds-not o (sym (build-then ∙ rw (← e, f))) f
+
+    module _ (h : not u ≡ false) where
+      pub passed-picture : Picture n R
+      passed-picture = readable-picture n R (ap answers (sym e) ∙ on u (answers o) a h)
+
+      build-room : buildOf n R (length U) ≡ andThen (room (6 * sizeOf tree) (length U)) (Answered (sizeOf tree))
+      build-room = build-then ∙ rw (← e, on u (answers o) a h)
+
+      module _ (m : Measured) (em : m ≡ measureOf tree) where
+        pub builds-short : length U < 6 * m .nodes → Builds n R U (NoRoom (6 * m .nodes)) U
+        builds-short lt =
+            let s = of-nodes tree m em in
+            builds-not (NoRoom (6 * m .nodes)) (sym (build-room ∙ rw (← s, lt-ltb (length U) (6 * m .nodes) lt))) refl
+
+        -- the tree, and a lone leaf's words after it
+        pub builds-done : (root : Measured) (W after : List ℕ) → 6 * m .nodes ≤ length U → Put tree none 0 U W root
+            → after ≡ sets W (6 * 0) (lateWords none (root .kind)) → Builds n R U (Answered (m .nodes)) after
+        unfolding builtTable rasterTree
+        builds-done root W after le p w =
+            let s = of-nodes tree m em in
+            let b : buildOf n R (length U) ≡ Answered (m .nodes) = build-room ∙ rw (← s, le-ltb (length U) (6 * m .nodes) le) in
+            let all : after ≡ sets U (6 * 0) (preorderTable tree) =
+            w ∙ rw (of-kind tree root (p .measured), p .words) (whole-part U none 0 tree (block-coloured n R passed-picture n 0 0)) in
+            record { answer = sym b; table = rw b (written-whole tree U after (omega arith) all) }
+
+  -- there is room for its tree
+  pub sheet-ready : n ≤ topLevel → (m : Measured) → m ≡ measureOf tree → 6 * m .nodes ≤ length U → Ready tree n 0 (length U)
+  sheet-ready top m em le = record {
+    room = room-of tree 0 (length U) (omega (arith, of-nodes tree m em));
+    few = omega (arith, pow-le-pow-right {n = 4} (omega arith) {i = n} {j = topLevel} top);
+  }

@@ -1,0 +1,272 @@
+-- A block filled row by row, and a sheet painted quarter by quarter: which pixels a step reaches is a test, and the tests of the steps add up to the block's.
+use mathlib.Core.Bool.{Bool, true, false, cond, _&&_, _||_, false≢true}
+use mathlib.Core.List.{List}
+use mathlib.Core.Logic.{⊎-elim}
+use mathlib.Core.Path.{_≡_, refl, ap, sym, _∙_}
+use Prim.Native.Nat.{ℕ, suc, _+_, _-_, _*_, _/_, _%_, _^_, _≤_, _<_}
+use native.Mathlib.Nat.{eq-or-lt-of-le, suc-mul, mul-le-mul-right, mod-lt}
+use native.Mathlib.Omega.{arith}
+use lib.Dec.{leb, ltb, eqb}
+use lib.ListN.{length, getD, set, length-set}
+use lib.Pow.{pow-pos, split, high}
+use lib.Seq.{getD-set-same, getD-set-other}
+use borrow.Author.Tests.{eq-eqb, ne-eqb, eqb-true, eqb-false, lt-ltb, le-leb, ltb-true, leb-true}
+use Rattle.base.proofs.BoolLaws.{and-left, and-right, or-second, by-bool, lt-or-ge}
+use Rattle.quad.specs.Numbers.{forkType}
+use Rattle.quad.specs.Block.{quadrantOf}
+use Rattle.quad.specs.Tree.{sonOf}
+use Rattle.quad.proofs.PathLaws.{half-last, shade-top, shade-leaf}
+use Rattle.table.specs.Table.{son, type, isFork}
+use Rattle.table.specs.Rules.{depthTo}
+use Rattle.table.specs.Nodes.{treeAt}
+use Rattle.table.proofs.AcceptedLaws.{tree-leaf, sons-of, fork-deep, depth-son}
+use Rattle.table.proofs.PictureLaws.{tree-son as table-son}
+use Rattle.raster.proofs.BlockLaws.{on-son}
+use Rattle.raster.specs.Painting.{within, Filled, Painted, inBlock, inRows, coloursAt, Paintable}
+
+-- places in one row of a sheet of side s, both between its ends, are in the same row
+same-row : (y t s x left : ℕ) → x < s → t * s + left ≤ y * s + x → y * s + x < t * s + s → y ≡ t
+same-row y t s x left lt lo hi =
+    ⊎-elim
+    (λ (l : y < t). absurd (omega (arith, suc-mul y s, mul-le-mul-right s l)))
+    (λ (g : t ≤ y).
+    ⊎-elim (λ (q : t ≡ y). sym q) (λ (l : t < y). absurd (omega (arith, suc-mul t s, mul-le-mul-right s l))) (eq-or-lt-of-le g))
+    (lt-or-ge y t)
+
+or-true : (b : Bool) → b || true ≡ true
+or-true true = refl
+or-true false = refl
+
+and-false : (b : Bool) → b && false ≡ false
+and-false true = refl
+and-false false = refl
+
+-- two tests that hold together are the same
+same-test : (a b : Bool) → (a ≡ true → b ≡ true) → (b ≡ true → a ≡ true) → a ≡ b
+same-test true b f g = sym (f refl)
+same-test false true f g = g refl
+same-test false false f g = refl
+
+and-both : (a b : Bool) → a ≡ true → b ≡ true → a && b ≡ true
+and-both a b e f = rw (e, f)
+
+within-in : (a w k : ℕ) → within a w k ≡ true → (a ≤ k) × (k < a + w)
+unfolding within
+within-in a w k e = (leb-true a k (and-left (leb a k) (ltb k (a + w)) e), ltb-true k (a + w) (and-right (leb a k) (ltb k (a + w)) e))
+
+within-of : (a w k : ℕ) → a ≤ k → k < a + w → within a w k ≡ true
+unfolding within
+within-of a w k le lt = and-both _ _ (le-leb a k le) (lt-ltb k (a + w) lt)
+
+-- none, and one more
+within-none : (a k : ℕ) → within a 0 k ≡ false
+within-none a k = same-test _ _ (λ e. absurd (omega (arith, within-in a 0 k e))) (λ e. absurd (false≢true e))
+
+within-more : (a w k : ℕ) → within a (w + 1) k ≡ eqb k (a + w) || within a w k
+within-more a w k =
+    same-test _ _
+    (λ e.
+    let h : (a ≤ k) × (k < a + (w + 1)) = within-in a (w + 1) k e in
+    ⊎-elim
+    (λ (l : k < a + w). rw (within-of a w k (omega arith) l) (or-true (eqb k (a + w))))
+    (λ (g : a + w ≤ k). rw (eq-eqb k (a + w) (omega arith)))
+    (lt-or-ge k (a + w)))
+    (λ e.
+    ⊎-elim
+    (λ (q : eqb k (a + w) ≡ true). within-of a (w + 1) k (omega (arith, eqb-true k (a + w) q)) (omega (arith, eqb-true k (a + w) q)))
+    (λ (q : eqb k (a + w) ≡ false).
+    let h : (a ≤ k) × (k < a + w) = within-in a w k (or-second (eqb k (a + w)) (within a w k) e q) in
+    within-of a (w + 1) k (omega arith) (omega arith))
+    (by-bool (eqb k (a + w))))
+
+-- a row, byte by byte
+pub filled-none : (a c : ℕ) (U : List ℕ) → Filled a 0 c U U
+filled-none a c U = record { size = refl; bytes = λ k. rw (within-none a k) }
+
+pub filled-more : (a i c : ℕ) (U W : List ℕ) → a + i < length W → Filled a i c U W → Filled a (i + 1) c U (set W (a + i) c)
+filled-more a i c U W lt f = record { size = length-set W (a + i) c ∙ f .size; bytes = λ k. go k (eqb k (a + i)) refl }
+  where
+    go : (k : ℕ) (u : Bool) → eqb k (a + i) ≡ u → getD (set W (a + i) c) k 0 ≡ cond (within a (i + 1) k) c (getD U k 0)
+    go k true q =
+        let e : k ≡ a + i = eqb-true k (a + i) q in
+        rw (within-more a i k, q) (rw e (getD-set-same W (a + i) c 0 lt))
+    go k false q = rw (within-more a i k, q) (getD-set-other W (a + i) k c 0 (eqb-false k (a + i) q) ∙ f .bytes k)
+
+-- the numbers of a block of level l
+span : (l X x : ℕ) → within (X * 2 ^ l) (2 ^ l) x ≡ eqb (x / 2 ^ l) X
+span l X x =
+    same-test _ _
+    (λ e.
+    let h : (X * 2 ^ l ≤ x) × (x < X * 2 ^ l + 2 ^ l) = within-in (X * 2 ^ l) (2 ^ l) x e in
+    let d : X * 2 ^ l + (x - X * 2 ^ l) ≡ x = omega arith in
+    eq-eqb (x / 2 ^ l) X (ap (λ (j : ℕ). j / 2 ^ l) (sym d) ∙ high X l {lo = x - X * 2 ^ l} (omega arith)))
+    (λ e.
+    let q : x / 2 ^ l ≡ X = eqb-true (x / 2 ^ l) X e in
+    let d : X * 2 ^ l + x % 2 ^ l ≡ x = rw q at (split x l) in
+    let m : x % 2 ^ l < 2 ^ l = mod-lt x (pow-pos l) in
+    within-of (X * 2 ^ l) (2 ^ l) x (omega arith) (omega arith))
+
+-- the bytes of a row of a block, by column and row: s is the sheet's side
+row-hit : (l X s t x y : ℕ) → X * 2 ^ l + 2 ^ l ≤ s → x < s → within (t * s + X * 2 ^ l) (2 ^ l) (y * s + x) ≡ eqb (x / 2 ^ l) X && eqb y t
+row-hit l X s t x y fits lt =
+    same-test _ _
+    (λ e.
+    let h : (t * s + X * 2 ^ l ≤ y * s + x) × (y * s + x < t * s + X * 2 ^ l + 2 ^ l) = within-in _ _ _ e in
+    let q : y ≡ t = same-row y t s x (X * 2 ^ l) lt (h .0) (omega arith) in
+    let ts : t * s ≡ y * s = ap (λ (j : ℕ). j * s) (sym q) in
+    and-both _ _ (sym (span l X x) ∙ within-of (X * 2 ^ l) (2 ^ l) x (omega arith) (omega arith)) (eq-eqb y t q))
+    (λ e.
+    let q : y ≡ t = eqb-true y t (and-right (eqb (x / 2 ^ l) X) (eqb y t) e) in
+    let h : (X * 2 ^ l ≤ x) × (x < X * 2 ^ l + 2 ^ l) = within-in (X * 2 ^ l) (2 ^ l) x (span l X x ∙ and-left (eqb (x / 2 ^ l) X) (eqb y t) e) in
+    let ts : t * s ≡ y * s = ap (λ (j : ℕ). j * s) (sym q) in
+    within-of _ _ _ (omega arith) (omega arith))
+
+-- a block, row by row
+over-again : (p q r : Bool) (c u : ℕ) → cond (p && q) c (cond (p && r) c u) ≡ cond (p && (q || r)) c u
+over-again true true r c u = refl
+over-again true false r c u = refl
+over-again false q r c u = refl
+
+module _ (n l X Y c : ℕ) (U : List ℕ) where
+  pub rows-none : Painted n (inRows l X Y 0) (λ i j. c) U U
+  unfolding inRows
+  rows-none = record { size = refl; pixels = λ x y hx hy. rw (within-none (Y * 2 ^ l) y, and-false (eqb (x / 2 ^ l) X)) }
+
+  pub rows-more : (j : ℕ) (U₁ W : List ℕ) → X * 2 ^ l + 2 ^ l ≤ 2 ^ n → Painted n (inRows l X Y j) (λ i j. c) U U₁
+      → Filled ((Y * 2 ^ l + j) * 2 ^ n + X * 2 ^ l) (2 ^ l) c U₁ W → Painted n (inRows l X Y (j + 1)) (λ i j. c) U W
+  unfolding inRows
+  rows-more j U₁ W fits p f = record {
+    size = f .size ∙ p .size;
+    pixels =
+        λ x y hx hy.
+        f .bytes (y * 2 ^ n + x)
+        ∙ rw (row-hit l X (2 ^ n) (Y * 2 ^ l + j) x y fits hx, p .pixels x y hx hy, within-more (Y * 2 ^ l) j y)
+        (over-again (eqb (x / 2 ^ l) X) (eqb y (Y * 2 ^ l + j)) (within (Y * 2 ^ l) j y) c _);
+  }
+
+  pub rows-all : (j : ℕ) (W : List ℕ) → j ≡ 2 ^ l → Painted n (inRows l X Y j) (λ i j. c) U W → Painted n (inBlock l X Y) (λ i j. c) U W
+  unfolding inRows inBlock
+  rows-all j W e p = record { size = p .size; pixels = λ x y hx hy. p .pixels x y hx hy ∙ rw (e, span l Y y) }
+
+-- a block, quarter by quarter
+half-test : (b X : ℕ) → eqb (b / 2) X ≡ eqb b (2 * X) || eqb b (2 * X + 1)
+half-test b X =
+    same-test _ _
+    (λ e.
+    let h : b / 2 ≡ X = eqb-true (b / 2) X e in
+    ⊎-elim
+    (λ (q : eqb b (2 * X) ≡ true). rw q)
+    (λ (q : eqb b (2 * X) ≡ false).
+    let z = eqb-false b (2 * X) q in
+    rw (q, eq-eqb b (2 * X + 1) (omega arith)))
+    (by-bool (eqb b (2 * X))))
+    (λ e.
+    ⊎-elim
+    (λ (q : eqb b (2 * X) ≡ true). eq-eqb (b / 2) X (omega (arith, eqb-true b (2 * X) q)))
+    (λ (q : eqb b (2 * X) ≡ false). eq-eqb (b / 2) X (omega (arith, eqb-true b (2 * X + 1) (or-second (eqb b (2 * X)) _ e q))))
+    (by-bool (eqb b (2 * X))))
+
+four-over : (w e n s : Bool) (g u : ℕ) → cond (e && s) g (cond (w && s) g (cond (e && n) g (cond (w && n) g u))) ≡ cond ((w || e) && (n || s)) g u
+four-over true e true s g u = over-west e s g u
+  where
+    over-west : (e s : Bool) (g u : ℕ) → cond (e && s) g (cond s g (cond (e && true) g g)) ≡ g
+    over-west true true g u = refl
+    over-west true false g u = refl
+    over-west false true g u = refl
+    over-west false false g u = refl
+four-over true true false true g u = refl
+four-over true true false false g u = refl
+four-over true false false true g u = refl
+four-over true false false false g u = refl
+four-over false true true true g u = refl
+four-over false true true false g u = refl
+four-over false true false true g u = refl
+four-over false true false false g u = refl
+four-over false false n s g u = refl
+
+same-where : (b : Bool) (g k u : ℕ) → (b ≡ true → k ≡ g) → cond b k u ≡ cond b g u
+same-where true g k u f = f refl
+same-where false g k u f = refl
+
+module _ (T : List ℕ) (l p X Y : ℕ) where
+  -- a leaf's block
+  pub painted-leaf : (n c : ℕ) (U W : List ℕ) → c ≡ type T p → (c ≡ forkType → ⊥) → Painted n (inBlock l X Y) (λ i j. c) U W
+      → Painted n (inBlock l X Y) (coloursAt T l p) U W
+  painted-leaf n c U W e z h =
+      let f : isFork T p ≡ false = ne-eqb (type T p) forkType (λ q. z (e ∙ q)) in
+      record {
+        size = h .size;
+        pixels =
+            λ x y hx hy. h .pixels x y hx hy
+            ∙ ap (λ (k : ℕ). cond (inBlock l X Y x y) k (getD U (y * 2 ^ n + x) 0)) (e ∙ sym (rw (tree-leaf T l p f) (shade-leaf l (type T p) x y)));
+      }
+
+  -- a pixel of quarter q has the colour that son q gives it
+  quarter-colour : (q u v x y : ℕ) → isFork T p ≡ true → q < 4 → u ≡ 2 * X + q % 2 → v ≡ 2 * Y + q / 2 → inBlock l u v x y ≡ true
+      → coloursAt T l (son T p q) x y ≡ coloursAt T (suc l) p x y
+  unfolding inBlock
+  quarter-colour q u v x y f hq eu ev h =
+      let hx : x / 2 ^ l ≡ u = eqb-true _ _ (and-left (eqb (x / 2 ^ l) u) (eqb (y / 2 ^ l) v) h) in
+      let hy : y / 2 ^ l ≡ v = eqb-true _ _ (and-right (eqb (x / 2 ^ l) u) (eqb (y / 2 ^ l) v) h) in
+      let at : quadrantOf (x / 2 ^ l) (y / 2 ^ l) ≡ q = omega arith in
+      let s : sonOf (treeAt T (suc l) p) q ≡ treeAt T l (son T p q) = rw f at (table-son T l p q hq) in
+      sym (shade-top l (treeAt T (suc l) p) x y ∙ rw (at, s))
+
+  four-quarters : (x y g u : ℕ) → cond (inBlock l (2 * X + 1) (2 * Y + 1) x y) g
+      (cond (inBlock l (2 * X) (2 * Y + 1) x y) g (cond (inBlock l (2 * X + 1) (2 * Y) x y) g (cond (inBlock l (2 * X) (2 * Y) x y) g u)))
+      ≡ cond (inBlock (suc l) X Y x y) g u
+  unfolding inBlock
+  four-quarters x y g u =
+      four-over (eqb (x / 2 ^ l) (2 * X)) (eqb (x / 2 ^ l) (2 * X + 1)) (eqb (y / 2 ^ l) (2 * Y)) (eqb (y / 2 ^ l) (2 * Y + 1)) g u
+      ∙ rw (← half-test (x / 2 ^ l) X, ← half-test (y / 2 ^ l) Y, half-last l x, half-last l y)
+
+  -- a fork's four quarters are its block
+  pub painted-four : (n : ℕ) (U₀ U₁ U₂ U₃ U₄ : List ℕ) → isFork T p ≡ true
+      → Painted n (inBlock l (2 * X) (2 * Y)) (coloursAt T l (son T p 0)) U₀ U₁ → Painted n (inBlock l (2 * X + 1) (2 * Y)) (coloursAt T l (son T p 1)) U₁ U₂
+      → Painted n (inBlock l (2 * X) (2 * Y + 1)) (coloursAt T l (son T p 2)) U₂ U₃ → Painted n (inBlock l (2 * X + 1) (2 * Y + 1)) (coloursAt T l (son T p 3)) U₃ U₄
+      → Painted n (inBlock (suc l) X Y) (coloursAt T (suc l) p) U₀ U₄
+  painted-four n U₀ U₁ U₂ U₃ U₄ f a b c d = record {
+    size = d .size ∙ c .size ∙ b .size ∙ a .size;
+    pixels =
+        λ x y hx hy.
+        d .pixels x y hx hy
+        ∙ rw (
+          c .pixels x y hx hy,
+          b .pixels x y hx hy,
+          a .pixels x y hx hy,
+          same-where (inBlock l (2 * X) (2 * Y) x y) (coloursAt T (suc l) p x y) _ _ (quarter-colour 0 _ _ x y f (omega arith) (omega arith) (omega arith)),
+          same-where (inBlock l (2 * X + 1) (2 * Y) x y) (coloursAt T (suc l) p x y) _ _ (quarter-colour 1 _ _ x y f (omega arith) (omega arith) (omega arith)),
+          same-where (inBlock l (2 * X) (2 * Y + 1) x y) (coloursAt T (suc l) p x y) _ _ (quarter-colour 2 _ _ x y f (omega arith) (omega arith) (omega arith)),
+          same-where (inBlock l (2 * X + 1) (2 * Y + 1) x y) (coloursAt T (suc l) p x y) _ _ (quarter-colour 3 _ _ x y f (omega arith) (omega arith) (omega arith)),
+        )
+        (four-quarters x y _ _);
+  }
+
+-- the same in the code's numbers
+pub painted-fork : (T : List ℕ) (l p X Y n : ℕ) (U₀ U₁ U₂ U₃ U₄ : List ℕ) → 0 < l → isFork T p ≡ true
+    → Painted n (inBlock (l - 1) (2 * X) (2 * Y)) (coloursAt T (l - 1) (son T p 0)) U₀ U₁
+    → Painted n (inBlock (l - 1) (2 * X + 1) (2 * Y)) (coloursAt T (l - 1) (son T p 1)) U₁ U₂
+    → Painted n (inBlock (l - 1) (2 * X) (2 * Y + 1)) (coloursAt T (l - 1) (son T p 2)) U₂ U₃
+    → Painted n (inBlock (l - 1) (2 * X + 1) (2 * Y + 1)) (coloursAt T (l - 1) (son T p 3)) U₃ U₄
+    → Painted n (inBlock l X Y) (coloursAt T l p) U₀ U₄
+painted-fork T l p X Y n U₀ U₁ U₂ U₃ U₄ pos f a b c d =
+    let e : l ≡ suc (l - 1) = omega arith in
+    rw e (painted-four T (l - 1) p X Y n U₀ U₁ U₂ U₃ U₄ f a b c d)
+
+-- a fork is above level 0, and each son may be painted in its quarter
+module _ {n : ℕ} {T : List ℕ} {p l x y bytes : ℕ} (h : Paintable n T p l x y bytes) (f : isFork T p ≡ true) where
+  pub fork-above : 0 < l
+  fork-above = omega (arith, h .level, fork-deep n T (h .accepted) p (h .node) f)
+
+  pub paintable-son : (q s u v : ℕ) → q < 4 → s ≡ son T p q → u ≤ 2 * x + 1 → v ≤ 2 * y + 1 → Paintable n T s (l - 1) u v bytes
+  paintable-son q s u v lt e hu hv =
+      let pos = fork-above in
+      let lev = h .level in
+      let d : l - 1 + depthTo T n (son T p q) ≡ n = omega (arith, depth-son n T (h .accepted) p q (h .node) f lt) in
+      rw e (record {
+        accepted = h .accepted;
+        node = sons-of n T (h .accepted) p (h .node) f q lt .below;
+        level = d;
+        block = on-son (h .block) pos u v hu hv;
+        whole = h .whole;
+      })

@@ -1,0 +1,91 @@
+-- The refusals of building in their order: the raster's length, its first byte that is no colour; and what is known of a raster that passes.
+use mathlib.Core.Bool.{Bool, true, false, not, false≢true}
+use mathlib.Core.List.{List, [], _∷_}
+use mathlib.Core.Path.{_≡_, refl, ap, sym, _∙_}
+use Prim.Native.Nat.{ℕ, zero, suc, _+_, _*_, _^_, _≤_, _<_}
+use native.Mathlib.Numerals.{add-one}
+use native.Mathlib.Nat.{pow-le-pow-right}
+use native.Mathlib.Omega.{arith}
+use lib.Dec.{eqb, ltb}
+use lib.ListN.{length, getD, drop}
+use lib.Seq.{drop-cons, drop-length}
+use borrow.Author.Tests.{eq-eqb, ne-eqb, eqb-true, lt-ltb, le-ltb, ltb-false}
+use Rattle.base.proofs.BoolLaws.{on}
+use Rattle.answer.specs.declared.Outcome.{Outcome}
+use Rattle.answer.specs.declared.Outcome.the-variants.{Answered, BadLevel, WrongLength, BadPixel}
+use Rattle.answer.specs.Numbers.{answers, unless}
+use Rattle.answer.proofs.OutcomeLaws.{then-stop, then-go}
+use Rattle.quad.specs.Numbers.{topLevel, topColour}
+use Rattle.table.proofs.CheckLaws.{go-on, answers-unless}
+use Rattle.raster.specs.Raster.{rasterLength, pixelsFrom}
+use Rattle.raster.specs.Blocks.{Picture, readableOf}
+use Rattle.raster.proofs.BlockLaws.{four-pow}
+
+-- the length
+module _ (n bytes s : ℕ) (e : s ≡ 2 ^ n) where
+  pub length-wrong : (bytes ≡ s * s → ⊥) → WrongLength 1 ≡ rasterLength n bytes
+  length-wrong z = rw (ne-eqb bytes (4 ^ n) (λ q. z (q ∙ four-pow n ∙ rw (← e))))
+
+  pub length-right : bytes ≡ s * s → Answered 0 ≡ rasterLength n bytes
+  length-right q = rw (eq-eqb bytes (4 ^ n) (q ∙ rw e (sym (four-pow n))))
+
+-- the first bad byte, from place i on
+module _ (R : List ℕ) where
+  pub pixels-next : (i : ℕ) → i < length R → getD R i 0 ≤ topColour → pixelsFrom (drop i R) i ≡ pixelsFrom (drop (i + 1) R) (i + 1)
+  unfolding pixelsFrom
+  pixels-next i lt h = rw (drop-cons R i 0 lt, add-one, pixelsFrom, le-ltb topColour (getD R i 0) h)
+
+  pub pixels-bad : (i : ℕ) → i < length R → topColour < getD R i 0 → pixelsFrom (drop i R) i ≡ BadPixel i
+  unfolding pixelsFrom
+  pixels-bad i lt h = rw (drop-cons R i 0 lt, pixelsFrom, lt-ltb topColour (getD R i 0) h)
+
+  pub pixels-end : (i : ℕ) → i ≤ length R → length R ≤ i → pixelsFrom (drop i R) i ≡ Answered 0
+  unfolding pixelsFrom
+  pixels-end i le ge =
+      let e : i ≡ length R = omega arith in
+      rw (e, drop-length R)
+
+pub length-of : (n bytes : ℕ) → answers (rasterLength n bytes) ≡ true → bytes ≡ 4 ^ n
+length-of n bytes e = eqb-true bytes (4 ^ n) (on _ _ refl (answers-unless (not (eqb bytes (4 ^ n))) (WrongLength 1) refl e))
+
+-- every byte of a raster with no bad byte is a colour
+pixels-good : (R : List ℕ) (i j : ℕ) → answers (pixelsFrom R i) ≡ true → getD R j 0 ≤ topColour
+unfolding pixelsFrom
+pixels-good [] i j e = omega arith
+pixels-good (b ∷ bs) i j e = go (ltb topColour b) refl (λ k. pixels-good bs (i + 1) k) j
+  where
+    go : (u : Bool) → ltb topColour b ≡ u → ((k : ℕ) → answers (pixelsFrom bs (i + 1)) ≡ true → getD bs k 0 ≤ topColour) → (j : ℕ) → getD (b ∷ bs) j 0 ≤ topColour
+    go true q ih j = absurd (false≢true (rw q at e))
+    go false q ih zero = ltb-false topColour b q
+    go false q ih (suc j) = ih j (rw q at e)
+
+-- the tests in their order
+module _ (n : ℕ) (R : List ℕ) where
+  pub readable-level : topLevel < n → BadLevel 0 ≡ readableOf n R
+  unfolding readableOf
+  readable-level h = rw (readableOf, lt-ltb topLevel n h)
+
+  module _ (s : Outcome) (u : Bool) (top : n ≤ topLevel) (e : s ≡ rasterLength n (length R)) (a : u ≡ answers s) where
+    pub readable-length : not u ≡ true → s ≡ readableOf n R
+    unfolding readableOf
+    readable-length h = rw (readableOf, le-ltb topLevel n top) (then-stop (rasterLength n (length R)) s (pixelsFrom R 0) u e a h)
+
+    pub readable-short : not u ≡ false → length R ≤ 4 ^ topLevel
+    readable-short h =
+        rw (length-of n (length R) (ap answers (sym e) ∙ on u (answers s) a h)) (pow-le-pow-right {n = 4} (omega arith) {i = n} {j = topLevel} top)
+
+    pub readable-pixels : (r : Outcome) → not u ≡ false → r ≡ pixelsFrom R 0 → r ≡ readableOf n R
+    unfolding readableOf
+    readable-pixels r h f = rw (readableOf, le-ltb topLevel n top) (then-go (rasterLength n (length R)) s (pixelsFrom R 0) u e a r h f)
+
+  -- a raster that passes
+  pub readable-picture : answers (readableOf n R) ≡ true → Picture n R
+  unfolding readableOf
+  readable-picture e =
+      let g = go-on (unless (ltb topLevel n) (BadLevel 0)) _ e in
+      let h = go-on (rasterLength n (length R)) (pixelsFrom R 0) (g .1) in
+      record {
+        top = ltb-false topLevel n (answers-unless (ltb topLevel n) (BadLevel 0) refl (g .0));
+        whole = length-of n (length R) (h .0);
+        colours = λ i. pixels-good R 0 i (h .1);
+      }
