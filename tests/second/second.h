@@ -13,4 +13,11 @@
  * 0 where none did (accepted, a bad level or a bad length). */
 uint64_t second_check(uint32_t n, const uint32_t *table, size_t table_len, int *rule);
 
+/* Where a node of a sound table lies: its top left pixel and its side. */
+struct second_block {
+    uint32_t left, top, side;
+};
+
+struct second_block second_block(uint32_t n, const uint32_t *table, uint32_t node);
+
 #endif
