@@ -14,6 +14,7 @@
 #include "support/report.h"
 #include "support/sample.h"
 #include "support/table.h"
+#include "support/words.h"
 
 enum { LEAST_INPUTS = 200000, FAR_FROM_ROOT = 16, RULES = 6 };
 
@@ -48,16 +49,6 @@ static void compare_table(void)
 }
 
 /* ---- answers worked out by hand */
-
-#define NO SHEET_NONE
-#define LEAF(father, type) father, NO, NO, NO, NO, type
-#define FORK(father, nw, ne, sw, se) father, nw, ne, sw, se, SHEET_GRAY
-#define W SHEET_WHITE
-#define B SHEET_BLACK
-
-#define SHEET_A                                                                                         \
-    FORK(NO, 1, 2, 7, 8), LEAF(0, B), FORK(0, 3, 4, 5, 6), LEAF(2, W), LEAF(2, W), LEAF(2, W),          \
-        LEAF(2, B), LEAF(0, W), LEAF(0, W)
 
 struct vector {
     const char *name;
