@@ -20,4 +20,7 @@ struct second_block {
 
 struct second_block second_block(uint32_t n, const uint32_t *table, uint32_t node);
 
+/* What sheet_build must give back, and the words that it must write. */
+uint64_t second_build(uint32_t n, const uint8_t *raster, size_t raster_len, uint32_t *table, size_t table_len);
+
 #endif
