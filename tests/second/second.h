@@ -23,4 +23,7 @@ struct second_block second_block(uint32_t n, const uint32_t *table, uint32_t nod
 /* What sheet_build must give back, and the words that it must write. */
 uint64_t second_build(uint32_t n, const uint8_t *raster, size_t raster_len, uint32_t *table, size_t table_len);
 
+/* What sheet_decode must give back, and the bytes that it must write. */
+uint64_t second_decode(uint32_t n, const uint32_t *table, size_t table_len, uint8_t *raster, size_t raster_len);
+
 #endif
