@@ -29,4 +29,7 @@ uint64_t second_decode(uint32_t n, const uint32_t *table, size_t table_len, uint
 /* What sheet_read must give back, and the words that it must write. */
 uint64_t second_read(const uint8_t *file, size_t file_len, uint32_t *table, size_t table_len);
 
+/* What sheet_write must give back, and the bytes that it must write. */
+uint64_t second_write(uint32_t n, const uint32_t *table, size_t table_len, uint8_t *file, size_t file_len);
+
 #endif
