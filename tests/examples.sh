@@ -100,9 +100,24 @@ pbm_refusals() {
     refuses "no way named" "pbm: use: pbm sheet <PBM >SHEET, or pbm picture <SHEET >PBM" "$built/pbm"
 }
 
+# ---- ponds
+
+ponds() {
+    "$built/ponds" >"$work/printed"
+    cat >"$work/wanted" <<'END'
+nodes: 9
+east of the pond: node 2, grey
+touching it in the north-east: node 3, dry
+touching it in the south-east: node 5, dry
+west of the pond: code 20
+END
+    same "the two ponds do not touch" "$work/printed" "$work/wanted"
+}
+
 pbm_there_and_back
 pbm_largest
 pbm_forms
 pbm_refusals
+ponds
 echo "$passed passed, $failed failed"
 [ "$failed" -eq 0 ] && [ "$passed" -gt 0 ]
