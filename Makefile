@@ -7,7 +7,8 @@
 # test-c and bench take another archive by LIB=path.
 #
 # A new call needs no line here: its files are tests/NAME_test.c,
-# tests/second/NAME.c, bench/NAME_bench.c and bench/plain/NAME.c.
+# tests/second/NAME.c, bench/NAME_bench.c and bench/plain/NAME.c. Nor does a new
+# example: its file is examples/NAME.c, and tests/examples.sh runs it.
 
 LIB = target/staticlib/libsheet.a
 CC = cc
@@ -32,6 +33,7 @@ CALL_TESTS = $(filter-out tests/header_test.c,$(wildcard tests/*_test.c))
 TESTS = $(patsubst tests/%.c,build/tests/%,$(wildcard tests/*_test.c)) \
 	$(if $(HAS_CXX),build/tests/header_test_as_cxx) \
 	$(if $(HAS_SANITIZE),$(patsubst tests/%.c,build/sanitized/%,$(CALL_TESTS)))
+EXAMPLES = $(patsubst %.c,build/%,$(wildcard examples/*.c))
 BENCHES = $(patsubst bench/%.c,build/bench/%,$(wildcard bench/*_bench.c))
 
 .PHONY: lib test test-c test-programs list-tests bench clean
@@ -48,7 +50,7 @@ test:
 test-c:
 	@tests/run c $(LIB)
 
-test-programs: $(TESTS)
+test-programs: $(TESTS) $(EXAMPLES)
 
 # The programs that tests/run runs; what this machine cannot run is said on stderr.
 list-tests:
@@ -68,6 +70,11 @@ build/%.o: %.c $(HEADERS)
 
 build/tests/header_test.o: CFLAGS = -std=c89 -pedantic -O2 $(WARN)
 build/bench/plain/%.o: CFLAGS = $(PLAIN_CFLAGS)
+
+# An example sees the header and the library, and nothing else.
+build/examples/%: examples/%.c include/sheet.h $(LIB)
+	@mkdir -p $(@D)
+	$(CC) $(CFLAGS) -Iinclude -o $@ $< $(LIB)
 
 build/tests/%_test: build/tests/%_test.o $(SHARED_OBJECTS) $(LIB)
 	$(CC) -o $@ $^

@@ -22,6 +22,12 @@
  *   a positive multiple of 6, at most 131070 words (21845 nodes). A node at
  *   depth d (the root's is 0) has level n - d and side 2^(n-d).
  *
+ * Rasters
+ *
+ *   A raster is a slice of exactly 4^n bytes, one for each pixel, row by row: 0
+ *   is white, 1 is black. Columns and rows count from 0 at the top left, and
+ *   the pixel in column x and row y is the byte at 2^n * y + x.
+ *
  * Calls
  *
  *   Every call takes numbers and slices and gives one number back,
@@ -30,6 +36,10 @@
  *   is aligned for its elements and good for as many of them as the length
  *   says; for length 0 it is never followed, and any pointer will do, NULL
  *   also.
+ *
+ *   A call writes to a slice only if it takes it without const, and only if its
+ *   code is SHEET_OK; after any other code every slice stands as it was. A
+ *   slice that a call may write overlaps no other slice of the same call.
  *
  *   No call prints, allocates memory, keeps anything from one call to the next
  *   or stops the program; whatever the numbers and words in its slices, it
@@ -83,10 +93,8 @@ extern "C" {
 
 /*
  * The codes. Each call's own comment says which of them it gives and, where
- * several apply, which one. sheet_check gives those from SHEET_OK to
- * SHEET_NEEDLESS_FORK; the others are kept for calls on rasters, nodes, files
- * and the ground. Codes 10 and 15 of the documents belong to the row walk and
- * the row program, and no call gives them.
+ * several apply, which one. Codes 10 and 15 of the documents belong to the row
+ * walk and the row program, and no call gives them.
  */
 
 /* Answered. The value is the call's own. */
@@ -193,6 +201,452 @@ extern "C" {
  * at depth 1.
  */
 uint64_t sheet_check(uint32_t n, const uint32_t *table, size_t table_len);
+
+/* ---- sheet_build ------------------------------------------------------- */
+
+/*
+ * The table of a picture: the one tree that has no needless fork, in preorder
+ * numbers. A node comes before its sons, and a son with all that is below it
+ * before the next son, NW, NE, SW, SE.
+ *
+ * The tests, in this order; the first that fails decides:
+ *
+ *   SHEET_BAD_LEVEL      value 0     n is above 7
+ *   SHEET_BAD_LENGTH     value 1     raster_len is not 4^n
+ *   SHEET_BAD_PIXEL      value i     raster[i] is above 1, and i is the first
+ *                                    such place
+ *   SHEET_NO_ROOM        value 6N    table_len is below 6N, N being the node
+ *                                    count of this picture
+ *
+ * If none fails the answer is
+ *
+ *   SHEET_OK             value N     the table is built.
+ *
+ * The table needs only room: any table_len from 6N on will do, one that is no
+ * multiple of 6 or above SHEET_LONGEST_TABLE too. SHEET_LONGEST_TABLE words
+ * are room enough for every picture.
+ *
+ * Buffers:   on SHEET_OK table[0] to table[6N - 1] are the table, and the
+ *            words beyond stay as they were; on a refusal all words stay. The
+ *            raster is only read.
+ * Pointers:  with raster_len 0 the raster may be NULL, with table_len 0 the
+ *            table; the answer is then a refusal.
+ * Cost:      linear in the number of pixels, with no memory that grows with
+ *            it.
+ *
+ * Example: the raster of the table that sheet_check's example has.
+ *
+ *     static const uint8_t raster[] = {1, 1, 0, 0,
+ *                                      1, 1, 0, 1,
+ *                                      0, 0, 0, 0,
+ *                                      0, 0, 0, 0};
+ *     uint32_t table[54];
+ *     uint64_t answer = sheet_build(2, raster, sizeof raster, table, 54);
+ *
+ *     sheet_code(answer)  is SHEET_OK
+ *     sheet_value(answer) is 9, the node count
+ *     table               is that table, word for word
+ *
+ * With room for 53 words the answer is SHEET_NO_ROOM with value 54. So a call
+ * with no table at all, sheet_build(2, raster, sizeof raster, NULL, 0), asks
+ * for the room that is needed.
+ */
+uint64_t sheet_build(uint32_t n, const uint8_t *raster, size_t raster_len, uint32_t *table, size_t table_len);
+
+/* ---- sheet_decode ------------------------------------------------------ */
+
+/*
+ * The picture of a table: every pixel gets the colour of the leaf that covers
+ * it. The numbering of the nodes makes no difference.
+ *
+ * The tests, in this order; the first that fails decides:
+ *
+ *   SHEET_BAD_LEVEL      value 0     n is above 7
+ *   SHEET_BAD_LENGTH     value 0     table_len is wrong, as in sheet_check
+ *   SHEET_BAD_LENGTH     value 1     raster_len is not 4^n
+ *   SHEET_BAD_NODE, SHEET_TOO_DEEP or SHEET_NEEDLESS_FORK
+ *                        value p     sheet_check's first fault, at node p
+ *
+ * If none fails the answer is
+ *
+ *   SHEET_OK             value 0     the raster is written.
+ *
+ * Buffers:   on SHEET_OK all 4^n bytes of the raster are written, each 0 or 1;
+ *            on a refusal all of them stay as they were. The table is only
+ *            read.
+ * Pointers:  with table_len 0 the table may be NULL, with raster_len 0 the
+ *            raster; the answer is then a refusal.
+ * Cost:      linear in the number of pixels and in N, with no memory that grows
+ *            with either.
+ *
+ * Example: the table of sheet_check's example, which is called 'table'.
+ *
+ *     uint8_t raster[16];
+ *     uint64_t answer = sheet_decode(2, table, 54, raster, sizeof raster);
+ *
+ *     sheet_code(answer)  is SHEET_OK
+ *     sheet_value(answer) is 0
+ *     raster              is 1, 1, 0, 0, 1, 1, 0, 1, and then eight times 0
+ */
+uint64_t sheet_decode(uint32_t n, const uint32_t *table, size_t table_len, uint8_t *raster, size_t raster_len);
+
+/* ---- Directions and sides ---------------------------------------------- */
+
+/* The directions: the four sides of a block, then its four corners. A call
+ * that takes a side takes the first four of them. A call that takes a corner
+ * takes a quadrant, SHEET_QUADRANT_NW to SHEET_QUADRANT_SE, whose numbers are
+ * not those of the directions SHEET_NW to SHEET_SE. */
+#define SHEET_N  0
+#define SHEET_E  1
+#define SHEET_S  2
+#define SHEET_W  3
+#define SHEET_NW 4
+#define SHEET_NE 5
+#define SHEET_SW 6
+#define SHEET_SE 7
+
+/* ---- sheet_neighbour --------------------------------------------------- */
+
+/*
+ * The neighbour of a node, fork or leaf, in one of the eight directions.
+ *
+ * Take the block of the node's own size that touches its side (SHEET_N to
+ * SHEET_W), or its corner (SHEET_NW to SHEET_SE), in that direction. The
+ * neighbour is the smallest node with a side at least as long as the node's own
+ * which contains that block. So it is a larger leaf, or a leaf of the node's
+ * own size, or a fork of the node's own size: what lies below such a fork need
+ * not touch the node, and sheet_corner_leaf and sheet_diagonal_leaf say what
+ * does at the corners.
+ *
+ * The tests, in this order; the first that fails decides:
+ *
+ *   SHEET_BAD_LEVEL      value 0     n is above 7
+ *   SHEET_BAD_LENGTH     value 0     table_len is wrong, as in sheet_check
+ *   SHEET_BAD_NODE, SHEET_TOO_DEEP or SHEET_NEEDLESS_FORK
+ *                        value p     sheet_check's first fault, at node p
+ *   SHEET_NO_SUCH_NODE   value node         node is N or above
+ *   SHEET_BAD_DIRECTION  value direction    direction is above 7
+ *   SHEET_NO_BLOCK       value 0            that block is off the sheet
+ *
+ * If none fails the answer is
+ *
+ *   SHEET_OK             value: the neighbour's number.
+ *
+ * The root has no neighbour: all its directions are SHEET_NO_BLOCK.
+ *
+ * Buffers:   the table is only read, and stands afterwards as it was.
+ * Pointers:  with table_len 0 the table may be NULL; the answer is then a
+ *            refusal.
+ * Cost:      sheet_check's, and then at most 2d links for a node at depth d.
+ *
+ * Example: the table of sheet_check's example, which is called 'table'.
+ *
+ *     uint64_t answer = sheet_neighbour(2, table, 54, 1, SHEET_E);
+ *
+ *     sheet_code(answer)  is SHEET_OK
+ *     sheet_value(answer) is 2, a fork of node 1's size
+ *
+ * The neighbour of node 1 towards SHEET_SE is node 8, and towards SHEET_NW
+ * there is none: SHEET_NO_BLOCK with value 0.
+ */
+uint64_t sheet_neighbour(uint32_t n, const uint32_t *table, size_t table_len, uint32_t node, uint32_t direction);
+
+/* ---- sheet_corner_leaf ------------------------------------------------- */
+
+/*
+ * The leaf that touches a node, fork or leaf, from outside at one end of a
+ * side: the leaf that holds the pixel just outside that side, at the corner.
+ *
+ * The side is SHEET_N, SHEET_E, SHEET_S or SHEET_W, and the corner one of the
+ * two quadrants at its ends: SHEET_QUADRANT_NW and SHEET_QUADRANT_NE for
+ * SHEET_N, for instance.
+ *
+ * The tests, in this order; the first that fails decides:
+ *
+ *   SHEET_BAD_LEVEL      value 0     n is above 7
+ *   SHEET_BAD_LENGTH     value 0     table_len is wrong, as in sheet_check
+ *   SHEET_BAD_NODE, SHEET_TOO_DEEP or SHEET_NEEDLESS_FORK
+ *                        value p     sheet_check's first fault, at node p
+ *   SHEET_NO_SUCH_NODE   value node      node is N or above
+ *   SHEET_BAD_DIRECTION  value side      side is above 3
+ *   SHEET_BAD_DIRECTION  value corner    corner is above 3, or not on that side
+ *   SHEET_NO_BLOCK       value 0         that pixel is off the sheet
+ *
+ * If none fails the answer is
+ *
+ *   SHEET_OK             value: the leaf's number.
+ *
+ * Buffers:   the table is only read, and stands afterwards as it was.
+ * Pointers:  with table_len 0 the table may be NULL; the answer is then a
+ *            refusal.
+ * Cost:      sheet_check's, and then links in proportion to n at most.
+ *
+ * Example: the table of sheet_check's example, which is called 'table'.
+ *
+ *     uint64_t answer =
+ *         sheet_corner_leaf(2, table, 54, 1, SHEET_E, SHEET_QUADRANT_NE);
+ *
+ *     sheet_code(answer)  is SHEET_OK
+ *     sheet_value(answer) is 3
+ *
+ * At the other end of that side, SHEET_QUADRANT_SE, it is leaf 5. With
+ * SHEET_QUADRANT_NW, which is not on side SHEET_E, the answer is
+ * SHEET_BAD_DIRECTION with value 0.
+ */
+uint64_t sheet_corner_leaf(uint32_t n, const uint32_t *table, size_t table_len, uint32_t node, uint32_t side,
+                           uint32_t corner);
+
+/* ---- sheet_diagonal_leaf ----------------------------------------------- */
+
+/*
+ * The leaf that touches a node, fork or leaf, at a corner and from outside of
+ * both its sides: the leaf that holds the pixel diagonally beyond that corner.
+ * The corner is a quadrant, SHEET_QUADRANT_NW to SHEET_QUADRANT_SE.
+ *
+ * The tests, in this order; the first that fails decides:
+ *
+ *   SHEET_BAD_LEVEL      value 0     n is above 7
+ *   SHEET_BAD_LENGTH     value 0     table_len is wrong, as in sheet_check
+ *   SHEET_BAD_NODE, SHEET_TOO_DEEP or SHEET_NEEDLESS_FORK
+ *                        value p     sheet_check's first fault, at node p
+ *   SHEET_NO_SUCH_NODE   value node      node is N or above
+ *   SHEET_BAD_DIRECTION  value corner    corner is above 3
+ *   SHEET_NO_BLOCK       value 0         that pixel is off the sheet
+ *
+ * If none fails the answer is
+ *
+ *   SHEET_OK             value: the leaf's number.
+ *
+ * Buffers:   the table is only read, and stands afterwards as it was.
+ * Pointers:  with table_len 0 the table may be NULL; the answer is then a
+ *            refusal.
+ * Cost:      sheet_check's, and then links in proportion to n at most.
+ *
+ * Example: the table of sheet_check's example, which is called 'table'.
+ *
+ *     uint64_t answer =
+ *         sheet_diagonal_leaf(2, table, 54, 8, SHEET_QUADRANT_NW);
+ *
+ *     sheet_code(answer)  is SHEET_OK
+ *     sheet_value(answer) is 1
+ */
+uint64_t sheet_diagonal_leaf(uint32_t n, const uint32_t *table, size_t table_len, uint32_t node, uint32_t corner);
+
+/* ---- sheet_distance ---------------------------------------------------- */
+
+/* The distance of the one node of a sheet that has no white pixel. */
+#define SHEET_NO_WHITE 4294967295u
+
+/*
+ * The chessboard distance from the centre of each black leaf to the nearest
+ * white pixel, in half pixels.
+ *
+ * A block of side w whose top left pixel is in column x and row y has its
+ * centre at (2x + w, 2y + w) half pixels; a white pixel in column i and row j
+ * covers 2i to 2i + 2 by 2j to 2j + 2. The distance from the one to the other
+ * is the larger of the two gaps along the axes, a gap being 0 inside the span.
+ * A black leaf gets the least distance over all white pixels; the outside of
+ * the sheet counts as black. White leaves and forks get 0. A sheet that has no
+ * white pixel is one black leaf, and that gets SHEET_NO_WHITE. Every other
+ * black leaf of side w gets from w to 3w - 2, an even amount above w.
+ *
+ * The tests, in this order; the first that fails decides:
+ *
+ *   SHEET_BAD_LEVEL      value 0     n is above 7
+ *   SHEET_BAD_LENGTH     value 0     table_len is wrong, as in sheet_check
+ *   SHEET_BAD_LENGTH     value 1     distances_len is not N = table_len / 6
+ *   SHEET_BAD_NODE, SHEET_TOO_DEEP or SHEET_NEEDLESS_FORK
+ *                        value p     sheet_check's first fault, at node p
+ *
+ * If none fails the answer is
+ *
+ *   SHEET_OK             value 0     the distances are written.
+ *
+ * Buffers:   on SHEET_OK distances[p] is written for every node p; on a refusal
+ *            all words stay as they were. The table is only read.
+ * Pointers:  with table_len 0 the table may be NULL, with distances_len 0 the
+ *            distances; the answer is then a refusal.
+ * Cost:      sheet_check's, and then for each black leaf a search of its eight
+ *            neighbours and of what lies nearest below the grey ones, with no
+ *            memory that grows with N.
+ *
+ * Example: the table of sheet_check's example, which is called 'table'.
+ *
+ *     uint32_t distances[9];
+ *     uint64_t answer = sheet_distance(2, table, 54, distances, 9);
+ *
+ *     sheet_code(answer)  is SHEET_OK
+ *     sheet_value(answer) is 0
+ *     distances           is 0, 2, 0, 0, 0, 0, 1, 0, 0
+ */
+uint64_t sheet_distance(uint32_t n, const uint32_t *table, size_t table_len, uint32_t *distances,
+                        size_t distances_len);
+
+/* ---- The sheet file ---------------------------------------------------- */
+
+/*
+ * A sheet file is 5 + 3N bytes. Every record stands after a mark of two bytes,
+ * here in hexadecimal:
+ *
+ *   header    51 53, then n in one byte, then N in two bytes, low byte first
+ *   node      51 4E, then the node's type in one byte
+ *
+ * After the header comes one block: a leaf's record, or a fork's record
+ * followed by four blocks, NW, NE, SW, SE. So there is one file for each
+ * picture. Places in a file count from 0.
+ */
+#define SHEET_LONGEST_FILE 65540 /* the bytes of the longest file             */
+
+/* ---- sheet_read -------------------------------------------------------- */
+
+/*
+ * The table of a sheet file, in preorder numbers: the table that sheet_build
+ * makes of the same picture.
+ *
+ * Bytes are taken one at a time, and the first fault decides. At each byte that
+ * the file's form asks for:
+ *
+ *   SHEET_FILE_ENDS      value file_len     it is not there
+ *   SHEET_BAD_RECORD     value its place    it is a wrong mark byte, or a type
+ *                                           above 2
+ *   SHEET_BAD_LEVEL      value 2            it is n, and above 7
+ *   SHEET_TOO_DEEP       value its place    it is the type of a fork where a
+ *                                           block is one pixel
+ *   SHEET_NEEDLESS_FORK  value its place    it is the type of the fourth like
+ *                                           leaf of one fork
+ *
+ * After the block, in this order:
+ *
+ *   SHEET_BAD_COUNT      value 3            the header's N is not the number of
+ *                                           node records
+ *   SHEET_BAD_COUNT      value 5 + 3N       bytes are left over from there on
+ *   SHEET_NO_ROOM        value 6N           table_len is below 6N
+ *
+ * If none fails the answer is
+ *
+ *   SHEET_OK             value 8N + n       the table is written.
+ *
+ * The table needs only room, as in sheet_build. SHEET_LONGEST_TABLE words are
+ * room enough for every file.
+ *
+ * Buffers:   on SHEET_OK table[0] to table[6N - 1] are the table, and the
+ *            words beyond stay as they were; on a refusal all words stay. The
+ *            file is only read.
+ * Pointers:  with file_len 0 the file may be NULL; the answer is then
+ *            SHEET_FILE_ENDS with value 0. With table_len 0 the table may be
+ *            NULL; the answer is then a refusal.
+ * Cost:      linear in the file's length, with no memory that grows with it.
+ *
+ * Example: the file of the table that sheet_check's example has.
+ *
+ *     static const uint8_t file[] = {
+ *         0x51, 0x53, 2, 9, 0,
+ *         0x51, 0x4E, SHEET_GRAY,  0x51, 0x4E, SHEET_BLACK,
+ *         0x51, 0x4E, SHEET_GRAY,  0x51, 0x4E, SHEET_WHITE,
+ *         0x51, 0x4E, SHEET_WHITE, 0x51, 0x4E, SHEET_WHITE,
+ *         0x51, 0x4E, SHEET_BLACK, 0x51, 0x4E, SHEET_WHITE,
+ *         0x51, 0x4E, SHEET_WHITE
+ *     };
+ *     uint32_t table[54];
+ *     uint64_t answer = sheet_read(file, sizeof file, table, 54);
+ *
+ *     sheet_code(answer)       is SHEET_OK
+ *     sheet_value(answer) / 8  is 9, the node count
+ *     sheet_value(answer) % 8  is 2, the level
+ *     table                    is that table, word for word
+ */
+uint64_t sheet_read(const uint8_t *file, size_t file_len, uint32_t *table, size_t table_len);
+
+/* ---- sheet_write ------------------------------------------------------- */
+
+/*
+ * The sheet file of a table. Tables of one picture have one file, whatever
+ * their numbering: a fork's blocks stand in the order NW, NE, SW, SE.
+ *
+ * The tests, in this order; the first that fails decides:
+ *
+ *   SHEET_BAD_LEVEL      value 0     n is above 7
+ *   SHEET_BAD_LENGTH     value 0     table_len is wrong, as in sheet_check
+ *   SHEET_BAD_NODE, SHEET_TOO_DEEP or SHEET_NEEDLESS_FORK
+ *                        value p     sheet_check's first fault, at node p
+ *   SHEET_NO_ROOM        value 5 + 3N   file_len is below 5 + 3N
+ *
+ * If none fails the answer is
+ *
+ *   SHEET_OK             value 5 + 3N   the file is written, so many bytes.
+ *
+ * SHEET_LONGEST_FILE bytes are room enough for every table.
+ *
+ * Buffers:   on SHEET_OK file[0] to file[5 + 3N - 1] are the sheet file, and
+ *            the bytes beyond stay as they were; on a refusal all bytes stay.
+ *            The table is only read.
+ * Pointers:  with table_len 0 the table may be NULL, with file_len 0 the file;
+ *            the answer is then a refusal.
+ * Cost:      linear in N, with no memory that grows with N.
+ *
+ * Example: the table of sheet_check's example, which is called 'table'.
+ *
+ *     uint8_t file[32];
+ *     uint64_t answer = sheet_write(2, table, 54, file, sizeof file);
+ *
+ *     sheet_code(answer)  is SHEET_OK
+ *     sheet_value(answer) is 32, the file's length
+ *     file                is the file of sheet_read's example, byte for byte
+ */
+uint64_t sheet_write(uint32_t n, const uint32_t *table, size_t table_len, uint8_t *file, size_t file_len);
+
+/* ---- sheet_centre ------------------------------------------------------ */
+
+/*
+ * Where the centre of a node, fork or leaf, lies on the ground.
+ *
+ * The ground place of the sheet is three numbers: east and north of the outer
+ * corner of the top left pixel, and step, the side of a pixel. East and north
+ * lie from -16777216 to 16777216, step from 1/1024 to 16384; the limits
+ * themselves are good, a NaN is not. For a node of side w whose top left pixel
+ * is in column x and row y, with h = 2x + w and k = 2y + w, the centre is at
+ *
+ *   place[0] = east + (h / 2) * step
+ *   place[1] = north - (k / 2) * step
+ *
+ * each operation rounded once, to the nearest (h / 2 and k / 2 are exact); no
+ * two operations are fused into one.
+ *
+ * The tests, in this order; the first that fails decides:
+ *
+ *   SHEET_BAD_LEVEL      value 0     n is above 7
+ *   SHEET_BAD_LENGTH     value 0     table_len is wrong, as in sheet_check
+ *   SHEET_BAD_NODE, SHEET_TOO_DEEP or SHEET_NEEDLESS_FORK
+ *                        value p     sheet_check's first fault, at node p
+ *   SHEET_NO_SUCH_NODE   value node  node is N or above
+ *   SHEET_BAD_GROUND     value 0     east is out of range
+ *   SHEET_BAD_GROUND     value 1     north is out of range
+ *   SHEET_BAD_GROUND     value 2     step is out of range
+ *   SHEET_NO_ROOM        value 2     place_len is below 2
+ *
+ * If none fails the answer is
+ *
+ *   SHEET_OK             value 0     the two numbers are written.
+ *
+ * Buffers:   on SHEET_OK place[0] and place[1] are the centre, east first, and
+ *            the numbers beyond stay as they were; on a refusal all stay, bit
+ *            for bit. The table is only read.
+ * Pointers:  with table_len 0 the table may be NULL, with place_len 0 the
+ *            place; the answer is then a refusal.
+ * Cost:      sheet_check's, and then one link for each level above the node.
+ *
+ * Example: the table of sheet_check's example, which is called 'table'.
+ *
+ *     double place[2];
+ *     uint64_t answer =
+ *         sheet_centre(2, table, 54, 1, 1000.0, 2000.0, 10.0, place, 2);
+ *
+ *     sheet_code(answer)  is SHEET_OK
+ *     sheet_value(answer) is 0
+ *     place               is 1010.0, 1990.0
+ */
+uint64_t sheet_centre(uint32_t n, const uint32_t *table, size_t table_len, uint32_t node, double east, double north,
+                      double step, double *place, size_t place_len);
 
 #ifdef __cplusplus
 }

@@ -3,7 +3,6 @@
  * out by hand. Every table is lent between guards and must not be written.
  */
 #include <inttypes.h>
-#include <stdio.h>
 #include <string.h>
 
 #include "second/second.h"
@@ -11,55 +10,27 @@
 #include "support/dice.h"
 #include "support/faults.h"
 #include "support/lender.h"
+#include "support/met.h"
 #include "support/report.h"
 #include "support/sample.h"
 #include "support/table.h"
+#include "support/words.h"
 
-enum { LEAST_MET = 100, LEAST_INPUTS = 200000, FAR_FROM_ROOT = 16, RULES = 6, CODES = 6 };
+enum { LEAST_INPUTS = 200000, FAR_FROM_ROOT = 16, RULES = 6 };
 
-/* What has been met so far: each code, each rule that decided, and each rule
- * that decided at a node far from the root. */
-static struct {
-    uint32_t inputs, unequal, accepted, code[256], rule[RULES + 1], far_rule[RULES + 1];
-} met;
+/* Each rule that decided, and each rule that decided at a node far from the
+ * root. */
+static uint32_t met_rule[RULES + 1], met_far_rule[RULES + 1];
 
 static struct lender lender;
 static struct table table;
 
-static uint64_t packed(uint32_t code, uint64_t value)
-{
-    return code + 256 * value;
-}
-
-static void say_unequal(uint32_t level, size_t length, uint64_t wanted, uint64_t given, int unchanged)
-{
-    if (++met.unequal > 20)
-        return;
-    printf("  level %" PRIu32 ", %zu words: wanted %" PRIu64 " with %" PRIu64 ", given %" PRIu64 " with %" PRIu64
-           "%s\n",
-           level, length, wanted % 256, wanted / 256, given % 256, given / 256,
-           unchanged ? "" : ", and the buffer or its guards were written");
-}
-
-static void count_answer(uint64_t answer, int rule)
-{
-    met.inputs++;
-    met.code[answer % 256]++;
-    met.accepted += answer % 256 == 0;
-    met.rule[rule]++;
-    met.far_rule[rule] += answer / 256 >= FAR_FROM_ROOT;
-}
-
 /* Lends the words to the library, and holds its answer against the one wanted. */
 static int gives(uint32_t level, const uint32_t *words, size_t length, uint64_t wanted)
 {
-    uint32_t *lent = lend(&lender, words, length * sizeof *words, (enum lend_at)(met.inputs % LEND_PLACES));
+    uint32_t *lent = lend(&lender, words, length * sizeof *words, met_turn());
     uint64_t given = sheet_check(level, lent, length);
-    int unchanged = lent_unchanged(&lender);
-    if (given == wanted && unchanged)
-        return 1;
-    say_unequal(level, length, wanted, given, unchanged);
-    return 0;
+    return met_answer(wanted, given, lent_unchanged(&lender), "level %" PRIu32 ", %zu words", level, length);
 }
 
 /* Holds the library against the second implementation. */
@@ -68,7 +39,8 @@ static void compare(uint32_t level, const uint32_t *words, size_t length)
     int rule;
     uint64_t wanted = second_check(level, words, length, &rule);
     gives(level, words, length, wanted);
-    count_answer(wanted, rule);
+    met_rule[rule]++;
+    met_far_rule[rule] += wanted / 256 >= FAR_FROM_ROOT;
 }
 
 static void compare_table(void)
@@ -76,32 +48,7 @@ static void compare_table(void)
     compare(table.level, table.words, table.length);
 }
 
-/* Ends a group of comparisons that began with 'before'. */
-static void report_group(const char *name, uint32_t inputs_before, uint32_t unequal_before)
-{
-    char line[160];
-    snprintf(line, sizeof line, "%s: %" PRIu32 " inputs", name, met.inputs - inputs_before);
-    report_check(line, met.inputs > inputs_before && met.unequal == unequal_before);
-}
-
-static void group(const char *name, void (*run)(void))
-{
-    uint32_t inputs = met.inputs, unequal = met.unequal;
-    run();
-    report_group(name, inputs, unequal);
-}
-
 /* ---- answers worked out by hand */
-
-#define NO SHEET_NONE
-#define LEAF(father, type) father, NO, NO, NO, NO, type
-#define FORK(father, nw, ne, sw, se) father, nw, ne, sw, se, SHEET_GRAY
-#define W SHEET_WHITE
-#define B SHEET_BLACK
-
-#define SHEET_A                                                                                         \
-    FORK(NO, 1, 2, 7, 8), LEAF(0, B), FORK(0, 3, 4, 5, 6), LEAF(2, W), LEAF(2, W), LEAF(2, W),          \
-        LEAF(2, B), LEAF(0, W), LEAF(0, W)
 
 struct vector {
     const char *name;
@@ -290,35 +237,28 @@ static void run_samples(void)
 {
     for (size_t i = 0; i < sizeof samples / sizeof *samples; i++) {
         struct dice d = dice_from(1000 + i);
-        uint32_t inputs = met.inputs, unequal = met.unequal, accepted = met.accepted;
+        uint32_t accepted = met.code[SHEET_OK];
+        met_begin_group();
         for (uint32_t n = 0; n < samples[i].inputs; n++) {
             sample_make(&table, samples[i].sample, &d);
             compare_table();
         }
-        report_group(samples[i].name, inputs, unequal);
+        met_end_group(samples[i].name);
         if (samples[i].all_accepted)
-            report_check("  all of them are accepted", met.accepted - accepted == samples[i].inputs);
+            report_check("  all of them are accepted", met.code[SHEET_OK] - accepted == samples[i].inputs);
     }
 }
 
 /* ---- was everything met? */
 
-static void report_met(const char *what, int number, uint32_t times)
-{
-    char line[80];
-    snprintf(line, sizeof line, "%s %d was met: %" PRIu32 " times", what, number, times);
-    report_check(line, times >= LEAST_MET);
-}
-
 static void run_coverage(void)
 {
-    for (int code = 0; code < CODES; code++)
-        report_met("code", code, met.code[code]);
-    for (int rule = 1; rule <= RULES; rule++)
-        report_met("rule", rule, met.rule[rule]);
-    for (int rule = 1; rule <= RULES; rule++)
-        report_met("far from the root, rule", rule, met.far_rule[rule]);
-    report_check("inputs enough", met.inputs >= LEAST_INPUTS);
+    static const uint32_t codes[] = {0, 1, 2, 3, 4, 5};
+    met_report(codes, sizeof codes / sizeof *codes, LEAST_INPUTS);
+    for (uint32_t rule = 1; rule <= RULES; rule++)
+        met_often("rule", rule, met_rule[rule]);
+    for (uint32_t rule = 1; rule <= RULES; rule++)
+        met_often("far from the root, rule", rule, met_far_rule[rule]);
 }
 
 int main(void)
@@ -327,11 +267,11 @@ int main(void)
     run_vectors();
     run_empty_slices();
     run_longest_tables();
-    group("every table of one node", compare_one_node);
-    group("sheet A with any word changed", compare_one_word_changed);
-    group("one fork with any two words changed", compare_two_words_changed);
-    group("lengths", compare_lengths);
-    group("complete trees with a leaf split", compare_splits_of_complete_trees);
+    met_group("every table of one node", compare_one_node);
+    met_group("sheet A with any word changed", compare_one_word_changed);
+    met_group("one fork with any two words changed", compare_two_words_changed);
+    met_group("lengths", compare_lengths);
+    met_group("complete trees with a leaf split", compare_splits_of_complete_trees);
     run_samples();
     run_coverage();
     return report_end();

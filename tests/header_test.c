@@ -33,6 +33,10 @@ static void check_numbers(void)
     report_check("quadrants", SHEET_QUADRANT_NW == 0 && SHEET_QUADRANT_NE == 1 && SHEET_QUADRANT_SW == 2 &&
                                   SHEET_QUADRANT_SE == 3);
     report_check("types", SHEET_WHITE == 0 && SHEET_BLACK == 1 && SHEET_GRAY == 2);
+    report_check("directions", SHEET_N == 0 && SHEET_E == 1 && SHEET_S == 2 && SHEET_W == 3 && SHEET_NW == 4 &&
+                                   SHEET_NE == 5 && SHEET_SW == 6 && SHEET_SE == 7);
+    report_check("the distance where no pixel is white", SHEET_NO_WHITE == (uint32_t)-1);
+    report_check("the longest file", SHEET_LONGEST_FILE == 5 + 3 * (SHEET_LONGEST_TABLE / SHEET_NODE_WORDS));
     report_check("codes of the check", SHEET_OK == 0 && SHEET_BAD_LEVEL == 1 && SHEET_BAD_LENGTH == 2 &&
                                            SHEET_BAD_NODE == 3 && SHEET_TOO_DEEP == 4 && SHEET_NEEDLESS_FORK == 5);
     report_check("codes of the other calls", SHEET_NO_SUCH_NODE == 6 && SHEET_BAD_DIRECTION == 7 &&

@@ -53,15 +53,29 @@ static size_t guard_after(const struct lender *l)
     return after < GUARD_SIZE ? after : GUARD_SIZE;
 }
 
-void *lend(struct lender *l, const void *contents, size_t size, enum lend_at at)
+/* Takes a buffer of this size, with its guards. */
+static void take(struct lender *l, size_t size, enum lend_at at)
 {
     size_t start = at == LEND_FIRST ? 0 : at == LEND_LAST ? l->room_size - size : GUARD_SIZE;
     l->lent = l->room + start;
     l->lent_size = size;
-    memcpy(l->lent, contents, size);
-    memcpy(l->copy, contents, size);
     memset(l->lent - guard_before(l), GUARD_BYTE, guard_before(l));
     memset(l->lent + size, GUARD_BYTE, guard_after(l));
+}
+
+void *lend(struct lender *l, const void *contents, size_t size, enum lend_at at)
+{
+    take(l, size, at);
+    memcpy(l->lent, contents, size);
+    memcpy(l->copy, contents, size);
+    return l->lent;
+}
+
+void *lend_pattern(struct lender *l, size_t size, enum lend_at at)
+{
+    take(l, size, at);
+    for (size_t i = 0; i < size; i++)
+        l->copy[i] = l->lent[i] = (unsigned char)(128 + i % 123);
     return l->lent;
 }
 
@@ -73,9 +87,14 @@ static int is_guard(const unsigned char *bytes, size_t size)
     return 1;
 }
 
-int lent_unchanged(const struct lender *l)
+int lent_holds(const struct lender *l, const void *contents)
 {
     return is_guard(l->lent - guard_before(l), guard_before(l)) &&
            is_guard(l->lent + l->lent_size, guard_after(l)) &&
-           memcmp(l->lent, l->copy, l->lent_size) == 0;
+           memcmp(l->lent, contents, l->lent_size) == 0;
+}
+
+int lent_unchanged(const struct lender *l)
+{
+    return lent_holds(l, l->copy);
 }

@@ -28,6 +28,12 @@ struct lender lender_open(size_t most);
 /* Lends one buffer with these contents; the buffer lent before is taken back. */
 void *lend(struct lender *l, const void *contents, size_t size, enum lend_at at);
 
+/* Lends one buffer full of a pattern that no call writes: bytes from 128 to 250. */
+void *lend_pattern(struct lender *l, size_t size, enum lend_at at);
+
+/* Are the guards whole, and the contents now these, as many bytes as were lent? */
+int lent_holds(const struct lender *l, const void *contents);
+
 /* Are the guards whole, and the contents still those that were lent? */
 int lent_unchanged(const struct lender *l);
 

@@ -13,10 +13,15 @@ static uint32_t draw_level(struct dice *d)
     return dice_below(d, 4);
 }
 
+void sample_picture(struct picture *pic, struct dice *d)
+{
+    picture_draw(pic, (enum picture_kind)dice_below(d, PICTURE_KINDS), draw_level(d), d);
+}
+
 static void make_preorder(struct table *t, struct dice *d)
 {
     static struct picture pic;
-    picture_draw(&pic, (enum picture_kind)dice_below(d, PICTURE_KINDS), draw_level(d), d);
+    sample_picture(&pic, d);
     table_of_picture(t, &pic);
 }
 
@@ -32,7 +37,7 @@ static void make_any_numbering(struct table *t, struct dice *d)
         renumber(t, d);
 }
 
-static uint32_t hostile_level(struct dice *d)
+uint32_t sample_hostile_level(struct dice *d)
 {
     static const uint32_t levels[] = {
         8, 9, 10, 31, 32, 33, 63, 64, 255, 256, 258, 263, 65536, 65538, 0x01000003u, 0x7fffffffu,
@@ -71,7 +76,7 @@ void sample_make(struct table *t, enum sample sample, struct dice *d)
             renumber(t, d);
         break;
     case SAMPLE_CUT_LENGTH: t->length = dice_below(d, (uint32_t)t->length); break;
-    case SAMPLE_HOSTILE_LEVEL: t->level = hostile_level(d); break;
+    case SAMPLE_HOSTILE_LEVEL: t->level = sample_hostile_level(d); break;
     default: break;
     }
 }

@@ -1,4 +1,5 @@
-/* Tables of every kind that the calls may be given, sound and unsound. */
+/* Tables, pictures and levels of every kind that the calls may be given, sound
+ * and unsound. */
 #ifndef SUPPORT_SAMPLE_H
 #define SUPPORT_SAMPLE_H
 
@@ -23,5 +24,12 @@ enum sample {
 
 /* Makes one such table. Small levels are drawn far more often than large ones. */
 void sample_make(struct table *t, enum sample sample, struct dice *d);
+
+/* Draws a picture of any kind, of small levels far more often than of large
+ * ones. */
+void sample_picture(struct picture *pic, struct dice *d);
+
+/* A level above 7: near a limit, or anywhere. */
+uint32_t sample_hostile_level(struct dice *d);
 
 #endif

@@ -1,0 +1,38 @@
+/* Writing for speed: the check, then the records, going down from the root. */
+#include "plain/plain.h"
+
+static uint8_t *write_record(uint8_t *file, uint32_t type)
+{
+    file[0] = 0x51;
+    file[1] = 0x4e;
+    file[2] = (uint8_t)type;
+    return file + 3;
+}
+
+/* Writes the block of this node and gives back where the next one begins. */
+static uint8_t *write_block(const uint32_t *table, uint32_t node, uint8_t *file)
+{
+    const uint32_t *words = table + (size_t)node * 6;
+    file = write_record(file, words[5]);
+    if (words[5] == 2)
+        for (int quadrant = 0; quadrant < 4; quadrant++)
+            file = write_block(table, words[1 + quadrant], file);
+    return file;
+}
+
+uint64_t plain_write(uint32_t n, const uint32_t *table, size_t table_len, uint8_t *file, size_t file_len)
+{
+    uint64_t check = plain_check(n, table, table_len);
+    if (check % 256 != 0)
+        return check;
+    uint64_t count = check / 256, length = 5 + 3 * count;
+    if (file_len < length)
+        return 9 + 256 * length;
+    file[0] = 0x51;
+    file[1] = 0x53;
+    file[2] = (uint8_t)n;
+    file[3] = (uint8_t)count;
+    file[4] = (uint8_t)(count >> 8);
+    write_block(table, 0, file + 5);
+    return 256 * length;
+}
