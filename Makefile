@@ -15,14 +15,16 @@ CC = cc
 CXX = c++
 INCLUDE = -Iinclude -Itests -Ibench
 WARN = -Wall -Wextra -Werror
-CFLAGS = -std=c99 -O2 $(WARN)
-PLAIN_CFLAGS = -std=c99 -O3 $(WARN)
+NOT_FUSED = -ffp-contract=off
+CFLAGS = -std=c99 -O2 $(NOT_FUSED) $(WARN)
+PLAIN_CFLAGS = -std=c99 -O3 $(NOT_FUSED) $(WARN)
 SANITIZE = -fsanitize=address,undefined -fno-sanitize-recover=all
 
 HEADERS = $(wildcard include/*.h tests/*/*.h bench/*.h bench/*/*.h)
 SHARED = $(wildcard tests/support/*.c tests/second/*.c)
 SHARED_OBJECTS = $(SHARED:%.c=build/%.o)
-BENCH_OBJECTS = $(patsubst %.c,build/%.o,bench/bench.c $(wildcard bench/plain/*.c))
+BENCH_SHARED = $(filter-out %_bench.c,$(wildcard bench/*.c bench/plain/*.c))
+BENCH_OBJECTS = $(BENCH_SHARED:%.c=build/%.o)
 
 works = $(shell mkdir -p build && echo 'int main(void) { return 0; }' >build/works.c && \
 	$(1) build/works.c -o build/works 2>/dev/null && build/works && echo yes)

@@ -46,23 +46,33 @@ static double median(double *times)
     return times[TURNS / 2];
 }
 
-void bench_race(const char *input_name, const void *input, size_t units, const struct rival *rivals, size_t count)
+void bench_times(const void *input, const struct rival *rivals, size_t count, double *taken)
 {
     static double times[MOST_RIVALS][TURNS];
     size_t repeats[MOST_RIVALS];
-    double taken[MOST_RIVALS];
     for (size_t r = 0; r < count; r++)
         repeats[r] = repeats_for(&rivals[r], input);
     for (size_t turn = 0; turn < TURNS; turn++)
         for (size_t r = 0; r < count; r++)
             times[r][turn] = time_of(&rivals[r], input, repeats[r]);
-    printf("%-28s %6zu:", input_name, units);
-    for (size_t r = 0; r < count; r++) {
+    for (size_t r = 0; r < count; r++)
         taken[r] = median(times[r]);
+}
+
+void bench_line(const char *input_name, size_t units, const struct rival *rivals, size_t count, const double *taken)
+{
+    printf("%-28s %6zu:", input_name, units);
+    for (size_t r = 0; r < count; r++)
         printf("  %s %.2f", rivals[r].name, taken[r] / (double)units);
-    }
     for (size_t r = 1; r < count; r++)
         printf("  %s/%s %.2f", rivals[0].name, rivals[r].name, taken[0] / taken[r]);
     printf("\n");
     fflush(stdout);
+}
+
+void bench_race(const char *input_name, const void *input, size_t units, const struct rival *rivals, size_t count)
+{
+    double taken[MOST_RIVALS];
+    bench_times(input, rivals, count, taken);
+    bench_line(input_name, units, rivals, count, taken);
 }

@@ -9,9 +9,27 @@
 #include <stddef.h>
 #include <stdint.h>
 
+#include "second/cover.h"
+
 /* What sheet_check must give back, and which of the six rules decided; rule is
  * 0 where none did (accepted, a bad level or a bad length). */
 uint64_t second_check(uint32_t n, const uint32_t *table, size_t table_len, int *rule);
+
+/* What sheet_neighbour must give back for the sheet that is covered so. */
+uint64_t second_neighbour(const struct second_cover *c, uint32_t node, uint32_t direction);
+
+/* What sheet_corner_leaf must give back for such a sheet. */
+uint64_t second_corner_leaf(const struct second_cover *c, uint32_t node, uint32_t side, uint32_t corner);
+
+/* What sheet_diagonal_leaf must give back for such a sheet. */
+uint64_t second_diagonal_leaf(const struct second_cover *c, uint32_t node, uint32_t corner);
+
+/* What sheet_distance must give back, and the words that it must write. */
+uint64_t second_distance(uint32_t n, const uint32_t *table, size_t table_len, uint32_t *distances, size_t distances_len);
+
+/* What sheet_centre must give back, and the two numbers that it must write. */
+uint64_t second_centre(uint32_t n, const uint32_t *table, size_t table_len, uint32_t node, double east, double north,
+                       double step, double *place, size_t place_len);
 
 /* Where a node of a sound table lies: its top left pixel and its side. */
 struct second_block {

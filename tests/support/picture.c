@@ -66,6 +66,92 @@ static void draw_chessboard(struct picture *pic, struct dice *d)
             *pixel(pic, x, y) = (x + y + first) % 2;
 }
 
+static uint32_t gap(uint32_t a, uint32_t b)
+{
+    return a > b ? a - b : b - a;
+}
+
+static uint32_t larger(uint32_t a, uint32_t b)
+{
+    return a > b ? a : b;
+}
+
+static void draw_rings(struct picture *pic, struct dice *d)
+{
+    uint32_t side = side_of(pic), width = 1 + dice_below(d, side / 4 + 1);
+    uint32_t i = dice_below(d, side), j = dice_below(d, side), first = dice_below(d, 2);
+    for (uint32_t y = 0; y < side; y++)
+        for (uint32_t x = 0; x < side; x++)
+            *pixel(pic, x, y) = (larger(gap(x, i), gap(y, j)) / width + first) % 2;
+}
+
+/* Which of the four triangles of the sheet a pixel lies in, clockwise. */
+static uint32_t triangle(uint32_t side, uint32_t x, uint32_t y)
+{
+    return x > y ? (x + y < side ? 0 : 1) : x + y >= side ? 2 : 3;
+}
+
+/* Rings round the middle that move outwards by a fourth of the arm's way in
+ * each triangle, so that they join to one arm. */
+static void draw_spiral(struct picture *pic, struct dice *d)
+{
+    uint32_t side = side_of(pic), width = UINT32_C(1) << dice_below(d, 3), first = dice_below(d, 2);
+    for (uint32_t y = 0; y < side; y++)
+        for (uint32_t x = 0; x < side; x++) {
+            uint32_t ring = larger(gap(2 * x + 1, side), gap(2 * y + 1, side)) / 2;
+            *pixel(pic, x, y) = ((4 * ring + 2 * width * triangle(side, x, y)) / (4 * width) + first) % 2;
+        }
+}
+
+static void draw_comb(struct picture *pic, struct dice *d)
+{
+    uint32_t side = side_of(pic), width = 1 + dice_below(d, side / 4 + 1), spine = dice_below(d, side);
+    uint32_t turned = dice_below(d, 2), first = dice_below(d, 2);
+    for (uint32_t y = 0; y < side; y++)
+        for (uint32_t x = 0; x < side; x++) {
+            uint32_t along = turned ? y : x, across = turned ? x : y;
+            *pixel(pic, x, y) = (across >= spine && along / width % 2 == 1) != first;
+        }
+}
+
+static void draw_islets(struct picture *pic, struct dice *d)
+{
+    for (uint32_t islets = dice_below(d, 4); islets > 0; islets--)
+        *pixel(pic, dice_below(d, side_of(pic)), dice_below(d, side_of(pic))) ^= 1;
+}
+
+static void draw_coastline(struct picture *pic, struct dice *d)
+{
+    uint32_t side = side_of(pic), shore = dice_below(d, side + 1), turned = dice_below(d, 2), land = dice_below(d, 2);
+    for (uint32_t along = 0; along < side; along++) {
+        uint32_t moved = shore + dice_below(d, 5);
+        shore = moved < 2 ? 0 : moved > side + 2 ? side : moved - 2;
+        for (uint32_t across = 0; across < side; across++)
+            *pixel(pic, turned ? across : along, turned ? along : across) = (across < shore) == land;
+    }
+    draw_islets(pic, d);
+}
+
+void picture_of_bits(struct picture *pic, uint32_t level, uint32_t bits)
+{
+    pic->level = level;
+    for (uint32_t i = 0; i < side_of(pic) * side_of(pic); i++)
+        pic->pixels[i] = bits >> i & 1;
+}
+
+void picture_draw_lone_pixel(struct picture *pic, uint32_t level, uint32_t x, uint32_t y)
+{
+    pic->level = level;
+    fill(pic, 1);
+    *pixel(pic, x, y) = 0;
+}
+
+static void draw_lone_pixel(struct picture *pic, struct dice *d)
+{
+    uint32_t last = side_of(pic) - 1;
+    picture_draw_lone_pixel(pic, pic->level, last * dice_below(d, 2), last * dice_below(d, 2));
+}
+
 void picture_draw(struct picture *pic, enum picture_kind kind, uint32_t level, struct dice *d)
 {
     pic->level = level;
@@ -74,6 +160,11 @@ void picture_draw(struct picture *pic, enum picture_kind kind, uint32_t level, s
     case PICTURE_BLOBS: draw_blobs(pic, d); break;
     case PICTURE_BLOCKS: draw_blocks(pic, d); break;
     case PICTURE_CHESSBOARD: draw_chessboard(pic, d); break;
+    case PICTURE_RINGS: draw_rings(pic, d); break;
+    case PICTURE_SPIRAL: draw_spiral(pic, d); break;
+    case PICTURE_COMB: draw_comb(pic, d); break;
+    case PICTURE_COASTLINE: draw_coastline(pic, d); break;
+    case PICTURE_LONE_PIXEL: draw_lone_pixel(pic, d); break;
     default: fill(pic, (uint8_t)dice_below(d, 2)); break;
     }
 }

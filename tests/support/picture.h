@@ -16,6 +16,11 @@ enum picture_kind {
     PICTURE_ONE_COLOUR, /* one leaf                                        */
     PICTURE_CHESSBOARD, /* no two pixels side by side alike: every block   */
                         /* is a fork, the longest table of its level       */
+    PICTURE_RINGS,      /* rings round one point, of one width             */
+    PICTURE_SPIRAL,     /* one arm that winds round the middle             */
+    PICTURE_COMB,       /* teeth that stand on a spine along one edge      */
+    PICTURE_COASTLINE,  /* land on one side of a winding line, with islets */
+    PICTURE_LONE_PIXEL, /* black but for one white pixel in a corner       */
     PICTURE_KINDS
 };
 
@@ -26,5 +31,12 @@ struct picture {
 
 /* Draws a picture of side 2^level. */
 void picture_draw(struct picture *pic, enum picture_kind kind, uint32_t level, struct dice *d);
+
+/* The picture of level 0 to 2 whose pixels are the bits of a number, so that
+ * the numbers below 2^(4^level) give every picture of the level. */
+void picture_of_bits(struct picture *pic, uint32_t level, uint32_t bits);
+
+/* Draws black everywhere but at one pixel. */
+void picture_draw_lone_pixel(struct picture *pic, uint32_t level, uint32_t x, uint32_t y);
 
 #endif

@@ -37,6 +37,22 @@ static void make_any_numbering(struct table *t, struct dice *d)
         renumber(t, d);
 }
 
+uint32_t sample_node(const struct table *t, struct dice *d)
+{
+    uint32_t count = table_count(t);
+    if (count > 0 && dice_below(d, 4) != 0)
+        return dice_below(d, count);
+    switch (dice_below(d, 7)) {
+    case 0: return count;
+    case 1: return count + 1;
+    case 2: return (uint32_t)t->length;
+    case 3: return SHEET_NONE;
+    case 4: return UINT32_C(0x80000000) + dice_below(d, count + 1);
+    case 5: return UINT32_C(65536) * (1 + dice_below(d, 9)) + dice_below(d, count + 1);
+    default: return dice_word(d);
+    }
+}
+
 uint32_t sample_hostile_level(struct dice *d)
 {
     static const uint32_t levels[] = {

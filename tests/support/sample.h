@@ -29,6 +29,9 @@ void sample_make(struct table *t, enum sample sample, struct dice *d);
  * ones. */
 void sample_picture(struct picture *pic, struct dice *d);
 
+/* A node of the table or, one time in four, a number that is none. */
+uint32_t sample_node(const struct table *t, struct dice *d);
+
 /* A level above 7: near a limit, or anywhere. */
 uint32_t sample_hostile_level(struct dice *d);
 

@@ -107,3 +107,11 @@ void table_renumber(struct table *t, enum numbering numbering, struct dice *d)
         node[SHEET_TYPE_WORD] = old[SHEET_TYPE_WORD];
     }
 }
+
+void table_in_turn(struct table *t, const struct picture *pic, uint32_t turn, struct dice *d)
+{
+    uint32_t which = turn % (NUMBERINGS + 1);
+    table_of_picture(t, pic);
+    if (which != NUMBERINGS)
+        table_renumber(t, (enum numbering)which, d);
+}

@@ -39,4 +39,7 @@ void table_of_picture(struct table *t, const struct picture *pic);
 /* Gives the nodes of a sound table other numbers, fathers still below sons. */
 void table_renumber(struct table *t, enum numbering numbering, struct dice *d);
 
+/* The table of a picture in preorder or another numbering, each in its turn. */
+void table_in_turn(struct table *t, const struct picture *pic, uint32_t turn, struct dice *d);
+
 #endif

@@ -1,0 +1,93 @@
+/*
+ * The chessboard distance by document 001's method: for each black leaf its
+ * eight neighbours, and under the grey ones the nearest quarters first. Gaps
+ * are whole pixels between the leaf's border and a white block.
+ */
+#include "plain/plain.h"
+#include "plain/search.h"
+
+enum { WHITE = 0, BLACK = 1, EAST = 1, SOUTH = 2 };
+
+static uint32_t type_of(const uint32_t *table, uint32_t p)
+{
+    return plain_node(table, p)[5];
+}
+
+/* The gap from one side of block p, the one that quadrants 'near' and its
+ * brother along that side lie on, to the nearest white below p; 'least' if
+ * that is not smaller. The gap is 'bound' or more, and p's side is 2 * half. */
+static uint32_t gap_from_side(const uint32_t *table, uint32_t p, uint32_t near, uint32_t across, uint32_t half,
+                              uint32_t bound, uint32_t least)
+{
+    if (bound >= least || type_of(table, p) == BLACK)
+        return least;
+    if (type_of(table, p) == WHITE)
+        return bound;
+    uint32_t first = near, second = near ^ 3 ^ across;
+    if (type_of(table, plain_son(table, p, first)) == BLACK && type_of(table, plain_son(table, p, second)) == BLACK) {
+        first ^= across;
+        second ^= across;
+        bound += half;
+    }
+    least = gap_from_side(table, plain_son(table, p, first), near, across, half / 2, bound, least);
+    return gap_from_side(table, plain_son(table, p, second), near, across, half / 2, bound, least);
+}
+
+/* The same from the corner of p in quadrant 'near'. */
+static uint32_t gap_from_corner(const uint32_t *table, uint32_t p, uint32_t near, uint32_t half, uint32_t bound,
+                                uint32_t least)
+{
+    if (bound >= least || type_of(table, p) == BLACK)
+        return least;
+    if (type_of(table, p) == WHITE)
+        return bound;
+    least = gap_from_corner(table, plain_son(table, p, near), near, half / 2, bound, least);
+    least = gap_from_side(table, plain_son(table, p, near ^ EAST), near, EAST, half / 2, bound + half, least);
+    least = gap_from_side(table, plain_son(table, p, near ^ SOUTH), near, SOUTH, half / 2, bound + half, least);
+    return gap_from_corner(table, plain_son(table, p, near ^ 3), near, half / 2, bound + half, least);
+}
+
+/* The directions for a leaf in each quadrant: its three brothers first, which
+ * are nearest in the tree and not all black; then the sides and the corners. */
+static const uint8_t order[4][8] = {
+    {1, 2, 7, 0, 3, 4, 5, 6}, {3, 2, 6, 0, 1, 4, 5, 7}, {0, 1, 5, 2, 3, 4, 6, 7}, {0, 3, 4, 1, 2, 5, 6, 7}};
+
+static uint32_t distance_of_leaf(const uint32_t *table, uint32_t p, uint32_t quadrant, uint32_t side)
+{
+    uint32_t least = side;
+    for (uint32_t i = 0; i < 8 && least > 0; i++) {
+        uint32_t direction = order[quadrant][i], found = plain_search(table, p, direction);
+        uint32_t crossed = plain_crossed(direction), near = plain_leaving(direction) ^ crossed;
+        if (found == PLAIN_NONE)
+            continue;
+        least = crossed == 3 ? gap_from_corner(table, found, near, side / 2, 0, least)
+                             : gap_from_side(table, found, near, crossed, side / 2, 0, least);
+    }
+    return side + 2 * least;
+}
+
+static void distances_below(const uint32_t *table, uint32_t p, uint32_t quadrant, uint32_t side, uint32_t *distances)
+{
+    distances[p] = 0;
+    if (type_of(table, p) == BLACK)
+        distances[p] = distance_of_leaf(table, p, quadrant, side);
+    else if (type_of(table, p) != WHITE)
+        for (uint32_t son = 0; son < 4; son++)
+            distances_below(table, plain_son(table, p, son), son, side / 2, distances);
+}
+
+uint64_t plain_distance(uint32_t n, const uint32_t *table, size_t table_len, uint32_t *distances, size_t distances_len)
+{
+    uint64_t check = plain_check(n, table, table_len);
+    if (check % 256 == 1 || check % 256 == 2)
+        return check;
+    if (distances_len != table_len / 6)
+        return 2 + 256 * 1;
+    if (check % 256 != 0)
+        return check;
+    if (type_of(table, 0) == BLACK)
+        distances[0] = PLAIN_NONE;
+    else
+        distances_below(table, 0, 0, UINT32_C(1) << n, distances);
+    return 0;
+}

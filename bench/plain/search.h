@@ -1,0 +1,75 @@
+/*
+ * The search for a neighbour in an accepted table, for speed. Quadrant bit 0 is
+ * east and bit 1 south; a direction crosses a vertical side, a horizontal one,
+ * or both, and each crossing is open until an ancestor is met on whose other
+ * half the way goes on.
+ */
+#ifndef PLAIN_SEARCH_H
+#define PLAIN_SEARCH_H
+
+#include <stdint.h>
+
+#define PLAIN_NONE UINT32_MAX
+
+static inline const uint32_t *plain_node(const uint32_t *table, uint32_t p)
+{
+    return table + (uint64_t)p * 6;
+}
+
+static inline uint32_t plain_is_fork(const uint32_t *table, uint32_t p)
+{
+    return plain_node(table, p)[5] == 2;
+}
+
+static inline uint32_t plain_son(const uint32_t *table, uint32_t p, uint32_t quadrant)
+{
+    return plain_node(table, p)[1 + quadrant];
+}
+
+static inline uint32_t plain_quadrant(const uint32_t *table, uint32_t father, uint32_t p)
+{
+    const uint32_t *sons = plain_node(table, father) + 1;
+    return sons[0] == p ? 0 : sons[1] == p ? 1 : sons[2] == p ? 2 : 3;
+}
+
+/* The bits that a direction crosses, and the half that it leaves the block by. */
+static inline uint32_t plain_crossed(uint32_t direction)
+{
+    static const uint32_t crossed[8] = {2, 1, 2, 1, 3, 3, 3, 3};
+    return crossed[direction];
+}
+
+static inline uint32_t plain_leaving(uint32_t direction)
+{
+    static const uint32_t leaving[8] = {0, 1, 2, 0, 0, 1, 2, 3};
+    return leaving[direction];
+}
+
+/* The neighbour, or PLAIN_NONE off the sheet. */
+static inline uint32_t plain_search(const uint32_t *table, uint32_t p, uint32_t direction)
+{
+    uint32_t open = plain_crossed(direction), leaving = plain_leaving(direction);
+    uint32_t way = 0, links = 0;
+    for (; open != 0; links++) {
+        uint32_t father = plain_node(table, p)[0];
+        if (father == PLAIN_NONE)
+            return PLAIN_NONE;
+        uint32_t quadrant = plain_quadrant(table, father, p);
+        way = way << 2 | (quadrant ^ open);
+        open &= ~(quadrant ^ leaving);
+        p = father;
+    }
+    for (; links > 0 && plain_is_fork(table, p); links--, way >>= 2)
+        p = plain_son(table, p, way & 3);
+    return p;
+}
+
+/* From a node down to its leaf in one corner. */
+static inline uint32_t plain_leaf_in_corner(const uint32_t *table, uint32_t p, uint32_t corner)
+{
+    while (plain_is_fork(table, p))
+        p = plain_son(table, p, corner);
+    return p;
+}
+
+#endif

@@ -1,0 +1,327 @@
+/*
+ * sheet_centre against the second implementation, bit for bit, and against
+ * answers worked out by hand. Numbers are drawn as bits, so that NaNs keep their
+ * payloads and zeros their signs.
+ */
+#include <inttypes.h>
+#include <string.h>
+
+#include "second/second.h"
+#include "sheet.h"
+#include "support/dice.h"
+#include "support/lender.h"
+#include "support/met.h"
+#include "support/report.h"
+#include "support/sample.h"
+#include "support/table.h"
+#include "support/words.h"
+
+enum { LEAST_INPUTS = 1000000, SHEETS = 4500, TRIPLES = 256, MOST_NODES = 90, MOST_PLACE = 6 };
+
+struct ground {
+    double east, north, step;
+};
+
+/* Which of the three numbers the refusals with code 11 named, and sums that one
+ * rounding instead of two would change, towards the east and towards the
+ * north. */
+static uint32_t met_wrong_number[3], met_not_fused[2];
+
+static struct lender table_lender, place_lender;
+static struct table table;
+
+/* ---- one call */
+
+/* Lends a table and a place; the place afterwards must be the one wanted, to
+ * the last bit. */
+static int gives(uint32_t level, const uint32_t *words, size_t length, uint32_t node, struct ground g,
+                 const double *place, size_t place_length, uint64_t wanted, const double *wanted_place)
+{
+    uint32_t *lent_table = lend(&table_lender, words, length * sizeof *words, met_turn());
+    double *lent = lend(&place_lender, place, place_length * sizeof *place, met_turn());
+    uint64_t given = sheet_centre(level, lent_table, length, node, g.east, g.north, g.step, lent, place_length);
+    int right = lent_unchanged(&table_lender) && lent_holds(&place_lender, wanted_place);
+    return met_answer(wanted, given, right,
+                      "level %" PRIu32 ", %zu words, node %" PRIu32 ", east %a, north %a, step %a, %zu numbers", level,
+                      length, node, g.east, g.north, g.step, place_length);
+}
+
+/* Holds the library against the second implementation. */
+static void compare(uint32_t node, struct ground g, const double *place, size_t place_length)
+{
+    double wanted_place[MOST_PLACE];
+    memcpy(wanted_place, place, place_length * sizeof *place);
+    uint64_t wanted = second_centre(table.level, table.words, table.length, node, g.east, g.north, g.step, wanted_place,
+                                    place_length);
+    gives(table.level, table.words, table.length, node, g, place, place_length, wanted, wanted_place);
+    if (wanted % 256 == SHEET_BAD_GROUND)
+        met_wrong_number[wanted / 256]++;
+}
+
+/* ---- answers worked out by hand */
+
+static const uint32_t sheet_a[] = {SHEET_A};
+
+#define EAST_LIMIT 16777216.0
+#define STEP_LEAST (1.0 / 1024)
+#define STEP_MOST 16384.0
+#define TINY 4.9406564584124654e-324
+
+struct vector {
+    const char *name;
+    uint32_t node;
+    struct ground ground;
+    uint32_t code, value;
+    double place[2];
+};
+
+static const struct vector vectors[] = {
+    {"node 1 of sheet A", 1, {1000, 2000, 10}, 0, 0, {1010, 1990}},
+    {"the root of sheet A", 0, {1000, 2000, 10}, 0, 0, {1020, 1980}},
+    {"node 2, a fork", 2, {1000, 2000, 10}, 0, 0, {1030, 1990}},
+    {"node 6, a pixel", 6, {1000, 2000, 10}, 0, 0, {1035, 1985}},
+    {"node 7, to the south", 7, {1000, 2000, 10}, 0, 0, {1010, 1970}},
+    {"a sum of nothing is +0", 1, {-10, 10, 10}, 0, 0, {0.0, 0.0}},
+    {"minus zero is in range", 1, {-0.0, -0.0, 10}, 0, 0, {10, -10}},
+    {"the smallest numbers are in range", 1, {TINY, -TINY, 10}, 0, 0, {10, -10}},
+    {"the upper limits are in range", 1, {EAST_LIMIT, EAST_LIMIT, STEP_MOST}, 0, 0, {16793600, 16760832}},
+    {"the lower limits are in range", 1, {-EAST_LIMIT, -EAST_LIMIT, STEP_LEAST}, 0, 0,
+     {-16777216 + STEP_LEAST, -16777216 - STEP_LEAST}},
+    /* 2.5 * step lies between 2.5 + 2^-51 and its next, nearer to the first;
+     * 1.5 * step lies half way and goes to the even 1.5 + 2^-51. */
+    {"the product is rounded before the sum", 5, {-2.5, 1.5, 1 + 0x1p-52}, 0, 0, {0x1p-51, -0x1p-51}},
+    {"east just above its limit", 1, {EAST_LIMIT + 0x1p-28, 0, 1}, 11, 0, {0, 0}},
+    {"north just below its limit", 1, {0, -EAST_LIMIT - 0x1p-28, 1}, 11, 1, {0, 0}},
+    {"step just above its limit", 1, {0, 0, STEP_MOST + 0x1p-38}, 11, 2, {0, 0}},
+    {"step just below its limit", 1, {0, 0, STEP_LEAST - 0x1p-63}, 11, 2, {0, 0}},
+    {"step 0", 1, {0, 0, 0}, 11, 2, {0, 0}},
+    {"all three wrong: east is named", 1, {-20000000, 20000000, -1}, 11, 0, {0, 0}},
+    {"node 9 is not there", 9, {1000, 2000, 10}, 6, 9, {0, 0}},
+    {"node 9 comes before the ground", 9, {20000000, 2000, 10}, 6, 9, {0, 0}},
+};
+
+static void run_vectors(void)
+{
+    for (size_t i = 0; i < sizeof vectors / sizeof *vectors; i++) {
+        const struct vector *v = &vectors[i];
+        double before[] = {-1, -2, -3}, after[] = {-1, -2, -3};
+        if (v->code == SHEET_OK)
+            memcpy(after, v->place, sizeof v->place);
+        report_check(v->name, gives(2, sheet_a, 54, v->node, v->ground, before, 3, packed(v->code, v->value), after));
+    }
+}
+
+static void run_short_places(void)
+{
+    struct ground good = {1000, 2000, 10}, bad = {1000, 2000, -10};
+    double place[] = {-1, -2};
+    report_check("a place of one number is too short", gives(2, sheet_a, 54, 1, good, place, 1, packed(9, 2), place));
+    report_check("no place is too short",
+                 sheet_centre(2, sheet_a, 54, 1, good.east, good.north, good.step, NULL, 0) == packed(9, 2));
+    report_check("the ground comes before the room",
+                 sheet_centre(2, sheet_a, 54, 1, bad.east, bad.north, bad.step, NULL, 0) == packed(11, 2));
+    report_check("no table and no place is a bad length",
+                 sheet_centre(2, NULL, 0, 1, bad.east, bad.north, bad.step, NULL, 0) == packed(2, 0));
+    report_check("no table at level 8 is a bad level",
+                 sheet_centre(8, NULL, 0, 1, bad.east, bad.north, bad.step, NULL, 0) == packed(1, 0));
+}
+
+/* ---- numbers drawn */
+
+static double number_of(uint64_t bits)
+{
+    double number;
+    memcpy(&number, &bits, sizeof number);
+    return number;
+}
+
+static uint64_t bits_of(double number)
+{
+    uint64_t bits;
+    memcpy(&bits, &number, sizeof bits);
+    return bits;
+}
+
+static uint64_t draw_bits(struct dice *d)
+{
+    uint64_t high = dice_word(d);
+    return high << 32 | dice_word(d);
+}
+
+static const uint64_t SIGN = UINT64_C(1) << 63, INFINITE = UINT64_C(0x7ff0000000000000);
+
+/* A NaN of either sign, quiet or not, with any payload. */
+static uint64_t draw_nan(struct dice *d)
+{
+    return (draw_bits(d) & (SIGN | (UINT64_C(0xfffffffffffff) >> dice_below(d, 52)))) | INFINITE | 1;
+}
+
+/* A number of any sign with an exponent of this span. */
+static double draw_number(int lowest, uint32_t span, struct dice *d)
+{
+    uint64_t exponent = (uint64_t)(1023 + lowest + (int)dice_below(d, span));
+    return number_of((draw_bits(d) & ~INFINITE) | exponent << 52);
+}
+
+/* A number that is not finite, or has no full exponent. */
+static double draw_odd_number(struct dice *d)
+{
+    uint64_t sign = dice_below(d, 2) ? SIGN : 0;
+    switch (dice_below(d, 5)) {
+    case 0: return number_of(sign);
+    case 1: return number_of(sign | (draw_bits(d) & UINT64_C(0xfffffffffffff) >> dice_below(d, 52)));
+    case 2: return number_of(sign | INFINITE);
+    case 3: return number_of(draw_nan(d));
+    default: return number_of(draw_bits(d));
+    }
+}
+
+/* A limit, or one of the four numbers next to it. */
+static double draw_near(double limit, struct dice *d)
+{
+    return number_of(bits_of(limit) + dice_below(d, 5) - 2);
+}
+
+static double draw_east(struct dice *d)
+{
+    switch (dice_below(d, 16)) {
+    case 0: return draw_near(EAST_LIMIT, d);
+    case 1: return draw_near(-EAST_LIMIT, d);
+    case 2: return draw_odd_number(d);
+    case 3: return (double)dice_below(d, 33554433) - EAST_LIMIT;
+    case 4: return draw_number(20, 8, d);
+    case 5: return draw_number(-60, 84, d);
+    default: return draw_number(-10, 34, d);
+    }
+}
+
+static double draw_step(struct dice *d)
+{
+    double number = draw_number(-10, 24, d);
+    switch (dice_below(d, 16)) {
+    case 0: return draw_near(STEP_LEAST, d);
+    case 1: return draw_near(STEP_MOST, d);
+    case 2: return draw_odd_number(d);
+    case 3: return draw_number(-12, 28, d);
+    case 4: return 1 + dice_below(d, 100);
+    default: return number < 0 ? -number : number;
+    }
+}
+
+/* How far the node's centre lies from the sheet's corner, with one rounding. */
+static double way(uint32_t half_pixels, double step)
+{
+    volatile double result = half_pixels / 2.0 * step;
+    return result;
+}
+
+/* Is the product of an odd number of half pixels and a step not exact? */
+static int is_rounded(uint32_t half_pixels, double step)
+{
+    uint64_t product = half_pixels * ((bits_of(step) & UINT64_C(0xfffffffffffff)) | UINT64_C(1) << 52);
+    while (product % 2 == 0)
+        product /= 2;
+    return product >> 53 != 0;
+}
+
+/* A ground on which the node's centre is at 0, 0: what the product lost in its
+ * rounding would show. */
+static struct ground draw_cancelling(uint32_t node, struct dice *d)
+{
+    struct second_block b = second_block(table.level, table.words, node);
+    struct ground g = {0, 0, draw_number(-10, 24, d)};
+    g.step = g.step < 0 ? -g.step : g.step;
+    g.east = -way(2 * b.left + b.side, g.step);
+    g.north = way(2 * b.top + b.side, g.step);
+    met_not_fused[0] += is_rounded(2 * b.left + b.side, g.step);
+    met_not_fused[1] += is_rounded(2 * b.top + b.side, g.step);
+    return g;
+}
+
+static struct ground draw_ground(struct dice *d)
+{
+    struct ground g = {draw_east(d), draw_east(d), draw_step(d)};
+    return g;
+}
+
+/* A place with anything in it, half of it NaNs. Gives back how many numbers. */
+static size_t draw_place(double *place, struct dice *d)
+{
+    static const size_t lengths[] = {0, 1, 2, 2, 2, 3, 3, MOST_PLACE};
+    for (int i = 0; i < MOST_PLACE; i++)
+        place[i] = number_of(dice_below(d, 2) ? draw_nan(d) : draw_bits(d));
+    return lengths[dice_below(d, sizeof lengths / sizeof *lengths)];
+}
+
+/* ---- the second implementation */
+
+static void compare_ground(uint32_t node, struct ground g, struct dice *d)
+{
+    double place[MOST_PLACE];
+    size_t length = draw_place(place, d);
+    compare(node, g, place, length);
+}
+
+static void compare_numbers(void)
+{
+    struct dice d = dice_from(61);
+    for (uint32_t i = 0; i < SHEETS; i++) {
+        do
+            sample_make(&table, i % 2 ? SAMPLE_PREORDER : SAMPLE_RENUMBERED, &d);
+        while (table_count(&table) > MOST_NODES);
+        for (uint32_t triple = 0; triple < TRIPLES; triple++) {
+            uint32_t node = dice_below(&d, table_count(&table));
+            compare_ground(node, triple % 8 ? draw_ground(&d) : draw_cancelling(node, &d), &d);
+        }
+    }
+}
+
+/* Every node of sheets of any size, on a good ground. */
+static void compare_nodes(void)
+{
+    static struct picture pic;
+    struct dice d = dice_from(62);
+    for (uint32_t i = 0; i < 400; i++) {
+        do {
+            picture_draw(&pic, (enum picture_kind)dice_below(&d, PICTURE_KINDS), i % 8, &d);
+            table_in_turn(&table, &pic, i / 8, &d);
+        } while (table_count(&table) > 700);
+        for (uint32_t node = 0; node < table_count(&table); node++) {
+            struct ground g = {draw_number(-10, 34, &d), draw_number(-10, 34, &d), 1 + dice_below(&d, 1000) / 7.0};
+            compare_ground(node, g, &d);
+        }
+    }
+}
+
+static void compare_samples(void)
+{
+    struct dice d = dice_from(63);
+    for (uint32_t i = 0; i < 48000; i++) {
+        sample_make(&table, (enum sample)(i % SAMPLES), &d);
+        uint32_t node = sample_node(&table, &d);
+        compare_ground(node, draw_ground(&d), &d);
+    }
+}
+
+static void run_coverage(void)
+{
+    static const uint32_t codes[] = {0, 1, 2, 3, 4, 5, 6, 9, 11};
+    met_report(codes, sizeof codes / sizeof *codes, LEAST_INPUTS);
+    for (uint32_t number = 0; number < 3; number++)
+        met_often("code 11 for number", number, met_wrong_number[number]);
+    for (uint32_t axis = 0; axis < 2; axis++)
+        met_often("a sum that fusing would change, axis", axis, met_not_fused[axis]);
+}
+
+int main(void)
+{
+    table_lender = lender_open(sizeof table.words);
+    place_lender = lender_open(MOST_PLACE * sizeof(double));
+    run_vectors();
+    run_short_places();
+    met_group("numbers of every kind", compare_numbers);
+    met_group("every node of a sheet", compare_nodes);
+    met_group("sound and unsound tables", compare_samples);
+    run_coverage();
+    return report_end();
+}
