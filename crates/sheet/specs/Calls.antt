@@ -8,6 +8,7 @@ use lib.Ieee.{Float}
 use Rattle.answer.specs.declared.Outcome.{Outcome}
 use Rattle.answer.specs.Numbers.{numberOf}
 use Rattle.table.specs.Rules.{checkOf}
+use Rattle.raster.specs.Raster.{buildOf, builtTable, decodeOf, decodedRaster}
 use Rattle.neighbour.specs.Neighbour.{neighbourOf, cornerLeafOf, diagonalLeafOf}
 use Rattle.file.specs.File.{readOf, readTable, writeOf, writtenFile}
 use Rattle.ground.specs.declared.Ground.{Ground}
@@ -25,6 +26,14 @@ pub record Leaves {A : Type 0} (o : Outcome) (left : List A) (r : ℕ) (after : 
 -- sheet_check: level, table
 abbrev pub Checks : ℕ → List ℕ → ℕ → Type 0
 Checks n T = Gives (checkOf n T)
+
+-- sheet_build: level, raster, the table before, the number, the table after
+abbrev pub Builds : ℕ → List ℕ → List ℕ → ℕ → List ℕ → Type 0
+Builds n R before = Leaves (buildOf n R (length before)) (builtTable n R before)
+
+-- sheet_decode: level, table, the raster before, the number, the raster after
+abbrev pub Decodes : ℕ → List ℕ → List ℕ → ℕ → List ℕ → Type 0
+Decodes n T before = Leaves (decodeOf n T (length before)) (decodedRaster n T before)
 
 -- sheet_neighbour: level, table, node, direction
 abbrev pub FindsNeighbour : ℕ → List ℕ → ℕ → ℕ → ℕ → Type 0

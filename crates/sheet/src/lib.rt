@@ -1,12 +1,26 @@
 // The exported C calls, and nothing else: each calls one function of a floor below and packs code and value (include/sheet.h is the manual).
 use ground::Ground;
-ghost use Rattle.sheet.specs.Calls.{Checks, FindsNeighbour, FindsCornerLeaf, FindsDiagonalLeaf, ReadsFile, WritesFile, FindsCentre, groundAt};
+ghost use Rattle.sheet.specs.Calls.{Checks, Builds, Decodes, FindsNeighbour, FindsCornerLeaf, FindsDiagonalLeaf, ReadsFile, WritesFile, FindsCentre, groundAt};
 
 #[no_mangle]
 pub extern "C" fn sheet_check(n: u32, table: &[u32]) -> u64
     ensures { λ r. ⌜ Checks n (now (table .entry)) r ⌝ }
 {
     answer::number(table::check(n, table))
+}
+
+#[no_mangle]
+pub extern "C" fn sheet_build(n: u32, raster: &[u8], table: &mut [u32]) -> u64
+    ensures { λ r. ⌜ Builds n (now (raster .entry)) (now (table .entry)) r (now (table .exit)) ⌝ }
+{
+    answer::number(raster::build(n, raster, table))
+}
+
+#[no_mangle]
+pub extern "C" fn sheet_decode(n: u32, table: &[u32], raster: &mut [u8]) -> u64
+    ensures { λ r. ⌜ Decodes n (now (table .entry)) (now (raster .entry)) r (now (raster .exit)) ⌝ }
+{
+    answer::number(raster::decode(n, table, raster))
 }
 
 #[no_mangle]
