@@ -1,6 +1,8 @@
 -- `ground::centre`: the refusals in their order, then two stores; nothing is written before the last test. Assumes nothing.
 use Rattle.ground.proofs.CentreLaws.{centre-asked, centre-range, centre-room, centre-put}
 use Rattle.table.proofs.CheckLaws.{asked-call}
+use lib.ListN.{length-set}
+use native.Mathlib.Omega.{arith}
 use borrow.Author.Needs.{needs}
 use Rattle.ground.proofs.centre.Statement.{statement}
 use Rattle.ground.proofs.centre.Tie as tie
@@ -39,7 +41,7 @@ north-of-requires : tie.Need-north-of-requires
 north-of-requires c κs = search needs
 
 slice-write-place-2 : tie.Need-slice-write-place-2
-slice-write-place-2 c = search needs
+slice-write-place-2 c = simp length-set (omega arith)
 
 same-length : tie.Need-same-length
 same-length c = search needs

@@ -45,10 +45,10 @@ cast-row : tie.Need-cast-row Inv-loop μ-loop
 cast-row c = omega (arith, known c .son)
 
 mul-row : tie.Need-mul-row Inv-loop μ-loop
-mul-row c = omega (arith, known c .row)
+mul-row c = omega (arith, known c .column, known c .row)
 
 add-row : tie.Need-add-row Inv-loop μ-loop
-add-row c = omega (arith, known c .row)
+add-row c = omega (arith, known c .column, known c .row)
 
 mul-unit : tie.Need-mul-unit Inv-loop μ-loop
 mul-unit c = omega (arith, known c .size)
