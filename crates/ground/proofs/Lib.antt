@@ -2,3 +2,4 @@ pub mod Literals
 pub mod GroundLaws
 pub mod CentreLaws
 pub mod CentreCall
+pub mod NumberLaws

@@ -1,15 +1,12 @@
+-- `ground::in_range`: two comparisons, each false of a NaN. Assumes nothing.
 use borrow.Author.Needs.{needs}
 use Rattle.ground.proofs.GroundLaws.{within-low, within-not}
 use Rattle.ground.proofs.in_range.Statement.{statement}
 use Rattle.ground.proofs.in_range.Tie as tie
-use Rattle.ground.proofs.in_range.Reads as reads
-use Rattle.ground.proofs.in_range.Lts as lts
 
--- src/lib.rt:17:1
 returns : tie.Need-returns
 returns c = search (within-low, needs)
 
--- src/lib.rt:17:1
 returns-2 : tie.Need-returns-2
 returns-2 c = search (within-not, needs)
 

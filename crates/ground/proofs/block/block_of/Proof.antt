@@ -1,8 +1,9 @@
+-- `ground::block::block_of` climbs: the digits passed and those of q's block are p's column and row (`Climbed`). The measure is q, since fathers stand below sons. Assumes nothing.
 use Rattle.ground.proofs.CentreLaws.{block-is}
 use borrow.Author.Needs.{needs}
 use mathlib.Core.Path.{refl}
 use native.Mathlib.Omega.{arith}
-use Rattle.table.proofs.BlockLaws.{Climbed, climbed-none, climbed-all, Turn, turn}
+use Rattle.table.proofs.BlockLaws.{Climbed, climbed-none, Turn, turn}
 use Rattle.ground.proofs.block.block_of.Statement.{statement}
 use Rattle.ground.proofs.block.block_of.Tie as tie
 use Rattle.ground.proofs.block.block_of.Reads as reads
@@ -16,81 +17,54 @@ Inv-loop n table p q₀ unit₀ column₀ row₀ level₀ q unit column row leve
 abbrev μ-loop : tie.MeasureT-loop
 μ-loop n table p q₀ unit₀ column₀ row₀ level₀ q unit column row level = q
 
--- src/block.rt:25:5
 loop-holds : tie.Need-loop-holds Inv-loop μ-loop
 loop-holds c = search (climbed-none, needs)
 
--- src/block.rt:26:13
 son-type-requires : tie.Need-son-type-requires Inv-loop μ-loop
 son-type-requires c κs =
     let t = turn (c .before .before .before .pre) (c .before .loop .inv) (c .loop-test .taken) refl in
     omega (arith, t .node, t .below)
 
--- src/block.rt:27:19
+-- what a turn knows, once `son_type` has answered
+known : (c : lts.After-son-type (son-type-reads.Asked, son-type-reads.Learnt, word-at-reads.Asked, word-at-reads.Learnt) reads.Pre reads.Post Inv-loop μ-loop)
+    → Turn (c .before .before .before .before .args .n) (c .before .before .before .before .args .table .now) (c .before .before .before .before .args .p)
+    (c .before .before .loop .q) (c .before .before .loop .unit) (c .before .before .loop .column) (c .before .before .loop .row) (c .before .before .loop .level)
+    (c .son-type .result)
+known c = turn (c .before .before .before .before .pre) (c .before .before .loop .inv) (c .before .loop-test .taken) (c .son-type .ensures)
+
 cast-column : tie.Need-cast-column Inv-loop μ-loop
 cast-column c = omega arith
 
--- src/block.rt:27:19
 mul-column : tie.Need-mul-column Inv-loop μ-loop
-mul-column c =
-    let t = turn (c .before .before .before .before .pre) (c .before .before .loop .inv) (c .before .loop-test .taken) (c .son-type .ensures) in
-    omega (arith, t .column)
+mul-column c = omega (arith, known c .column)
 
--- src/block.rt:27:9
 add-column : tie.Need-add-column Inv-loop μ-loop
-add-column c =
-    let t = turn (c .before .before .before .before .pre) (c .before .before .loop .inv) (c .before .loop-test .taken) (c .son-type .ensures) in
-    omega (arith, t .column)
+add-column c = omega (arith, known c .column)
 
--- src/block.rt:28:16
 cast-row : tie.Need-cast-row Inv-loop μ-loop
-cast-row c =
-    let t = turn (c .before .before .before .before .pre) (c .before .before .loop .inv) (c .before .loop-test .taken) (c .son-type .ensures) in
-    omega (arith, t .son)
+cast-row c = omega (arith, known c .son)
 
--- src/block.rt:28:16
 mul-row : tie.Need-mul-row Inv-loop μ-loop
-mul-row c =
-    let t = turn (c .before .before .before .before .pre) (c .before .before .loop .inv) (c .before .loop-test .taken) (c .son-type .ensures) in
-    omega (arith, t .row)
+mul-row c = omega (arith, known c .column, known c .row)
 
--- src/block.rt:28:9
 add-row : tie.Need-add-row Inv-loop μ-loop
-add-row c =
-    let t = turn (c .before .before .before .before .pre) (c .before .before .loop .inv) (c .before .loop-test .taken) (c .son-type .ensures) in
-    omega (arith, t .row)
+add-row c = omega (arith, known c .column, known c .row)
 
--- src/block.rt:29:9
 mul-unit : tie.Need-mul-unit Inv-loop μ-loop
-mul-unit c =
-    let t = turn (c .before .before .before .before .pre) (c .before .before .loop .inv) (c .before .loop-test .taken) (c .son-type .ensures) in
-    omega (arith, t .size)
+mul-unit c = omega (arith, known c .size)
 
--- src/block.rt:30:9
 sub-level : tie.Need-sub-level Inv-loop μ-loop
-sub-level c =
-    let t = turn (c .before .before .before .before .pre) (c .before .before .loop .inv) (c .before .loop-test .taken) (c .son-type .ensures) in
-    omega (arith, t .level)
+sub-level c = omega (arith, known c .level)
 
--- src/block.rt:31:9
 word-at-requires : tie.Need-word-at-requires Inv-loop μ-loop
-word-at-requires c κs =
-    let t = turn (c .before .before .before .before .pre) (c .before .before .loop .inv) (c .before .loop-test .taken) (c .son-type .ensures) in
-    omega (arith, t .node)
+word-at-requires c κs = omega (arith, known c .node)
 
--- src/block.rt:25:5
 loop-less : tie.Need-loop-less Inv-loop μ-loop
-loop-less c =
-    let t = turn (c .before .before .before .before .before .pre) (c .before .before .before .loop .inv) (c .before .before .loop-test .taken) (c .before .son-type .ensures) in
-    omega (arith, t .below)
+loop-less c = omega (arith, known (c .before) .below)
 
--- src/block.rt:25:5
 loop-again : tie.Need-loop-again Inv-loop μ-loop
-loop-again c =
-    let t = turn (c .before .before .before .before .before .pre) (c .before .before .before .loop .inv) (c .before .before .loop-test .taken) (c .before .son-type .ensures) in
-    t .next _ (c .word-at .ensures)
+loop-again c = known (c .before) .next _ (c .word-at .ensures)
 
--- src/block.rt:16:1
 returns : tie.Need-returns Inv-loop μ-loop
 returns c = search (block-is, needs)
 

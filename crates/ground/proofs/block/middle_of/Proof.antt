@@ -1,25 +1,18 @@
+-- `ground::block::middle_of`: the same formula for column and row. Assumes nothing.
 use Rattle.ground.proofs.CentreLaws.{across-fits, down-fits, middle-is}
 use borrow.Author.Needs.{needs}
 use Rattle.ground.proofs.block.middle_of.Statement.{statement}
 use Rattle.ground.proofs.block.middle_of.Tie as tie
-use Rattle.ground.proofs.block.middle_of.Reads as reads
-use Rattle.ground.proofs.block.middle_of.Lts as lts
-use Rattle.ground.proofs.block.block_of.Reads as block-of-reads
-use Rattle.ground.proofs.block.half_pixels.Reads as half-pixels-reads
 
--- src/block.rt:55:9
 block-of-requires : tie.Need-block-of-requires
 block-of-requires c κs = search needs
 
--- src/block.rt:56:9
 half-pixels-requires : tie.Need-half-pixels-requires
 half-pixels-requires c κs = across-fits (c .before .before .pre) (c .block-of .ensures)
 
--- src/block.rt:57:9
 half-pixels-requires-2 : tie.Need-half-pixels-requires-2
 half-pixels-requires-2 c κs = down-fits (c .before .before .before .pre) (c .before .block-of .ensures)
 
--- src/block.rt:51:1
 returns : tie.Need-returns
 returns c = search (middle-is, needs)
 
