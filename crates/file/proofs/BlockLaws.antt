@@ -1,16 +1,16 @@
 -- A block that was read: its bytes spell its tree's types, and the tree is of its level, reduced and coloured; and such bytes are read as that tree.
-use mathlib.Core.Bool.{Bool, true, false, cond, _||_}
-use mathlib.Core.List.{List, [], _∷_, _++_}
-use mathlib.Core.Path.{_≡_, refl, ap, sym, _∙_, subst}
-use Prim.Native.Nat.{ℕ, zero, suc, _+_, _*_, _≤_, _<_}
+use mathlib.Core.Bool.{false}
+use mathlib.Core.List.{List}
+use mathlib.Core.Path.{_≡_, refl, ap, _∙_}
+use Prim.Native.Nat.{ℕ, zero, suc, _+_, _*_, _≤_}
 use native.Mathlib.Omega.{arith}
 use lib.Dec.{leb, eqb}
 use lib.ListN.{length, getD}
-use borrow.Author.Tests.{eq-eqb, ne-eqb, le-leb, lt-leb, eqb-true, leb-true, leb-false}
+use borrow.Author.Tests.{ne-eqb, le-leb, lt-leb, eqb-true, leb-true, leb-false}
 use Rattle.base.proofs.BoolLaws.{or-first}
 use Rattle.base.proofs.CaseLaws.{cond-case}
 use Rattle.answer.specs.declared.Outcome.{Outcome}
-use Rattle.answer.specs.declared.Outcome.the-variants.{TooDeep, NeedlessFork}
+use Rattle.answer.specs.declared.Outcome.the-variants.{NeedlessFork}
 use Rattle.quad.specs.Numbers.{topColour, forkType}
 use Rattle.quad.specs.Tree.{Tree, leaf, fork, Within, alike, Reduced, Coloured, sizeOf, typesOf}
 use Rattle.quad.proofs.TreeLaws.{types-length}

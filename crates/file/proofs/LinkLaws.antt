@@ -6,11 +6,11 @@ use Prim.Native.Nat.{ℕ, zero, suc, _+_, _-_, _*_, _≤_, _<_}
 use native.Mathlib.Omega.{arith}
 use lib.ListN.{length, getD}
 use lib.Seq.{sets}
-use Rattle.quad.specs.Numbers.{topColour, forkType, none, maxWords}
+use Rattle.quad.specs.Numbers.{forkType, none, maxWords}
 use Rattle.quad.specs.Tree.{Tree, leaf, fork, colour, Within, Reduced, Coloured, sizeOf, typesOf}
 use Rattle.quad.proofs.TreeLaws.{size-pos, types-length}
 use Rattle.table.proofs.PreorderLaws.{written-leaf, written-fork, written-length}
-use Rattle.file.specs.File.{Got, got, bad, blockAt}
+use Rattle.file.specs.File.{got, blockAt}
 use Rattle.file.specs.Linking.{placeOf, treeIn, Ready, Linked}
 use Rattle.file.proofs.SpeltLaws.{Stands, Spelt, spelt-parts}
 use Rattle.file.proofs.BlockLaws.{Spells, block-spells, block-read}
@@ -104,8 +104,11 @@ module _ (s : List ℕ) (l p : ℕ) (w : List ℕ) (ready : Ready s l p (length 
   its-root = root-kind s (placeOf p) (ready .tree) (its-spells .spelt)
 
   -- what reading its type byte asks
-  pub type-asks : (placeOf p + 3 ≤ length s) × (p < maxWords)
-  type-asks = (its-root .fits, omega (arith, ready .few, size-pos (ready .tree)))
+  pub type-asks : placeOf p + 3 ≤ length s
+  type-asks = its-root .fits
+
+  pub node-fits : p < maxWords
+  node-fits = omega (arith, ready .few, size-pos (ready .tree))
 
   pub node-room : 6 * p + 6 ≤ length w
   node-room = omega (arith, ready .room, size-pos (ready .tree))
@@ -130,8 +133,12 @@ module _ (s : List ℕ) (l p : ℕ) (w : List ℕ) (ready : Ready s l p (length 
           let h = its-spells .sound in
           forked-in s l p (ready .tree) (its-spells .spelt) (h .within) (h .reduced) (h .coloured) (kind-is ∙ fk)
 
+      -- the level falls
       pub deeper : 0 < l
       deeper = parts .deep
+
+      pub lower : (m : ℕ) → l ≡ m → l - 1 < m
+      lower m e = omega (arith, deeper)
 
       size : sizeOf (ready .tree) ≡ 1 + (sizeOf (parts .a) + (sizeOf (parts .b) + (sizeOf (parts .c) + sizeOf (parts .d))))
       size = ap sizeOf (parts .is) ∙ unfold sizeOf in refl

@@ -13,11 +13,11 @@ use Rattle.quad.specs.Tree.{Tree, sizeOf, typesOf, shade}
 use Rattle.quad.proofs.PictureLaws.{one-picture-one-tree}
 use Rattle.quad.proofs.TreeLaws.{types-length}
 use Rattle.table.proofs.AcceptedLaws.{Sound}
-use Rattle.file.specs.File.{mark, sheetMark, nodeMark, records, fileOf, Opened, opened, closed, blockAt, openOf}
+use Rattle.file.specs.File.{mark, sheetMark, nodeMark, records, fileOf, opened, openOf}
 use Rattle.file.specs.Reading.{countOf}
-use Rattle.file.proofs.SpeltLaws.{Stands, Spelt}
+use Rattle.file.proofs.SpeltLaws.{Spelt}
 use Rattle.file.proofs.BlockLaws.{block-read}
-use Rattle.file.proofs.OpenLaws.{Whole, open-whole}
+use Rattle.file.proofs.OpenLaws.{open-whole}
 use Rattle.file.proofs.WriteLaws.{types-bytes}
 
 -- numbers that are bytes

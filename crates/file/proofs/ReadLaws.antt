@@ -1,24 +1,25 @@
 -- The first pass, answer by answer: what a record, or the block before it, says of the next, and that no place passes a word.
 use mathlib.Core.Bool.{Bool, true, false, cond, _&&_}
 use mathlib.Core.List.{List}
-use mathlib.Core.Path.{_≡_, refl, ap, sym, _∙_, subst}
+use mathlib.Core.Path.{_≡_, refl, ap, sym, _∙_}
 use Prim.Native.Nat.{ℕ, zero, suc, _+_, _-_, _*_, _^_, _≤_, _<_}
 use native.Mathlib.Nat.{pow-succ', one-le-pow}
-use native.Mathlib.Numerals.{sub-one}
 use native.Mathlib.Omega.{arith}
 use lib.Dec.{leb, eqb}
 use lib.ListN.{length, getD}
-use borrow.Author.Tests.{eq-eqb, ne-eqb}
+use mir.Syntax.{w32}
+use mir.Val.{Fits}
+use borrow.Author.Tests.{ne-eqb}
 use Rattle.base.proofs.CaseLaws.{cond-case}
 use Rattle.answer.specs.declared.Outcome.{Outcome}
-use Rattle.answer.specs.declared.Outcome.the-variants.{TooDeep, NeedlessFork, Absent, BadByte}
+use Rattle.answer.specs.declared.Outcome.the-variants.{TooDeep, NeedlessFork}
 use Rattle.answer.specs.Numbers.{answers}
 use Rattle.quad.specs.Numbers.{topColour, forkType}
-use Rattle.quad.specs.Tree.{Tree, leaf, fork, colour, sameLeaf, alike, Within, Coloured, sizeOf}
+use Rattle.quad.specs.Tree.{Tree, leaf, fork, colour, sameLeaf, alike, Coloured}
 use Rattle.quad.proofs.TreeLaws.{size-le}
 use Rattle.file.specs.declared.Block.{Block}
 use Rattle.file.specs.declared.Block.the-variants.{Read, Bad}
-use Rattle.file.specs.File.{Got, got, bad, mark, nodeMark, marked, needed, isType, recordAt, onward, fourAt, blockAt}
+use Rattle.file.specs.File.{Got, got, bad, mark, nodeMark, marked, isType, recordAt, fourAt, blockAt}
 use Rattle.file.specs.Reading.{marksOf, recordOf, told, likeKinds, Reaches, FourReach}
 use Rattle.file.proofs.BlockLaws.{block-spells}
 
@@ -101,11 +102,14 @@ module _ (s : List ℕ) (l at : ℕ) (r : Block) (is : r ≡ recordOf s at) wher
       ∙ ap (fourAt (blockAt s (l - 1))) ie))
 
   -- what the call on the four blocks behind it asks
-  pub four-asks : (t i k : ℕ) → 2 * l ≡ t → Reaches l at → r ≡ Read i k → (l ≡ 0 → ⊥) → (2 * (l - 1) + 1 < t) × FourReach (l - 1) i
-  four-asks t i k m h e nz =
+  pub four-lower : (m : ℕ) → 2 * l ≡ m → (l ≡ 0 → ⊥) → 2 * (l - 1) + 1 < m
+  four-lower m e nz = omega arith
+
+  pub four-reach : (i k : ℕ) → Reaches l at → r ≡ Read i k → (l ≡ 0 → ⊥) → FourReach (l - 1) i
+  four-reach i k h e nz =
       let le : l ≡ suc (l - 1) = omega arith in
       let p : 4 ^ l ≡ 4 * 4 ^ (l - 1) = ap (λ (j : ℕ). 4 ^ j) le ∙ pow-succ' 4 (l - 1) in
-      (omega arith, omega (arith, record-next s at i k (sym is ∙ e)))
+      omega (arith, record-next s at i k (sym is ∙ e))
 
 -- a block that was read, as the first pass tells it
 pub record Found (s : List ℕ) (l at i k : ℕ) : Type 0 where
@@ -146,30 +150,57 @@ alike-kinds (leaf k) b c d h =
     simp (same-kinds k b le, same-kinds k c le, same-kinds k d le, and-cond) (unfold likeKinds colour in rw (ne-eqb k forkType (λ e. omega arith)))
 alike-kinds (fork _ _ _ _) b c d h = unfold likeKinds colour sameLeaf in refl
 
--- four blocks: the first that is bad decides
+-- four blocks: the first that is bad decides, and each that was read says where the next one starts
 module _ (s : List ℕ) (l at : ℕ) where
   pub four-1 : (r : Block) (o : Outcome) → r ≡ told (blockAt s l at) → r ≡ Bad o → r ≡ told (fourAt (blockAt s l) at)
   four-1 r o e h = rw (told-bad (blockAt s l at) r o e h) h
 
-  module _ (i₁ k₁ : ℕ) (nw : Found s l at i₁ k₁) where
+  pub reach-1 : FourReach l at → Reaches l at
+  reach-1 h = omega (arith, some-block l)
+
+  module _ (r₁ : Block) (e₁ : r₁ ≡ told (blockAt s l at)) (i₁ k₁ : ℕ) (g₁ : r₁ ≡ Read i₁ k₁) where
+    nw : Found s l at i₁ k₁
+    nw = found s l at i₁ k₁ r₁ e₁ g₁
+
     pub four-2 : (r : Block) (o : Outcome) → r ≡ told (blockAt s l i₁) → r ≡ Bad o → r ≡ told (fourAt (blockAt s l) at)
     four-2 r o e h = rw (nw .is, told-bad (blockAt s l i₁) r o e h) h
 
-    module _ (i₂ k₂ : ℕ) (ne : Found s l i₁ i₂ k₂) where
+    pub reach-2 : FourReach l at → Reaches l i₁
+    reach-2 h = omega (arith, some-block l, nw .near)
+
+    module _ (r₂ : Block) (e₂ : r₂ ≡ told (blockAt s l i₁)) (i₂ k₂ : ℕ) (g₂ : r₂ ≡ Read i₂ k₂) where
+      ne : Found s l i₁ i₂ k₂
+      ne = found s l i₁ i₂ k₂ r₂ e₂ g₂
+
       pub four-3 : (r : Block) (o : Outcome) → r ≡ told (blockAt s l i₂) → r ≡ Bad o → r ≡ told (fourAt (blockAt s l) at)
       four-3 r o e h = rw (nw .is, ne .is, told-bad (blockAt s l i₂) r o e h) h
 
-      module _ (i₃ k₃ : ℕ) (sw : Found s l i₂ i₃ k₃) where
+      pub reach-3 : FourReach l at → Reaches l i₂
+      reach-3 h = omega (arith, some-block l, nw .near, ne .near)
+
+      module _ (r₃ : Block) (e₃ : r₃ ≡ told (blockAt s l i₂)) (i₃ k₃ : ℕ) (g₃ : r₃ ≡ Read i₃ k₃) where
+        sw : Found s l i₂ i₃ k₃
+        sw = found s l i₂ i₃ k₃ r₃ e₃ g₃
+
         pub four-4 : (r : Block) (o : Outcome) → r ≡ told (blockAt s l i₃) → r ≡ Bad o → r ≡ told (fourAt (blockAt s l) at)
         four-4 r o e h = rw (nw .is, ne .is, sw .is, told-bad (blockAt s l i₃) r o e h) h
 
-        module _ (i₄ k₄ : ℕ) (se : Found s l i₃ i₄ k₄) (u : Bool) (e : u ≡ likeKinds k₁ k₂ k₃ k₄) where
+        pub reach-4 : FourReach l at → Reaches l i₃
+        reach-4 h = omega (arith, some-block l, nw .near, ne .near, sw .near)
+
+        pub place-fits : FourReach l at → Fits w32 (i₃ + 2)
+        place-fits h = omega (arith, some-block l, reach-4 h)
+
+        module _ (r₄ : Block) (e₄ : r₄ ≡ told (blockAt s l i₃)) (i₄ k₄ : ℕ) (g₄ : r₄ ≡ Read i₄ k₄) (u : Bool) (e : u ≡ likeKinds k₁ k₂ k₃ k₄) where
+          se : Found s l i₃ i₄ k₄
+          se = found s l i₃ i₄ k₄ r₄ e₄ g₄
+
           likes : alike (nw .tree) (ne .tree) (sw .tree) (se .tree) ≡ u
           likes =
               alike-kinds (nw .tree) (ne .tree) (sw .tree) (se .tree) (nw .coloured) ∙ rw (nw .kind, ne .kind, sw .kind, se .kind) (sym e)
 
           pub four-like : u ≡ true → Bad (NeedlessFork (i₃ + 2)) ≡ told (fourAt (blockAt s l) at)
-          four-like h = rw (nw .is, ne .is, sw .is, se .is, likes, h)
+          four-like h = rw (nw .is, ne .is, sw .is, se .is, likes ∙ h)
 
           pub four-read : u ≡ false → Read i₄ forkType ≡ told (fourAt (blockAt s l) at)
-          four-read h = rw (nw .is, ne .is, sw .is, se .is, likes, h) (unfold colour in refl)
+          four-read h = rw (nw .is, ne .is, sw .is, se .is, likes ∙ h) (unfold colour in refl)

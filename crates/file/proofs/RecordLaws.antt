@@ -1,5 +1,5 @@
 -- A node record and its marks: what the code's tests say of the definitions, byte by byte.
-use mathlib.Core.Path.{_≡_, refl, ap, sym, _∙_}
+use mathlib.Core.Path.{_≡_}
 use mathlib.Core.Bool.{Bool, true, false, not, cond}
 use Prim.Native.Nat.{ℕ}
 use Rattle.base.proofs.BoolLaws.{on, off}

@@ -1,11 +1,10 @@
 -- Reading and writing undo each other, for every level: a written file is read as the preorder table of the same picture, an accepted file is what
 -- writing its table gives, and tables with one picture write one file.
-use mathlib.Core.Bool.{Bool, true, cond}
-use mathlib.Core.List.{List, [], _++_, append-nil}
-use mathlib.Core.Path.{_≡_, refl, ap, sym, _∙_}
+use mathlib.Core.List.{List, append-nil}
+use mathlib.Core.Path.{_≡_, ap, sym, _∙_}
 use Prim.Native.Nat.{ℕ, _+_, _*_, _^_, _≤_, _<_}
 use native.Mathlib.Omega.{arith}
-use lib.ListN.{length, drop, drop-of-length-le}
+use lib.ListN.{length, drop-of-length-le}
 use borrow.Author.Tests.{le-ltb}
 use Rattle.base.specs.Tab.{overlay}
 use Rattle.answer.specs.declared.Outcome.{Outcome}
@@ -13,7 +12,7 @@ use Rattle.answer.specs.declared.Outcome.the-variants.{Answered}
 use Rattle.quad.specs.Numbers.{none}
 use Rattle.quad.specs.Tree.{Tree, sizeOf}
 use Rattle.table.specs.Table.{nodes}
-use Rattle.table.specs.Rules.{checkOf, Accepted}
+use Rattle.table.specs.Rules.{Accepted}
 use Rattle.table.specs.Nodes.{pixel, treeAt}
 use Rattle.table.specs.Preorder.{preorderTable}
 use Rattle.table.proofs.CheckLaws.{check-accepted}
@@ -23,7 +22,7 @@ use Rattle.table.proofs.PreorderLaws.{preorder-length}
 use Rattle.table.proofs.SizeLaws.{tree-size}
 use Rattle.file.specs.File.{fileOf, opened, openOf, readOf, readTable, writeOf, writtenFile}
 use Rattle.file.specs.Calls.{Reads, Writes}
-use Rattle.file.proofs.OneFile.{Bytes, Exactly, file-length, file-opens, open-exactly}
+use Rattle.file.proofs.OneFile.{Bytes, file-length, file-opens, open-exactly}
 
 -- laid over a list of its own length, a list replaces it
 overlay-all : (new old : List ℕ) → length old ≡ length new → overlay new old ≡ new

@@ -2,24 +2,24 @@
 use mathlib.Core.Bool.{Bool, true, false, not, cond, false≢true}
 use mathlib.Core.List.{List}
 use mathlib.Core.Path.{_≡_, refl, ap, sym, _∙_}
-use Prim.Native.Nat.{ℕ, _+_, _-_, _*_, _/_, _^_, _≤_, _<_}
+use Prim.Native.Nat.{ℕ, _+_, _-_, _≤_}
 use native.Mathlib.Nat.{pow-le-pow-right}
 use native.Mathlib.Omega.{arith}
 use lib.Dec.{leb, ltb, eqb}
 use lib.ListN.{length, getD}
-use borrow.Author.Tests.{eq-eqb, ne-eqb, eqb-true, leb-false, ltb-false, lt-leb, le-ltb}
+use borrow.Author.Tests.{eq-eqb, ne-eqb, eqb-true, leb-false, ltb-false}
 use Rattle.base.proofs.BoolLaws.{on, off}
 use Rattle.base.proofs.CaseLaws.{cond-case}
 use Rattle.answer.specs.declared.Outcome.{Outcome}
-use Rattle.answer.specs.declared.Outcome.the-variants.{Answered, BadLevel, BadCount}
+use Rattle.answer.specs.declared.Outcome.the-variants.{Answered}
 use Rattle.answer.specs.Numbers.{valueOf, answers}
 use Rattle.quad.specs.Numbers.{topLevel}
-use Rattle.quad.specs.Tree.{Tree, colour, sizeOf}
+use Rattle.quad.specs.Tree.{Tree, sizeOf}
 use Rattle.file.specs.declared.Block.{Block}
 use Rattle.file.specs.declared.Block.the-variants.{Read, Bad}
 use Rattle.file.specs.declared.Contents.{Contents}
-use Rattle.file.specs.declared.Contents.the-variants.{Sheet, Faulty}
-use Rattle.file.specs.File.{Got, got, bad, Opened, opened, faulty, mark, sheetMark, closed, blockAt, openOf}
+use Rattle.file.specs.declared.Contents.the-variants.{Faulty}
+use Rattle.file.specs.File.{Opened, faulty, mark, sheetMark, closed, blockAt, openOf}
 use Rattle.file.specs.Reading.{marksOf, told, Reaches, headerOf, countOf, recordsTo, closingOf, contentsOf}
 use Rattle.file.proofs.BlockLaws.{block-spells}
 use Rattle.file.proofs.ReadLaws.{push, push-case, marks-by, found, told-bad}
@@ -114,15 +114,18 @@ module _ (s : List ℕ) (h : Outcome) (u : Bool) (e : h ≡ headerOf s) (a : u �
     pub block-asks : Reaches level 5
     block-asks = omega (arith, header .level, its-level, pow-le-pow-right {n = 4} (omega arith) {i = level} {j = topLevel} (omega (arith, header .level, its-level)))
 
+    pub close-long : 5 ≤ length s
+    close-long = header .long
+
     module _ (r : Block) (b : r ≡ told (blockAt s level 5)) where
       pub survey-bad : (o : Outcome) → r ≡ Bad o → Faulty o ≡ contentsOf (openOf s)
       survey-bad o f = rw (opens, told-bad (blockAt s level 5) r o b f)
 
       module _ (i k : ℕ) (f : r ≡ Read i k) where
-        pub close-asks : (5 ≤ i) × (5 ≤ length s)
-        close-asks =
+        pub close-start : 5 ≤ i
+        close-start =
             let d = found s level 5 i k r b f in
-            (omega (arith, block-spells s level 5 i (d .tree) (d .is) .next), header .long)
+            omega (arith, block-spells s level 5 i (d .tree) (d .is) .next)
 
         pub survey-read : (c : Contents) → c ≡ closingOf s level i → c ≡ contentsOf (openOf s)
         unfolding closingOf

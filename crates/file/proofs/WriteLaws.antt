@@ -1,17 +1,16 @@
 -- Writing a block: a leaf's record, or a fork's and its sons' blocks one behind the other, are the records of the tree's types.
-use mathlib.Core.Bool.{true, false}
+use mathlib.Core.Bool.{true}
 use mathlib.Core.List.{List, [], _∷_, _++_}
 use mathlib.Core.Path.{_≡_, refl, ap, sym, _∙_}
 use Prim.Native.Nat.{ℕ, suc, _+_, _-_, _*_, _≤_, _<_}
 use native.Mathlib.Omega.{arith}
-use lib.ListN.{length, length-append}
+use lib.ListN.{length}
 use lib.Seq.{sets, length-sets}
 use borrow.Author.Tests.{eq-eqb, ne-eqb}
 use Rattle.quad.specs.Numbers.{forkType}
 use Rattle.quad.specs.Tree.{Tree, leaf, fork, sizeOf, typesOf}
 use Rattle.quad.proofs.TreeLaws.{size-pos, types-length}
-use Rattle.table.specs.Table.{nodes, son, type, isFork}
-use Rattle.table.specs.Rules.{depthTo}
+use Rattle.table.specs.Table.{son, type, isFork}
 use Rattle.table.specs.Nodes.{treeAt}
 use Rattle.table.proofs.AcceptedLaws.{tree-leaf, tree-fork, sons-of, fork-deep, depth-son, type-byte}
 use Rattle.table.proofs.PreorderLaws.{sets-after}
@@ -85,8 +84,12 @@ module _ (T : List ℕ) (l p at : ℕ) (w : List ℕ) (ok : Writable T l p at (l
         is-fork : isFork T p ≡ true
         is-fork = eq-eqb (type T p) forkType (sym e ∙ fk)
 
+        -- the level falls
         pub deep : 0 < l
         deep = omega (arith, ok .level, fork-deep (ok .n) T (ok .accepted) p (ok .node) is-fork)
+
+        pub lower : (m : ℕ) → l ≡ m → l - 1 < m
+        lower m q = omega (arith, deep)
 
         son-tree : ℕ → Tree
         son-tree q = treeAt T (l - 1) (son T p q)

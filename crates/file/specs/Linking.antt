@@ -1,5 +1,5 @@
 -- Linking, the second pass: the words of the preorder table, written from a node on. Node p's record is record p of the file.
-use mathlib.Core.List.{List, [], _∷_}
+use mathlib.Core.List.{List}
 use mathlib.Core.Path.{_≡_}
 use Prim.Native.Nat.{ℕ, _+_, _*_, _≤_}
 use lib.Seq.{sets}

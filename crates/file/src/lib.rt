@@ -5,7 +5,6 @@ ghost use mathlib.Core.Path.{_≡_};
 ghost use Prim.Native.Nat.{_+_, _*_, _/_, _%_, _<_, _≤_};
 ghost use lib.ListN.{length, getD};
 ghost use lib.Seq.{sets};
-ghost use Rattle.quad.specs.Numbers.{maxWords};
 ghost use Rattle.table.specs.Nodes.{treeAt};
 ghost use Rattle.file.specs.File.{mark, sheetMark, nodeMark, isType, blockAt, fourAt, openOf};
 ghost use Rattle.file.specs.Calls.{Reads, Writes};
@@ -227,7 +226,7 @@ fn survey(file: &[u8]) -> Contents
 
 // The type of node p, which is record p of the file.
 fn type_of(file: &[u8], p: u32) -> usize
-    requires { ⌜ (placeOf p + 3 ≤ length (now file)) × (p < maxWords) ⌝ }
+    requires { ⌜ placeOf p + 3 ≤ length (now file) ⌝ }
     ensures { λ r. ⌜ r ≡ getD (now (file .entry)) (placeOf p + 2) 0 ⌝ }
 {
     let at = 5 + 3 * (p as usize);

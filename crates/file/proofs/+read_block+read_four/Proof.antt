@@ -1,7 +1,7 @@
 -- Reading a block and reading four blocks call each other; twice the level, and one more for four, falls at each call.
 use borrow.Author.Needs.{needs}
 use native.Mathlib.Omega.{arith}
-use Rattle.file.proofs.ReadLaws.{some-block, block-wrong, block-leaf, block-deep, block-fork, four-asks, found, four-1, four-2, four-3, four-4, four-like, four-read}
+use Rattle.file.proofs.ReadLaws.{some-block, block-wrong, block-leaf, block-deep, block-fork, four-lower, four-reach, reach-1, reach-2, reach-3, reach-4, place-fits, four-1, four-2, four-3, four-4, four-like, four-read}
 use Prim.Native.Nat.{ℕ, _+_, _*_, _<_}
 use borrow.Fn.Kinds.{In}
 use borrow.Fn.PlainCycle.{Measures, is, falls, and}
@@ -53,28 +53,28 @@ read-block-enum-told : (t : ℕ) → read-block-lts.Need-enum-told (block-calls 
 read-block-enum-told t c = search needs
 
 read-block-returns : (t : ℕ) → read-block-lts.Need-returns (block-calls t) (read-block-at t) read-block.Post
-read-block-returns t c = block-wrong _ (c .before .before .before .before .args .level) _ _ (c .before .before .read-record .ensures) _ (c .enum-told .given .1)
+read-block-returns t c = search (block-wrong, needs)
 
 read-block-returns-2 : (t : ℕ) → read-block-lts.Need-returns-2 (block-calls t) (read-block-at t) read-block.Post
-read-block-returns-2 t c = block-leaf _ (c .before .before .before .before .before .before .args .level) _ _ (c .before .before .before .before .read-record .ensures) _ _ (c .before .before .root .given .1) (c .if1 .taken)
+read-block-returns-2 t c = search (block-leaf, needs)
 
 read-block-add-t8 : (t : ℕ) → read-block-lts.Need-add-t8 (block-calls t) (read-block-at t) read-block.Post
 read-block-add-t8 t c = omega (arith, some-block (c .before .before .before .before .before .before .before .args .level))
 
 read-block-returns-3 : (t : ℕ) → read-block-lts.Need-returns-3 (block-calls t) (read-block-at t) read-block.Post
-read-block-returns-3 t c = block-deep _ _ _ _ (c .before .before .before .before .before .read-record .ensures) _ _ (c .before .before .before .root .given .1) (c .before .if1 .left) (c .if2 .taken)
+read-block-returns-3 t c = search (block-deep, needs)
 
 read-block-sub-read-four : (t : ℕ) → read-block-lts.Need-sub-read-four (block-calls t) (read-block-at t) read-block.Post
 read-block-sub-read-four t c = search needs
 
 read-block-read-four-requires : (t : ℕ) → read-block-lts.Need-read-four-requires (block-calls t) (read-block-at t) read-block.Post
-read-block-read-four-requires t c κs = four-asks _ _ _ _ (c .before .before .before .before .before .read-record .ensures) _ _ _ (c .before .before .before .before .before .before .before .pre .0) (c .before .before .before .before .before .before .before .pre .1) (c .before .before .before .root .given .1) (c .if2 .left)
+read-block-read-four-requires t c κs = (search (four-lower, needs), search (four-reach, needs))
 
 read-block-returns-4 : (t : ℕ) → read-block-lts.Need-returns-4 (block-calls t) (read-block-at t) read-block.Post
-read-block-returns-4 t c = block-fork _ _ _ _ (c .before .before .before .before .before .before .read-record .ensures) _ _ _ (c .before .before .before .before .root .given .1) (c .before .before .if1 .left) (c .before .if2 .left) (c .read-four .ensures)
+read-block-returns-4 t c = search (block-fork, needs)
 
 read-four-read-block-requires : (t : ℕ) → read-four-lts.Need-read-block-requires (four-calls t) (read-four-at t) read-four.Post
-read-four-read-block-requires t c κs = (omega arith, omega (arith, some-block (c .before .args .level)))
+read-four-read-block-requires t c κs = (omega arith, search (reach-1, needs))
 
 read-four-enum-known-nw : (t : ℕ) → read-four-lts.Need-enum-known-nw (four-calls t) (read-four-at t) read-four.Post
 read-four-enum-known-nw t c = search needs
@@ -83,10 +83,10 @@ read-four-enum-told : (t : ℕ) → read-four-lts.Need-enum-told (four-calls t) 
 read-four-enum-told t c = search needs
 
 read-four-returns : (t : ℕ) → read-four-lts.Need-returns (four-calls t) (read-four-at t) read-four.Post
-read-four-returns t c = four-1 _ _ _ _ _ (c .before .before .read-block .ensures) (c .enum-told .given .1)
+read-four-returns t c = search (four-1, needs)
 
 read-four-read-block-requires-2 : (t : ℕ) → read-four-lts.Need-read-block-requires-2 (four-calls t) (read-four-at t) read-four.Post
-read-four-read-block-requires-2 t c κs = (omega arith, omega (arith, some-block (c .before .before .before .before .before .args .level), c .before .before .before .before .before .pre .1, (found _ _ _ _ _ _ (c .before .before .before .read-block .ensures) (c .before .nw .given .1)) .near))
+read-four-read-block-requires-2 t c κs = (omega arith, search (reach-2, needs))
 
 read-four-enum-known-ne : (t : ℕ) → read-four-lts.Need-enum-known-ne (four-calls t) (read-four-at t) read-four.Post
 read-four-enum-known-ne t c = search needs
@@ -95,10 +95,10 @@ read-four-enum-told-2 : (t : ℕ) → read-four-lts.Need-enum-told-2 (four-calls
 read-four-enum-told-2 t c = search needs
 
 read-four-returns-2 : (t : ℕ) → read-four-lts.Need-returns-2 (four-calls t) (read-four-at t) read-four.Post
-read-four-returns-2 t c = four-2 _ _ _ _ _ (found _ _ _ _ _ _ (c .before .before .before .before .before .before .read-block .ensures) (c .before .before .before .before .nw .given .1)) _ _ (c .before .before .read-block2 .ensures) (c .enum-told2 .given .1)
+read-four-returns-2 t c = search (four-2, needs)
 
 read-four-read-block-requires-3 : (t : ℕ) → read-four-lts.Need-read-block-requires-3 (four-calls t) (read-four-at t) read-four.Post
-read-four-read-block-requires-3 t c κs = (omega arith, omega (arith, some-block (c .before .before .before .before .before .before .before .before .before .args .level), c .before .before .before .before .before .before .before .before .before .pre .1, (found _ _ _ _ _ _ (c .before .before .before .before .before .before .before .read-block .ensures) (c .before .before .before .before .before .nw .given .1)) .near, (found _ _ _ _ _ _ (c .before .before .before .read-block2 .ensures) (c .before .ne .given .1)) .near))
+read-four-read-block-requires-3 t c κs = (omega arith, search (reach-3, needs))
 
 read-four-enum-known-sw : (t : ℕ) → read-four-lts.Need-enum-known-sw (four-calls t) (read-four-at t) read-four.Post
 read-four-enum-known-sw t c = search needs
@@ -107,10 +107,14 @@ read-four-enum-told-3 : (t : ℕ) → read-four-lts.Need-enum-told-3 (four-calls
 read-four-enum-told-3 t c = search needs
 
 read-four-returns-3 : (t : ℕ) → read-four-lts.Need-returns-3 (four-calls t) (read-four-at t) read-four.Post
-read-four-returns-3 t c = four-3 _ _ _ _ _ (found _ _ _ _ _ _ (c .before .before .before .before .before .before .before .before .before .before .read-block .ensures) (c .before .before .before .before .before .before .before .before .nw .given .1)) _ _ (found _ _ _ _ _ _ (c .before .before .before .before .before .before .read-block2 .ensures) (c .before .before .before .before .ne .given .1)) _ _ (c .before .before .read-block3 .ensures) (c .enum-told3 .given .1)
+read-four-returns-3 t c = search (four-3, needs)
 
 read-four-read-block-requires-4 : (t : ℕ) → read-four-lts.Need-read-block-requires-4 (four-calls t) (read-four-at t) read-four.Post
-read-four-read-block-requires-4 t c κs = (omega (arith, c .before .before .before .before .before .before .before .before .before .before .before .before .before .pre .0), omega (arith, some-block (c .before .before .before .before .before .before .before .before .before .before .before .before .before .args .level), c .before .before .before .before .before .before .before .before .before .before .before .before .before .pre .1, (found _ _ _ _ _ _ (c .before .before .before .before .before .before .before .before .before .before .before .read-block .ensures) (c .before .before .before .before .before .before .before .before .before .nw .given .1)) .near, (found _ _ _ _ _ _ (c .before .before .before .before .before .before .before .read-block2 .ensures) (c .before .before .before .before .before .ne .given .1)) .near, (found _ _ _ _ _ _ (c .before .before .before .read-block3 .ensures) (c .before .sw .given .1)) .near))
+read-four-read-block-requires-4 t c κs =
+    let third = c .before in
+    let second = third .before .before .before .before in
+    let first = second .before .before .before .before in
+    (search needs, reach-4 _ _ _ _ (first .before .before .read-block .ensures) _ _ (first .nw .given .1) _ (second .before .before .read-block2 .ensures) _ _ (second .ne .given .1) _ (third .before .before .read-block3 .ensures) _ _ (third .sw .given .1) (first .before .before .before .before .pre .1))
 
 read-four-enum-known-se : (t : ℕ) → read-four-lts.Need-enum-known-se (four-calls t) (read-four-at t) read-four.Post
 read-four-enum-known-se t c = search needs
@@ -119,19 +123,23 @@ read-four-enum-told-4 : (t : ℕ) → read-four-lts.Need-enum-told-4 (four-calls
 read-four-enum-told-4 t c = search needs
 
 read-four-returns-4 : (t : ℕ) → read-four-lts.Need-returns-4 (four-calls t) (read-four-at t) read-four.Post
-read-four-returns-4 t c = four-4 _ _ _ _ _ (found _ _ _ _ _ _ (c .before .before .before .before .before .before .before .before .before .before .before .before .before .before .read-block .ensures) (c .before .before .before .before .before .before .before .before .before .before .before .before .nw .given .1)) _ _ (found _ _ _ _ _ _ (c .before .before .before .before .before .before .before .before .before .before .read-block2 .ensures) (c .before .before .before .before .before .before .before .before .ne .given .1)) _ _ (found _ _ _ _ _ _ (c .before .before .before .before .before .before .read-block3 .ensures) (c .before .before .before .before .sw .given .1)) _ _ (c .before .before .read-block4 .ensures) (c .enum-told4 .given .1)
+read-four-returns-4 t c = search (four-4, needs)
 
 read-four-like-leaves-requires : (t : ℕ) → read-four-lts.Need-like-leaves-requires (four-calls t) (read-four-at t) read-four.Post
 read-four-like-leaves-requires t c κs = search needs
 
 read-four-add-t17 : (t : ℕ) → read-four-lts.Need-add-t17 (four-calls t) (read-four-at t) read-four.Post
-read-four-add-t17 t c = omega (arith, some-block (c .before .before .before .before .before .before .before .before .before .before .before .before .before .before .before .before .before .before .before .args .level), c .before .before .before .before .before .before .before .before .before .before .before .before .before .before .before .before .before .before .before .pre .1, (found _ _ _ _ _ _ (c .before .before .before .before .before .before .before .before .before .before .before .before .before .before .before .before .before .read-block .ensures) (c .before .before .before .before .before .before .before .before .before .before .before .before .before .before .before .nw .given .1)) .near, (found _ _ _ _ _ _ (c .before .before .before .before .before .before .before .before .before .before .before .before .before .read-block2 .ensures) (c .before .before .before .before .before .before .before .before .before .before .before .ne .given .1)) .near, (found _ _ _ _ _ _ (c .before .before .before .before .before .before .before .before .before .read-block3 .ensures) (c .before .before .before .before .before .before .before .sw .given .1)) .near)
+read-four-add-t17 t c =
+    let third = c .before .before .before .before .before .before .before in
+    let second = third .before .before .before .before in
+    let first = second .before .before .before .before in
+    place-fits _ _ _ _ (first .before .before .read-block .ensures) _ _ (first .nw .given .1) _ (second .before .before .read-block2 .ensures) _ _ (second .ne .given .1) _ (third .before .before .read-block3 .ensures) _ _ (third .sw .given .1) (first .before .before .before .before .pre .1)
 
 read-four-returns-5 : (t : ℕ) → read-four-lts.Need-returns-5 (four-calls t) (read-four-at t) read-four.Post
-read-four-returns-5 t c = four-like _ _ _ _ _ (found _ _ _ _ _ _ (c .before .before .before .before .before .before .before .before .before .before .before .before .before .before .before .before .before .read-block .ensures) (c .before .before .before .before .before .before .before .before .before .before .before .before .before .before .before .nw .given .1)) _ _ (found _ _ _ _ _ _ (c .before .before .before .before .before .before .before .before .before .before .before .before .before .read-block2 .ensures) (c .before .before .before .before .before .before .before .before .before .before .before .ne .given .1)) _ _ (found _ _ _ _ _ _ (c .before .before .before .before .before .before .before .before .before .read-block3 .ensures) (c .before .before .before .before .before .before .before .sw .given .1)) _ _ (found _ _ _ _ _ _ (c .before .before .before .before .before .read-block4 .ensures) (c .before .before .before .se .given .1)) _ (c .before .like-leaves .ensures) (c .if1 .taken)
+read-four-returns-5 t c = search (four-like, needs)
 
 read-four-returns-6 : (t : ℕ) → read-four-lts.Need-returns-6 (four-calls t) (read-four-at t) read-four.Post
-read-four-returns-6 t c = four-read _ _ _ _ _ (found _ _ _ _ _ _ (c .before .before .before .before .before .before .before .before .before .before .before .before .before .before .before .before .before .read-block .ensures) (c .before .before .before .before .before .before .before .before .before .before .before .before .before .before .before .nw .given .1)) _ _ (found _ _ _ _ _ _ (c .before .before .before .before .before .before .before .before .before .before .before .before .before .read-block2 .ensures) (c .before .before .before .before .before .before .before .before .before .before .before .ne .given .1)) _ _ (found _ _ _ _ _ _ (c .before .before .before .before .before .before .before .before .before .read-block3 .ensures) (c .before .before .before .before .before .before .before .sw .given .1)) _ _ (found _ _ _ _ _ _ (c .before .before .before .before .before .read-block4 .ensures) (c .before .before .before .se .given .1)) _ (c .before .like-leaves .ensures) (c .if1 .left)
+read-four-returns-6 t c = search (four-read, needs)
 
 pub +read-block+read-four-spec : {M : Type 1} → statement M
 +read-block+read-four-spec = close μ-read-block μ-read-four (λ t. read-block-lts.spec (block-calls t)

@@ -1,6 +1,6 @@
 -- The two tests of the definition, one after the other.
 use borrow.Author.Tests.{le-leb, lt-leb}
-use Rattle.quad.specs.Numbers.{topColour, forkType}
+use Rattle.quad.specs.Numbers.{topColour}
 use Rattle.file.proofs.is_type.Statement.{statement}
 use Rattle.file.proofs.is_type.Tie as tie
 

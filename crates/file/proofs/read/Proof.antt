@@ -21,13 +21,13 @@ cast-if1 : tie.Need-cast-if1
 cast-if1 c = search needs
 
 returns : tie.Need-returns
-returns c = reads-full _ (c .before .before .before .before .before .before .before .args .table .now) _ (c .before .before .before .before .survey .ensures) _ _ (c .before .before .contents2 .given .1) (c .if1 .taken)
+returns c = search (reads-full, needs)
 
 cast-link-block : tie.Need-cast-link-block
 cast-link-block c = search needs
 
 link-block-requires : tie.Need-link-block-requires
-link-block-requires c κs = link-asks _ (c .before .before .before .before .before .before .before .before .args .table .now) _ (c .before .before .before .before .before .survey .ensures) _ _ (c .before .before .before .contents2 .given .1) (c .before .if1 .left)
+link-block-requires c κs = search (link-asks, needs)
 
 mul-t12 : tie.Need-mul-t12
 mul-t12 c = omega (arith, sheet-fits _ (c .before .before .before .before .before .before .before .before .before .before .before .args .table .now) _ (c .before .before .before .before .before .before .before .before .survey .ensures) _ _ (c .before .before .before .before .before .before .contents2 .given .1))
@@ -36,13 +36,13 @@ add-t15 : tie.Need-add-t15
 add-t15 c = omega (arith, sheet-fits _ (c .before .before .before .before .before .before .before .before .before .before .before .args .table .now) _ (c .before .before .before .before .before .before .before .before .survey .ensures) _ _ (c .before .before .before .before .before .before .contents2 .given .1))
 
 returns-2 : tie.Need-returns-2
-returns-2 c = reads-faulty _ (c .before .before .before .before .before .before .args .table .now) _ (c .before .before .before .survey .ensures) _ (c .before .contents .given .1)
+returns-2 c = search (reads-faulty, needs)
 
 same-length : tie.Need-same-length
 same-length c = search needs
 
 returns-3 : tie.Need-returns-3
-returns-3 c = reads-sheet _ (c .before .before .before .before .before .before .before .before .before .before .before .args .table .now) _ (c .before .before .before .before .before .before .before .before .survey .ensures) _ _ (c .before .before .before .before .before .before .contents2 .given .1) (c .before .before .before .before .if1 .left) _ _ (c .before .before .link-block .ensures)
+returns-3 c = search (reads-sheet, needs)
 
 pub read-spec : {M : Type 1} → statement M
 read-spec =

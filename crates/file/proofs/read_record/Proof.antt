@@ -14,7 +14,7 @@ answered-requires c κs = search needs
 
 returns : tie.Need-returns
 unfolding recordOf
-returns c = search (marks-stop, marks-go, kind-stop, kind-go, cases, needs)
+returns c = search (marks-stop, needs)
 
 add-place : tie.Need-add-place
 add-place c = search needs
@@ -24,7 +24,7 @@ cast-type-at c = search needs
 
 returns-2 : tie.Need-returns-2
 unfolding recordOf
-returns-2 c = search (marks-stop, marks-go, kind-stop, kind-go, cases, needs)
+returns-2 c = search (marks-go, cases, needs)
 
 shared-slice-read-wide : tie.Need-shared-slice-read-wide
 shared-slice-read-wide c = search needs
@@ -37,14 +37,14 @@ is-type-requires c κs = search needs
 
 returns-3 : tie.Need-returns-3
 unfolding recordOf
-returns-3 c = search (marks-stop, marks-go, kind-stop, kind-go, cases, needs)
+returns-3 c = search (marks-go, kind-stop, cases, needs)
 
 add-t14 : tie.Need-add-t14
 add-t14 c = search needs
 
 returns-4 : tie.Need-returns-4
 unfolding recordOf
-returns-4 c = search (marks-stop, marks-go, kind-stop, kind-go, cases, needs)
+returns-4 c = search (marks-go, kind-go, cases, needs)
 
 pub read-record-spec : {M : Type 1} → statement M
 read-record-spec =

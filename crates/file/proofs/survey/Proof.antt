@@ -1,5 +1,5 @@
 -- Each function gave its part of the definition: header, block, closing.
-use Rattle.file.proofs.SurveyLaws.{survey-stop, block-asks, survey-bad, close-asks, survey-read}
+use Rattle.file.proofs.SurveyLaws.{survey-stop, block-asks, survey-bad, close-start, close-long, survey-read}
 use borrow.Author.Needs.{needs}
 use Rattle.file.proofs.survey.Statement.{statement}
 use Rattle.file.proofs.survey.Tie as tie
@@ -11,13 +11,13 @@ answered-requires : tie.Need-answered-requires
 answered-requires c κs = search needs
 
 returns : tie.Need-returns
-returns c = survey-stop _ _ _ (c .before .before .read-header .ensures) (c .before .answered .ensures) (c .if1 .taken)
+returns c = search (survey-stop, needs)
 
 value-requires : tie.Need-value-requires
 value-requires c κs = search needs
 
 read-block-requires : tie.Need-read-block-requires
-read-block-requires c κs = block-asks _ _ _ (c .before .before .before .read-header .ensures) (c .before .before .answered .ensures) (c .before .if1 .left) _ (c .value .ensures)
+read-block-requires c κs = search (block-asks, needs)
 
 enum-known-root : tie.Need-enum-known-root
 enum-known-root c = search needs
@@ -26,13 +26,13 @@ enum-known-root-2 : tie.Need-enum-known-root-2
 enum-known-root-2 c = search needs
 
 close-requires : tie.Need-close-requires
-close-requires c κs = close-asks _ _ _ (c .before .before .before .before .before .before .before .read-header .ensures) (c .before .before .before .before .before .before .answered .ensures) (c .before .before .before .before .before .if1 .left) _ (c .before .before .before .before .value .ensures) _ (c .before .before .before .read-block .ensures) _ _ (c .before .root2 .given .1)
+close-requires c κs = (search (close-start, needs), search (close-long, needs))
 
 returns-2 : tie.Need-returns-2
-returns-2 c = survey-bad _ _ _ (c .before .before .before .before .before .before .before .read-header .ensures) (c .before .before .before .before .before .before .answered .ensures) (c .before .before .before .before .before .if1 .left) _ (c .before .before .before .before .value .ensures) _ (c .before .before .before .read-block .ensures) _ (c .before .root .given .1)
+returns-2 c = search (survey-bad, needs)
 
 returns-3 : tie.Need-returns-3
-returns-3 c = survey-read _ _ _ (c .before .before .before .before .before .before .before .before .read-header .ensures) (c .before .before .before .before .before .before .before .answered .ensures) (c .before .before .before .before .before .before .if1 .left) _ (c .before .before .before .before .before .value .ensures) _ (c .before .before .before .before .read-block .ensures) _ _ (c .before .before .root2 .given .1) _ (c .close .ensures)
+returns-3 c = search (survey-read, needs)
 
 pub survey-spec : {M : Type 1} → statement M
 survey-spec =

@@ -12,7 +12,7 @@ answered-requires : tie.Need-answered-requires
 answered-requires c κs = search needs
 
 returns : tie.Need-returns
-returns c = writes-refused _ _ (c .before .before .before .before .before .args .file .now) _ _ (c .before .before .check .ensures) (c .before .answered .ensures) (c .if1 .taken)
+returns c = search (writes-refused, needs)
 
 value-requires : tie.Need-value-requires
 value-requires c κs = search needs
@@ -27,19 +27,19 @@ cast-if2 : tie.Need-cast-if2
 cast-if2 c = search needs
 
 returns-2 : tie.Need-returns-2
-returns-2 c = writes-full _ _ (c .before .before .before .before .before .before .before .args .file .now) _ _ (c .before .before .before .before .check .ensures) (c .before .before .before .answered .ensures) (c .before .before .if1 .left) _ (c .before .value .ensures) (c .if2 .taken)
+returns-2 c = search (writes-full, needs)
 
 put-header-requires : tie.Need-put-header-requires
 put-header-requires c κs = header-asks _ _ (c .before .before .before .before .before .before .before .before .args .file .now) _ _ (c .before .before .before .before .before .check .ensures) (c .before .before .before .before .answered .ensures) (c .before .before .before .if1 .left) _ (c .before .before .value .ensures) (c .before .if2 .left)
 
 write-block-requires : tie.Need-write-block-requires
-write-block-requires c κs = root-ok _ _ (c .before .before .before .before .before .before .before .before .before .before .before .before .args .file .now) _ _ (c .before .before .before .before .before .before .before .before .before .check .ensures) (c .before .before .before .before .before .before .before .before .answered .ensures) (c .before .before .before .before .before .before .before .if1 .left) _ (c .before .before .before .before .before .before .value .ensures) (c .before .before .before .before .before .if2 .left) _ (c .before .before .before .put-header .ensures)
+write-block-requires c κs = search (root-ok, needs)
 
 same-length : tie.Need-same-length
 same-length c = search needs
 
 returns-3 : tie.Need-returns-3
-returns-3 c = writes-sheet _ _ (c .before .before .before .before .before .before .before .before .before .before .before .before .before .before .before .args .file .now) _ _ (c .before .before .before .before .before .before .before .before .before .before .before .before .check .ensures) (c .before .before .before .before .before .before .before .before .before .before .before .answered .ensures) (c .before .before .before .before .before .before .before .before .before .before .if1 .left) _ (c .before .before .before .before .before .before .before .before .before .value .ensures) (c .before .before .before .before .before .before .before .before .if2 .left) _ (c .before .before .before .before .before .before .put-header .ensures) _ _ (c .before .before .write-block .ensures)
+returns-3 c = search (writes-sheet, needs)
 
 pub write-spec : {M : Type 1} → statement M
 write-spec =
