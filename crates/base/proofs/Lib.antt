@@ -1,4 +1,5 @@
 pub mod AllLaws
 pub mod BoolLaws
 pub mod CaseLaws
+pub mod LeastLaws
 pub mod SumLaws
