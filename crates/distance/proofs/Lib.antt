@@ -1,2 +1,3 @@
 pub mod NearestLaws
 pub mod SearchLaws
+pub mod OffsetLaws
