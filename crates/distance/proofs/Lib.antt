@@ -1,3 +1,5 @@
 pub mod NearestLaws
 pub mod SearchLaws
 pub mod OffsetLaws
+pub mod GapLaws
+pub mod WhiteLaws
