@@ -2,8 +2,9 @@
 use mathlib.Core.Bool.{Bool, true, false}
 use mathlib.Core.Logic.{_⊎_, inl, inr, ⊎-elim}
 use mathlib.Core.Path.{_≡_, refl, sym, _∙_}
-use Prim.Native.Nat.{ℕ, zero, suc, _≤_, _<_, min}
-use native.Mathlib.Nat.{le-trans, le-antisymm, le-min, le-of-lt, min-le-left, min-le-right, min-eq-left, min-eq-right, eq-or-lt-of-le, le-of-suc-le-suc, not-suc-le-zero}
+use Prim.Native.Nat.{ℕ, zero, suc, _+_, _≤_, _<_, min}
+use native.Mathlib.Nat.{le-trans, le-antisymm, le-min, le-of-lt, min-le-left, min-le-right, min-eq-left, min-eq-right, min-comm, eq-or-lt-of-le, le-of-suc-le-suc, not-suc-le-zero}
+use native.Mathlib.Numerals.{add-one}
 use native.Mathlib.Omega.{arith}
 use Rattle.base.specs.Tab.{least}
 use Rattle.base.proofs.BoolLaws.{lt-or-ge}
@@ -26,6 +27,14 @@ module _ (top : ℕ) (f : ℕ → ℕ) where
   unfolding least
   least-ge v zero t h = t
   least-ge v (suc k) t h = le-min (h k (omega arith)) (least-ge v k t (λ i l. h i (omega arith)))
+
+  -- one value more, and any number more
+  pub least-next : (k : ℕ) → least top f (k + 1) ≡ min (least top f k) (f k)
+  unfolding least
+  least-next k = rw (add-one k) (min-comm (f k) (least top f k))
+
+  pub least-less : (j k : ℕ) → j ≤ k → least top f k ≤ least top f j
+  least-less j k h = least-ge (least top f k) j (least-top k) (λ i l. least-le k i (omega arith))
 
   -- where it is one of the values
   pub record Hit (k v : ℕ) : Type 0 where

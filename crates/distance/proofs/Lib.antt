@@ -3,3 +3,7 @@ pub mod SearchLaws
 pub mod OffsetLaws
 pub mod GapLaws
 pub mod WhiteLaws
+pub mod BesideLaws
+pub mod FatherLaws
+pub mod LeafLaws
+pub mod AroundLaws
