@@ -27,7 +27,7 @@ use Rattle.table.proofs.AcceptedLaws.{depth-le}
 use Rattle.table.proofs.NodeLaws.{path-root}
 use Rattle.table.proofs.HolderLaws.{Held, held, own-path, own-depth}
 use Rattle.table.proofs.HolderLaws as holders
-use Rattle.table.proofs.BlockLaws.{pixel-block}
+use Rattle.table.proofs.BlockPixels.{pixel-block}
 use Rattle.neighbour.specs.declared.Found.{Found}
 use Rattle.neighbour.specs.declared.Found.the-variants.{At, Off}
 use Rattle.neighbour.specs.Neighbour.{beside}

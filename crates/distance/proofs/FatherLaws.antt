@@ -16,7 +16,7 @@ use Rattle.table.specs.Rules.{depthTo, Accepted}
 use Rattle.table.specs.Nodes.{sonType, pathTo, holder, pixel, treeAt, levelOf}
 use Rattle.table.proofs.AcceptedLaws.{Sound, tree-sound, tree-fork, father-below, father-fork, sonType-lt, depth-up, depth-le}
 use Rattle.table.proofs.HolderLaws.{path-up, path-quadrants, own-path, own-depth}
-use Rattle.table.proofs.BlockLaws.{pixel-block}
+use Rattle.table.proofs.BlockPixels.{pixel-block}
 use Rattle.neighbour.specs.Search.{stay}
 use Rattle.distance.proofs.NearestLaws.{White}
 use Rattle.distance.proofs.WhiteLaws.{HasWhite, black-or-white}
