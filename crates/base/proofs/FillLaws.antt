@@ -17,9 +17,9 @@ tab-last f (suc k) i =
     ap (λ (r : List ℕ). f i ∷ r) (tab-last f k (i + 1) ∙ rw e)
 
 module _ (f : ℕ → ℕ) where
-  pub filled-none : (out : List ℕ) → take 0 out ≡ tab f 0
+  pub filled-none : [] ≡ tab f 0
   unfolding tabFrom
-  filled-none out = refl
+  filled-none = refl
 
   pub filled-more : (out : List ℕ) (i v : ℕ) → i < length out → v ≡ f i → take i out ≡ tab f i → take (i + 1) (set out i v) ≡ tab f (i + 1)
   filled-more out i v h e inv =

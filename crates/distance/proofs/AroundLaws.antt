@@ -112,6 +112,10 @@ module _ (n : ℕ) (T : List ℕ) (p kind : ℕ) (k : kind ≡ type T p) where
         let f : isFork T p ≡ false = ne-eqb (type T p) forkType (λ q. g (k ∙ q)) in
         rw e (some-small n T acc p lt f (λ q. h (k ∙ q)) (λ q. z (e ∙ q)))
 
+-- a side is at most the largest sheet's
+pub side-fits : (n d w : ℕ) → n ≤ topLevel → w ≡ 2 ^ (n - d) → w ≤ 2 ^ topLevel
+side-fits n d w h e = rw e (pow-mono {i = n - d} {j = topLevel} (omega arith))
+
 -- what the climb asks
 pub rising : (n : ℕ) (T : List ℕ) → Accepted n T → (p : ℕ) → p < nodes T → Rising T (p + 1)
 unfolding Rising

@@ -7,3 +7,4 @@ pub mod BesideLaws
 pub mod FatherLaws
 pub mod LeafLaws
 pub mod AroundLaws
+pub mod CallLaws

@@ -172,7 +172,16 @@ fn beside(n: u32, table: &[u32], p: usize, level: u32, direction: usize, best: u
     let Found::At { node, level: its } = found else {
         return best;
     };
-    seek(table, east_step(direction), south_step(direction), node, its, 0, 0, best)
+    seek(
+        table,
+        east_step(direction),
+        south_step(direction),
+        node,
+        its,
+        0,
+        0,
+        best,
+    )
 }
 
 // The least offset of a white pixel in the eight neighbours of leaf p. None is below 0.
