@@ -1,4 +1,6 @@
 pub mod AllLaws
 pub mod BoolLaws
 pub mod CaseLaws
+pub mod FillLaws
+pub mod LeastLaws
 pub mod SumLaws

@@ -1,1 +1,4 @@
 pub mod Distance
+pub mod Search
+pub mod Around
+pub mod Calls

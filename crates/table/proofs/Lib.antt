@@ -10,3 +10,4 @@ pub mod PreorderAccepted
 pub mod SonTypeLaws
 pub mod BlockLaws
 pub mod HolderLaws
+pub mod BlockPixels

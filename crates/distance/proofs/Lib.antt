@@ -1,0 +1,10 @@
+pub mod NearestLaws
+pub mod SearchLaws
+pub mod OffsetLaws
+pub mod GapLaws
+pub mod WhiteLaws
+pub mod BesideLaws
+pub mod FatherLaws
+pub mod LeafLaws
+pub mod AroundLaws
+pub mod CallLaws

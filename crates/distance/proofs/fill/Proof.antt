@@ -1,0 +1,62 @@
+-- `distance::fill`: the words before p are the distances of their nodes. The measure is the words left. Assumes nothing.
+use Prim.Native.Nat.{_+_, _-_, _≤_}
+use mathlib.Core.Path.{_≡_}
+use native.Mathlib.Omega.{arith}
+use lib.ListN.{length, take, length-set}
+use borrow.Author.Needs.{needs}
+use Rattle.base.specs.Tab.{tab}
+use Rattle.base.proofs.FillLaws.{filled-none, filled-more, filled-all}
+use Rattle.table.specs.Table.{nodes}
+use Rattle.distance.specs.Distance.{plainOutside, distanceAt, distancesOf}
+use Rattle.distance.proofs.fill.Statement.{statement}
+use Rattle.distance.proofs.fill.Tie as tie
+
+abbrev Inv-loop : tie.InvT-loop
+Inv-loop n table out₀ p₀ out p = (p ≤ length out) × (length out ≡ length out₀) × (take p out ≡ tab (distanceAt plainOutside n table) p)
+
+abbrev μ-loop : tie.MeasureT-loop
+μ-loop n table out₀ p₀ out p = length out - p
+
+loop-holds : tie.Need-loop-holds Inv-loop μ-loop
+loop-holds c = (omega arith, omega arith, filled-none _)
+
+distance-requires : tie.Need-distance-requires Inv-loop μ-loop
+distance-requires c κs = (c .before .before .before .before .pre .0, omega (arith, c .before .loop .inv .1, c .before .before .before .before .pre .1))
+
+mul-out : tie.Need-mul-out Inv-loop μ-loop
+mul-out c = search needs
+
+slice-write-out : tie.Need-slice-write-out Inv-loop μ-loop
+slice-write-out c = search needs
+
+add-p : tie.Need-add-p Inv-loop μ-loop
+add-p c = search needs
+
+loop-less : tie.Need-loop-less Inv-loop μ-loop
+loop-less c = simp length-set (omega arith)
+
+loop-again : tie.Need-loop-again Inv-loop μ-loop
+loop-again c = (simp length-set (omega arith), simp length-set (omega arith), filled-more _ _ _ _ (omega arith) (c .distance .ensures) (c .before .before .loop .inv .2))
+
+same-length : tie.Need-same-length Inv-loop μ-loop
+same-length c = search needs
+
+returns : tie.Need-returns Inv-loop μ-loop
+unfolding distancesOf
+returns c = filled-all _ _ _ _ (omega arith) (omega arith) (omega arith) (c .before .loop .inv .2)
+
+pub fill-spec : {M : Type 1} → statement M
+fill-spec =
+    tie.close
+    (tie.spec
+    Inv-loop
+    μ-loop
+    loop-holds
+    distance-requires
+    mul-out
+    slice-write-out
+    add-p
+    loop-less
+    loop-again
+    same-length
+    returns)

@@ -1,0 +1,18 @@
+-- `distance::side`: a shift is a power of two, one computed test over the levels. Assumes nothing.
+use Prim.Native.Nat.{ℕ, _*_, _%_, _^_, _+_}
+use lib.Dec.{eqb}
+use lib.Pow.{shl-exact}
+use native.Mathlib.Omega.{arith}
+use Rattle.quad.specs.Numbers.{topLevel}
+use borrow.Author.Needs.{needs}
+use Rattle.distance.proofs.side.Statement.{statement}
+use Rattle.distance.proofs.side.Tie as tie
+
+shl-result : tie.Need-shl-result
+shl-result c = search needs
+
+returns : tie.Need-returns
+returns c = rw (shl-exact {a = 1} 1 (c .args .level) 32 (omega arith) (omega arith)) (omega arith)
+
+pub side-spec : {M : Type 1} → statement M
+side-spec = tie.close (tie.spec shl-result returns)

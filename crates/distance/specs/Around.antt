@@ -1,0 +1,40 @@
+-- The eight neighbours of a leaf as the code goes through them (document 001, section V: CHESSBOARD-DIST). Inner definitions: no outside call's statement
+-- cites them.
+use mathlib.Core.Bool.{cond}
+use mathlib.Core.List.{List}
+use mathlib.Core.Path.{_≡_}
+use Prim.Native.Nat.{ℕ, _+_, _*_, _<_}
+use lib.Dec.{eqb}
+use Rattle.base.specs.Tab.{least}
+use Rattle.quad.specs.Numbers.{none}
+use Rattle.quad.specs.Direction.{eastStep, southStep}
+use Rattle.table.specs.Table.{nodes}
+use Rattle.table.specs.Rules.{Accepted}
+use Rattle.table.specs.Nodes.{levelOf}
+use Rattle.neighbour.specs.declared.Found.{Found}
+use Rattle.neighbour.specs.declared.Found.the-variants.{At, Off}
+use Rattle.neighbour.specs.Search.{neighbourFound}
+use Rattle.distance.specs.Search.{offsetUnder}
+
+-- the least offset of a white pixel under the node that a search in direction D ended on; off the sheet nothing is white
+unfoldable pub offsetFound : List ℕ → ℕ → Found → ℕ
+offsetFound T D Off = none
+offsetFound T D (At m l) = offsetUnder T (eastStep D) (southStep D) l m 0 0
+
+-- in the neighbour of p in direction D
+unfoldable pub offsetBeside : ℕ → List ℕ → ℕ → ℕ → ℕ
+offsetBeside n T p D = offsetFound T D (neighbourFound n T p D)
+
+-- in the neighbours in the first k directions
+abbrev pub offsetAround : ℕ → List ℕ → ℕ → ℕ → ℕ
+offsetAround n T p k = least none (offsetBeside n T p) k
+
+-- the distance, in half pixels, from the centre of a leaf of side w to a pixel at an offset from its edge; none where there is no such pixel
+unfoldable pub atOffset : ℕ → ℕ → ℕ
+atOffset w o = cond (eqb o none) none (w + 2 * o)
+
+-- what the code asks of its caller: p is a node of level l of an accepted table
+pub record Leaf (n : ℕ) (T : List ℕ) (p l : ℕ) : Type 0 where
+  pub accepted : Accepted n T
+  pub node : p < nodes T
+  pub level : l ≡ levelOf n T p
