@@ -1,23 +1,13 @@
--- The tests for 6 and 7, as the calls go through them. `bounds` closes the returns, beside answer's `thens`.
+-- The tests for 7, as the calls go through them. `bounds` closes the returns, beside answer's `thens`.
 use mathlib.Core.Bool.{Bool, true, false, not}
-use mathlib.Core.List.{List}
 use mathlib.Core.Path.{_≡_}
 use Prim.Native.Nat.{ℕ, _≤_, _<_}
-use lib.Dec.{ltb, leb}
-use borrow.Author.Tests.{lt-ltb, le-ltb, le-leb, lt-leb}
+use lib.Dec.{ltb}
+use borrow.Author.Tests.{lt-ltb, le-ltb}
 use Rattle.base.proofs.BoolLaws.{on, off}
 use Rattle.answer.specs.declared.Outcome.{Outcome}
-use Rattle.answer.specs.declared.Outcome.the-variants.{Answered, NoNode, BadDirection}
+use Rattle.answer.specs.declared.Outcome.the-variants.{BadDirection}
 use Rattle.answer.specs.Numbers.{andThen, unless}
-use Rattle.table.specs.Table.{nodes}
-
--- the test for 6
-module _ (T : List ℕ) (p count : ℕ) (e : count ≡ nodes T) where
-  pub no-node : count ≤ p → NoNode p ≡ unless (leb (nodes T) p) (NoNode p)
-  no-node h = rw (← e, le-leb count p h)
-
-  pub is-node : p < count → Answered 0 ≡ unless (leb (nodes T) p) (NoNode p)
-  is-node h = rw (← e, lt-leb count p h)
 
 -- a direction, side or corner above the last
 module _ (last D : ℕ) (next : Outcome) where
@@ -35,4 +25,4 @@ module _ (u b : Bool) (C : ℕ) (next : Outcome) (e : u ≡ b) where
   pub good-joined : (r : Outcome) → not u ≡ false → r ≡ next → r ≡ andThen (unless (not b) (BadDirection C)) next
   good-joined r h f = rw (on u b e h) f
 
-pub ruleset bounds = (no-node, is-node, bad-above, good-within, bad-apart, good-joined)
+pub ruleset bounds = (bad-above, good-within, bad-apart, good-joined)

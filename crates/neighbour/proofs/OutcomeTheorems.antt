@@ -8,15 +8,15 @@ use native.Mathlib.Omega.{arith}
 use Rattle.answer.specs.declared.Outcome.{Outcome}
 use Rattle.answer.specs.declared.Outcome.the-variants.{Answered, BadDirection}
 use Rattle.answer.specs.Numbers.{answers, valueOf, numberOf}
-use Rattle.quad.specs.Numbers.{white, black}
+use Rattle.quad.specs.Numbers.{black}
 use Rattle.quad.specs.Block.{pathOf, column, row}
 use Rattle.quad.specs.Direction.{eastStep, southStep}
-use Rattle.quad.specs.Tree.{leaf, fork, sizeOf}
+use Rattle.quad.specs.Tree.{leaf}
 use Rattle.quad.proofs.TreeLaws.{by-quadrant}
 use Rattle.table.specs.Table.{father, type}
 use Rattle.table.specs.Rules.{depthTo, allOf, typeOk, fatherOk, onceOk, sonOk, wordOk, sonsOk, depthOk, sonAlike, mixedOk, faultAt, faultFrom, faultsOf, lengthOk, sizesOf, checkOf, askedOf}
 use Rattle.table.specs.Nodes.{firstQuadrant, sonType, pathTo, holder}
-use Rattle.table.specs.Preorder.{preorder, preorderTable}
+use Rattle.table.specs.SheetA.{tableA}
 use Rattle.neighbour.specs.Neighbour.{neighbourOf, cornerLeafOf, diagonalLeafOf, beside}
 use Rattle.neighbour.specs.Calls.{Neighbours, CornerLeaves, DiagonalLeaves}
 
@@ -30,23 +30,19 @@ one-corner-leaf n T p D C r s a b = a ∙ sym b
 pub one-diagonal-leaf : (n : ℕ) (T : List ℕ) (p C : ℕ) (r s : Outcome) → DiagonalLeaves n T p C r → DiagonalLeaves n T p C s → r ≡ s
 one-diagonal-leaf n T p C r s a b = a ∙ sym b
 
--- document 01's sheet A
-abbrev pub sheetA : List ℕ
-sheetA = preorderTable (fork (leaf black) (fork (leaf white) (leaf white) (leaf white) (leaf black)) (leaf white) (leaf white))
-
--- what the calls owe there
+-- what the calls owe on document 01's sheet A
 pub record OnSheetA : Type 0 where
-  pub east : neighbourOf 2 sheetA 1 1 ≡ Answered 2
-  pub south : neighbourOf 2 sheetA 6 2 ≡ Answered 8
-  pub upper : cornerLeafOf 2 sheetA 1 1 1 ≡ Answered 3
-  pub lower : cornerLeafOf 2 sheetA 1 1 3 ≡ Answered 5
-  pub apart : (cornerLeafOf 2 sheetA 1 1 0 ≡ BadDirection 0) × (cornerLeafOf 2 sheetA 1 1 2 ≡ BadDirection 2)
-  pub beyond : diagonalLeafOf 2 sheetA 1 3 ≡ Answered 8
-  pub across : diagonalLeafOf 2 sheetA 5 1 ≡ Answered 4
-  pub under : (father sheetA 6 ≡ 2) × (type sheetA 6 ≡ black)
+  pub east : neighbourOf 2 tableA 1 1 ≡ Answered 2
+  pub south : neighbourOf 2 tableA 6 2 ≡ Answered 8
+  pub upper : cornerLeafOf 2 tableA 1 1 1 ≡ Answered 3
+  pub lower : cornerLeafOf 2 tableA 1 1 3 ≡ Answered 5
+  pub apart : (cornerLeafOf 2 tableA 1 1 0 ≡ BadDirection 0) × (cornerLeafOf 2 tableA 1 1 2 ≡ BadDirection 2)
+  pub beyond : diagonalLeafOf 2 tableA 1 3 ≡ Answered 8
+  pub across : diagonalLeafOf 2 tableA 5 1 ≡ Answered 4
+  pub under : (father tableA 6 ≡ 2) × (type tableA 6 ≡ black)
 
 pub on-sheet-a : OnSheetA
-unfolding beside neighbourOf cornerLeafOf diagonalLeafOf preorder sizeOf firstQuadrant sonType pathTo holder depthTo allOf typeOk fatherOk onceOk sonOk wordOk sonsOk depthOk sonAlike mixedOk faultAt faultFrom faultsOf lengthOk sizesOf checkOf askedOf eastStep southStep pathOf column row
+unfolding beside neighbourOf cornerLeafOf diagonalLeafOf firstQuadrant sonType pathTo holder depthTo allOf typeOk fatherOk onceOk sonOk wordOk sonsOk depthOk sonAlike mixedOk faultAt faultFrom faultsOf lengthOk sizesOf checkOf askedOf eastStep southStep pathOf column row
 on-sheet-a = record {
   east = refl;
   south = refl;
@@ -59,10 +55,10 @@ on-sheet-a = record {
 }
 
 -- two ponds: what lies under a grey neighbour need not touch
-pub two-ponds : (C : ℕ) → C < 4 → cornerLeafOf 2 sheetA 1 1 C ≡ Answered 6 → ⊥
+pub two-ponds : (C : ℕ) → C < 4 → cornerLeafOf 2 tableA 1 1 C ≡ Answered 6 → ⊥
 two-ponds =
     let a = on-sheet-a in
-    by-quadrant (λ (C : ℕ). cornerLeafOf 2 sheetA 1 1 C ≡ Answered 6 → ⊥)
+    by-quadrant (λ (C : ℕ). cornerLeafOf 2 tableA 1 1 C ≡ Answered 6 → ⊥)
     (λ e. omega (arith, other (a .apart .0) e))
     (λ e. omega (arith, other (a .upper) e))
     (λ e. omega (arith, other (a .apart .1) e))
@@ -81,24 +77,24 @@ names-two r s v w m e g ne a b = ne (sym (ap valueOf e) ∙ a (ap answers e) ∙
 
 module _ (f : ℕ → List ℕ → ℕ → ℕ → Outcome) (meets : (n : ℕ) (T : List ℕ) (p D : ℕ) → Neighbours n T p D (f n T p D)) where
   pub neighbour-answers : ((n : ℕ) (T : List ℕ) (p D : ℕ) → answers (f n T p D) ≡ false) → ⊥
-  neighbour-answers refuses = answers-somewhere _ 2 (meets 2 sheetA 1 1 ∙ on-sheet-a .east) (refuses 2 sheetA 1 1)
+  neighbour-answers refuses = answers-somewhere _ 2 (meets 2 tableA 1 1 ∙ on-sheet-a .east) (refuses 2 tableA 1 1)
 
   pub neighbour-names : (m : ℕ) → ((n : ℕ) (T : List ℕ) (p D : ℕ) → answers (f n T p D) ≡ true → valueOf (f n T p D) ≡ m) → ⊥
   neighbour-names m one =
-      names-two _ _ 2 8 m (meets 2 sheetA 1 1 ∙ on-sheet-a .east) (meets 2 sheetA 6 2 ∙ on-sheet-a .south) (λ e. omega arith) (one 2 sheetA 1 1) (one 2 sheetA 6 2)
+      names-two _ _ 2 8 m (meets 2 tableA 1 1 ∙ on-sheet-a .east) (meets 2 tableA 6 2 ∙ on-sheet-a .south) (λ e. omega arith) (one 2 tableA 1 1) (one 2 tableA 6 2)
 
 module _ (f : ℕ → List ℕ → ℕ → ℕ → ℕ → Outcome) (meets : (n : ℕ) (T : List ℕ) (p D C : ℕ) → CornerLeaves n T p D C (f n T p D C)) where
   pub corner-leaf-answers : ((n : ℕ) (T : List ℕ) (p D C : ℕ) → answers (f n T p D C) ≡ false) → ⊥
-  corner-leaf-answers refuses = answers-somewhere _ 3 (meets 2 sheetA 1 1 1 ∙ on-sheet-a .upper) (refuses 2 sheetA 1 1 1)
+  corner-leaf-answers refuses = answers-somewhere _ 3 (meets 2 tableA 1 1 1 ∙ on-sheet-a .upper) (refuses 2 tableA 1 1 1)
 
   pub corner-leaf-names : (m : ℕ) → ((n : ℕ) (T : List ℕ) (p D C : ℕ) → answers (f n T p D C) ≡ true → valueOf (f n T p D C) ≡ m) → ⊥
   corner-leaf-names m one =
-      names-two _ _ 3 5 m (meets 2 sheetA 1 1 1 ∙ on-sheet-a .upper) (meets 2 sheetA 1 1 3 ∙ on-sheet-a .lower) (λ e. omega arith) (one 2 sheetA 1 1 1) (one 2 sheetA 1 1 3)
+      names-two _ _ 3 5 m (meets 2 tableA 1 1 1 ∙ on-sheet-a .upper) (meets 2 tableA 1 1 3 ∙ on-sheet-a .lower) (λ e. omega arith) (one 2 tableA 1 1 1) (one 2 tableA 1 1 3)
 
 module _ (f : ℕ → List ℕ → ℕ → ℕ → Outcome) (meets : (n : ℕ) (T : List ℕ) (p C : ℕ) → DiagonalLeaves n T p C (f n T p C)) where
   pub diagonal-leaf-answers : ((n : ℕ) (T : List ℕ) (p C : ℕ) → answers (f n T p C) ≡ false) → ⊥
-  diagonal-leaf-answers refuses = answers-somewhere _ 8 (meets 2 sheetA 1 3 ∙ on-sheet-a .beyond) (refuses 2 sheetA 1 3)
+  diagonal-leaf-answers refuses = answers-somewhere _ 8 (meets 2 tableA 1 3 ∙ on-sheet-a .beyond) (refuses 2 tableA 1 3)
 
   pub diagonal-leaf-names : (m : ℕ) → ((n : ℕ) (T : List ℕ) (p C : ℕ) → answers (f n T p C) ≡ true → valueOf (f n T p C) ≡ m) → ⊥
   diagonal-leaf-names m one =
-      names-two _ _ 8 4 m (meets 2 sheetA 1 3 ∙ on-sheet-a .beyond) (meets 2 sheetA 5 1 ∙ on-sheet-a .across) (λ e. omega arith) (one 2 sheetA 1 3) (one 2 sheetA 5 1)
+      names-two _ _ 8 4 m (meets 2 tableA 1 3 ∙ on-sheet-a .beyond) (meets 2 tableA 5 1 ∙ on-sheet-a .across) (λ e. omega arith) (one 2 tableA 1 3) (one 2 tableA 5 1)

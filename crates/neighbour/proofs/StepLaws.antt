@@ -1,11 +1,11 @@
--- The search turn by turn, in the code's own values: a step down from what was found.
+-- What was found, in the code's own values: a step down from it, and its outcome.
 use mathlib.Core.List.{List}
 use mathlib.Core.Path.{_≡_}
 use Prim.Native.Nat.{ℕ, _-_, _≤_, _<_}
 use borrow.Author.Tests.{eq-eqb, ne-eqb}
 use Rattle.answer.specs.declared.Outcome.the-variants.{Answered}
 use Rattle.quad.specs.Numbers.{forkType, none}
-use Rattle.table.specs.Table.{nodes, father, son, type}
+use Rattle.table.specs.Table.{nodes, son, type}
 use Rattle.neighbour.specs.declared.Found.{Found}
 use Rattle.neighbour.specs.declared.Found.the-variants.{At, Off}
 use Rattle.neighbour.specs.Search.{outcomeOf, downTo, Steps, Small}

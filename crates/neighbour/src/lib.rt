@@ -1,11 +1,10 @@
 // Neighbours in eight directions, and the leaf at a corner (document 000, section 3): up to the nearest common ancestor, and back by reflected or
 // opposite moves.
 use answer::Outcome;
-use table::asked;
 use table::son_type;
 use table::word_at;
 ghost use mathlib.Core.Path.{_≡_};
-ghost use Prim.Native.Nat.{_+_, _<_};
+ghost use Prim.Native.Nat.{_<_};
 ghost use Rattle.quad.specs.Direction.{commonSideOf};
 ghost use Rattle.table.specs.Table.{nodes};
 ghost use Rattle.table.specs.Rules.{Accepted};
@@ -122,7 +121,7 @@ fn outcome(found: Found) -> Outcome
 pub fn neighbour(n: u32, table: &[u32], node: u32, direction: u32) -> Outcome
     ensures { λ r. ⌜ Neighbours n (now (table .entry)) node direction r ⌝ }
 {
-    let asked = asked(n, table, node);
+    let asked = table::asked(n, table, node);
     if !answer::answered(asked) {
         return asked;
     }
@@ -163,7 +162,7 @@ fn leaf_beyond(n: u32, table: &[u32], p: usize, direction: usize, corner: usize)
 pub fn corner_leaf(n: u32, table: &[u32], node: u32, side: u32, corner: u32) -> Outcome
     ensures { λ r. ⌜ CornerLeaves n (now (table .entry)) node side corner r ⌝ }
 {
-    let asked = asked(n, table, node);
+    let asked = table::asked(n, table, node);
     if !answer::answered(asked) {
         return asked;
     }
@@ -183,7 +182,7 @@ pub fn corner_leaf(n: u32, table: &[u32], node: u32, side: u32, corner: u32) -> 
 pub fn diagonal_leaf(n: u32, table: &[u32], node: u32, corner: u32) -> Outcome
     ensures { λ r. ⌜ DiagonalLeaves n (now (table .entry)) node corner r ⌝ }
 {
-    let asked = asked(n, table, node);
+    let asked = table::asked(n, table, node);
     if !answer::answered(asked) {
         return asked;
     }

@@ -71,7 +71,7 @@ seek-seek-requires t c κs = (omega (arith, turned t (c .before .before) .falls)
 seek-down-requires : (t : ℕ) → seek-lts.Need-down-requires (calls t) (seek-at t) seek.Post
 seek-down-requires t c κs =
     let u = turned t (c .before .before .before) in
-    (rw (c .seek .ensures, c .before .before .onward .ensures) (u .steps), rw (c .before .mirror .ensures) (u .son))
+    (rw (c .seek .ensures, c .before .before .onward .ensures) (u .steps), omega (arith, c .before .mirror .ensures, u .son, u .quadrant))
 
 seek-returns-3 : (t : ℕ) → seek-lts.Need-returns-3 (calls t) (seek-at t) seek.Post
 seek-returns-3 t c =

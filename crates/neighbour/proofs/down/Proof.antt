@@ -27,7 +27,7 @@ word-at-requires-2 : tie.Need-word-at-requires-2
 word-at-requires-2 c κs = (steps-at _ _ _ _ (c .before .before .before .before .before .before .pre .0) (c .before .before .before .found .given .1) .0, omega arith)
 
 sub-t9 : tie.Need-sub-t9
-sub-t9 c = steps-at _ _ _ _ (c .before .before .before .before .before .before .before .pre .0) (c .before .before .before .before .found .given .1) .1
+sub-t9 c = omega (arith, steps-at _ _ _ _ (c .before .before .before .before .before .before .before .pre .0) (c .before .before .before .before .found .given .1) .1)
 
 returns-3 : tie.Need-returns-3
 returns-3 c = search (down-fork, needs)

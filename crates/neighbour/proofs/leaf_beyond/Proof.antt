@@ -29,7 +29,7 @@ mirror-requires c κs = search needs
 corner-of-requires : tie.Need-corner-of-requires
 corner-of-requires c κs =
     let z = c .before .before .before .before .before .before .pre in
-    (z .accepted, beyond-node _ _ _ _ _ z _ _ (sym (c .before .before .before .before .seek .ensures) ∙ c .before .before .found .given .1), rw (c .mirror .ensures) (mirror-small _ _ _ _ _ z))
+    (z .accepted, beyond-node _ _ _ _ _ z _ _ (sym (c .before .before .before .before .seek .ensures) ∙ c .before .before .found .given .1), omega (arith, c .mirror .ensures, mirror-small _ _ _ _ _ z, z .corner))
 
 cast-t10 : tie.Need-cast-t10
 cast-t10 c =
