@@ -10,6 +10,7 @@ use Rattle.answer.specs.Numbers.{numberOf}
 use Rattle.table.specs.Rules.{checkOf}
 use Rattle.raster.specs.Raster.{buildOf, builtTable, decodeOf, decodedRaster}
 use Rattle.neighbour.specs.Neighbour.{neighbourOf, cornerLeafOf, diagonalLeafOf}
+use Rattle.distance.specs.Distance.{distanceOf, distancesAfter}
 use Rattle.file.specs.File.{readOf, readTable, writeOf, writtenFile}
 use Rattle.ground.specs.declared.Ground.{Ground}
 use Rattle.ground.specs.Ground.{centreOf, centreAfter}
@@ -46,6 +47,10 @@ FindsCornerLeaf n T p D C = Gives (cornerLeafOf n T p D C)
 -- sheet_diagonal_leaf: level, table, node, corner
 abbrev pub FindsDiagonalLeaf : ℕ → List ℕ → ℕ → ℕ → ℕ → Type 0
 FindsDiagonalLeaf n T p C = Gives (diagonalLeafOf n T p C)
+
+-- sheet_distance: level, table, the words before, the number, the words after
+abbrev pub FindsDistances : ℕ → List ℕ → List ℕ → ℕ → List ℕ → Type 0
+FindsDistances n T before = Leaves (distanceOf n T (length before)) (distancesAfter n T before)
 
 -- sheet_read: file, the table before, the number, the table after
 abbrev pub ReadsFile : List ℕ → List ℕ → ℕ → List ℕ → Type 0

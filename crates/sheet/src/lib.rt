@@ -1,6 +1,6 @@
 // The exported C calls, and nothing else: each calls one function of a floor below and packs code and value (include/sheet.h is the manual).
 use ground::Ground;
-ghost use Rattle.sheet.specs.Calls.{Checks, Builds, Decodes, FindsNeighbour, FindsCornerLeaf, FindsDiagonalLeaf, ReadsFile, WritesFile, FindsCentre, groundAt};
+ghost use Rattle.sheet.specs.Calls.{Checks, Builds, Decodes, FindsNeighbour, FindsCornerLeaf, FindsDiagonalLeaf, FindsDistances, ReadsFile, WritesFile, FindsCentre, groundAt};
 
 #[no_mangle]
 pub extern "C" fn sheet_check(n: u32, table: &[u32]) -> u64
@@ -42,6 +42,13 @@ pub extern "C" fn sheet_diagonal_leaf(n: u32, table: &[u32], node: u32, corner: 
     ensures { λ r. ⌜ FindsDiagonalLeaf n (now (table .entry)) node corner r ⌝ }
 {
     answer::number(neighbour::diagonal_leaf(n, table, node, corner))
+}
+
+#[no_mangle]
+pub extern "C" fn sheet_distance(n: u32, table: &[u32], distances: &mut [u32]) -> u64
+    ensures { λ r. ⌜ FindsDistances n (now (table .entry)) (now (distances .entry)) r (now (distances .exit)) ⌝ }
+{
+    answer::number(distance::distances(n, table, distances))
 }
 
 #[no_mangle]
