@@ -7,8 +7,6 @@ use native.Mathlib.Nat.{pow-succ', one-le-pow}
 use native.Mathlib.Omega.{arith}
 use lib.Dec.{leb, eqb}
 use lib.ListN.{length, getD}
-use mir.Syntax.{w32}
-use mir.Val.{Fits}
 use borrow.Author.Tests.{ne-eqb}
 use Rattle.base.proofs.CaseLaws.{cond-case}
 use Rattle.answer.specs.declared.Outcome.{Outcome}
@@ -187,9 +185,6 @@ module _ (s : List ℕ) (l at : ℕ) where
 
         pub reach-4 : FourReach l at → Reaches l i₃
         reach-4 h = omega (arith, some-block l, nw .near, ne .near, sw .near)
-
-        pub place-fits : FourReach l at → Fits w32 (i₃ + 2)
-        place-fits h = omega (arith, some-block l, reach-4 h)
 
         module _ (r₄ : Block) (e₄ : r₄ ≡ told (blockAt s l i₃)) (i₄ k₄ : ℕ) (g₄ : r₄ ≡ Read i₄ k₄) (u : Bool) (e : u ≡ likeKinds k₁ k₂ k₃ k₄) where
           se : Found s l i₃ i₄ k₄

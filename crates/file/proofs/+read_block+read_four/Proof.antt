@@ -1,7 +1,7 @@
 -- Reading a block and reading four blocks call each other; twice the level, and one more for four, falls at each call.
 use borrow.Author.Needs.{needs}
 use native.Mathlib.Omega.{arith}
-use Rattle.file.proofs.ReadLaws.{some-block, block-wrong, block-leaf, block-deep, block-fork, four-lower, four-reach, reach-1, reach-2, reach-3, reach-4, place-fits, four-1, four-2, four-3, four-4, four-like, four-read}
+use Rattle.file.proofs.ReadLaws.{some-block, block-wrong, block-leaf, block-deep, block-fork, four-lower, four-reach, reach-1, reach-2, reach-3, reach-4, four-1, four-2, four-3, four-4, four-like, four-read}
 use Prim.Native.Nat.{ℕ, _+_, _*_, _<_}
 use borrow.Fn.Kinds.{In}
 use borrow.Fn.PlainCycle.{Measures, is, falls, and}
@@ -133,7 +133,7 @@ read-four-add-t17 t c =
     let third = c .before .before .before .before .before .before .before in
     let second = third .before .before .before .before in
     let first = second .before .before .before .before in
-    place-fits _ _ _ _ (first .before .before .read-block .ensures) _ _ (first .nw .given .1) _ (second .before .before .read-block2 .ensures) _ _ (second .ne .given .1) _ (third .before .before .read-block3 .ensures) _ _ (third .sw .given .1) (first .before .before .before .before .pre .1)
+    omega (arith, some-block (first .before .before .before .before .args .level), reach-3 _ _ _ _ (first .before .before .read-block .ensures) _ _ (first .nw .given .1) _ (second .before .before .read-block2 .ensures) _ _ (second .ne .given .1) (first .before .before .before .before .pre .1), reach-4 _ _ _ _ (first .before .before .read-block .ensures) _ _ (first .nw .given .1) _ (second .before .before .read-block2 .ensures) _ _ (second .ne .given .1) _ (third .before .before .read-block3 .ensures) _ _ (third .sw .given .1) (first .before .before .before .before .pre .1))
 
 read-four-returns-5 : (t : ℕ) → read-four-lts.Need-returns-5 (four-calls t) (read-four-at t) read-four.Post
 read-four-returns-5 t c = search (four-like, needs)
