@@ -15,10 +15,12 @@ use Rattle.neighbour.specs.Neighbour.{beside, neighbourOf, cornerLeafOf}
 use Rattle.file.specs.File.{records, fileOf, blockAt, openOf, readOf, readTable, writeOf, writtenFile}
 use Rattle.distance.specs.Distance.{toOutside, nearest, distanceAt}
 use Rattle.walk.specs.Walk.{badPlace, insideOf, outsideOf, stepOf}
-use Rattle.marked.specs.Cases.{walkFrom, countOf, cases, allHold}
+use Rattle.walk.specs.Whole.{trace}
+use Rattle.walk.specs.Rows.{tally}
+use Rattle.marked.specs.Cases.{cases, allHold}
 
 pub marked : allHold cases ≡ true
-unfolding cases allHold walkFrom countOf badPlace insideOf outsideOf stepOf toOutside nearest distanceAt least openOf readOf beside neighbourOf cornerLeafOf rasterTree preorder firstQuadrant sonType pathTo holder pixel treeAt depthTo allOf typeOk fatherOk onceOk sonOk wordOk sonsOk depthOk sonAlike mixedOk faultAt faultFrom faultsOf lengthOk sizesOf checkOf askedOf sameLeaf sizeOf sidesOf join treeOf eastStep southStep pathOf column row buildOf pixelsFrom
+unfolding cases allHold trace tally badPlace insideOf outsideOf stepOf toOutside nearest distanceAt least openOf readOf beside neighbourOf cornerLeafOf rasterTree preorder firstQuadrant sonType pathTo holder pixel treeAt depthTo allOf typeOk fatherOk onceOk sonOk wordOk sonsOk depthOk sonAlike mixedOk faultAt faultFrom faultsOf lengthOk sizesOf checkOf askedOf sameLeaf sizeOf sidesOf join treeOf eastStep southStep pathOf column row buildOf pixelsFrom
 marked = refl
 
 -- sheet A is one picture as raster, table and file, in every direction

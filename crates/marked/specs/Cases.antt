@@ -1,9 +1,8 @@
 -- The marked cases as one table: what the definitions give, beside the number of document 01.
-use mathlib.Core.Bool.{Bool, true, cond, _&&_}
+use mathlib.Core.Bool.{Bool, true, _&&_}
 use mathlib.Core.List.{List, [], _∷_}
-use Prim.Native.Nat.{ℕ, zero, suc, _+_, _*_}
+use Prim.Native.Nat.{ℕ, _*_}
 use lib.Dec.{eqb}
-use lib.ListN.{length}
 use Rattle.answer.specs.Numbers.{numberOf}
 use Rattle.quad.specs.Numbers.{none, black, forkType}
 use Rattle.quad.specs.Tree.{sidesOf}
@@ -15,35 +14,15 @@ use Rattle.raster.specs.Raster.{rasterTree, buildOf}
 use Rattle.neighbour.specs.Neighbour.{neighbourOf, cornerLeafOf}
 use Rattle.file.specs.File.{readOf}
 use Rattle.distance.specs.Distance.{distanceAt, plainOutside}
-use Rattle.walk.specs.declared.Place.{Place}
 use Rattle.walk.specs.declared.Answer.{Answer}
-use Rattle.walk.specs.declared.Answer.the-variants.{Moved, Run, EndRow, Done, Refused}
-use Rattle.walk.specs.Walk.{start, stepOf}
+use Rattle.walk.specs.Walk.{start}
+use Rattle.walk.specs.Whole.{trace}
+use Rattle.walk.specs.Rows.{moves, stops, tally, answersOf}
 use Rattle.table.specs.SheetA.{tableA, rasterJ, tableK}
 
--- the kinds of a walk's answers before the first Done, at most k of them: 0 Moved, 1 Run, 2 EndRow, 3 Refused
-abbrev pub counted : Answer → List ℕ → List ℕ
-counted Moved more = 0 ∷ more
-counted (Run c w) more = 1 ∷ more
-counted EndRow more = 2 ∷ more
-counted Done more = []
-counted (Refused c v) more = 3 ∷ more
-
-unfoldable pub walkFrom : ℕ → List ℕ → Place → List ℕ
-walkFrom zero T p = []
-walkFrom (suc k) T p = counted (stepOf T p .answer) (walkFrom k T (stepOf T p .place))
-
--- how many entries of a list are k
-unfoldable pub countOf : ℕ → List ℕ → ℕ
-countOf k [] = 0
-countOf k (a ∷ more) = cond (eqb a k) 1 0 + countOf k more
-
--- the walk over sheet A, and that over the one pixel of (k), with steps to spare
-abbrev pub walkA : List ℕ
-walkA = walkFrom 50 tableA (start 2)
-
-abbrev pub walkK : List ℕ
-walkK = walkFrom 50 tableK (start 0)
+-- of the first k answers of a walk over a sheet of level n, how many are of a kind
+abbrev pub firstAnswers : (Answer → ℕ) → ℕ → ℕ → List ℕ → ℕ
+firstAnswers kind k n T = tally kind (answersOf (trace k T (start n)))
 
 abbrev pub tableJ : List ℕ
 tableJ = preorderTable (rasterTree 2 rasterJ)
@@ -65,8 +44,9 @@ unfoldable pub cases : List Case
 cases =
     -- (a) H is 10 and the walk gives 38 answers before Done; the program's 24 links
     is (sidesOf 2 (treeAt tableA 2 0)) 10
-    ∷ is (length walkA) 38
-    ∷ is (countOf 0 walkA) 24
+    ∷ is (firstAnswers stops 38 2 tableA) 0
+    ∷ is (firstAnswers stops 39 2 tableA) 1
+    ∷ is (firstAnswers moves 38 2 tableA) 24
     -- (b) E of node 1 is node 2, a fork
     ∷ is (numberOf (neighbourOf 2 tableA 1 1)) (256 * 2)
     ∷ is (type tableA 2) forkType
@@ -87,8 +67,9 @@ cases =
     -- (k) one black pixel, n = 0: N = 1, no links (a run and a row's end alone), the distance's mark
     ∷ is (numberOf (buildOf 0 (black ∷ []) 6)) (256 * 1)
     ∷ is (numberOf (checkOf 0 tableK)) (256 * 1)
-    ∷ is (countOf 0 walkK) 0
-    ∷ is (length walkK) 2
+    ∷ is (firstAnswers stops 2 0 tableK) 0
+    ∷ is (firstAnswers stops 3 0 tableK) 1
+    ∷ is (firstAnswers moves 3 0 tableK) 0
     ∷ is (distanceAt plainOutside 0 tableK 0) none
     -- (l) an empty file is 13 at 0
     ∷ is (numberOf (readOf [] 0)) 13
