@@ -107,11 +107,11 @@ module _ (a b c d : ℕ) where
   kinds-last f e g = rw (likeKinds, sameKind, ne-eqb a forkType f, eq-eqb a b e, eq-eqb a c g)
 
 -- what a block comes to, from its pixel or from its quarters
-module _ (n : ℕ) (R : List ℕ) (l x y : ℕ) where
-  pub measure-pixel : (k : ℕ) → l ≡ 0 → k ≡ pictureOf n R x y → _≡_ {A = Measured} (record { nodes = 1; kind = k }) (measureOf (treeOf (pictureOf n R) l x y))
-  unfolding measureOf treeOf sizeOf colour
-  measure-pixel k z e = rw (z, e)
+pub measure-pixel : (f : ℕ → ℕ → ℕ) (x y k : ℕ) → k ≡ f x y → _≡_ {A = Measured} (record { nodes = 1; kind = k }) (measureOf (treeOf f 0 x y))
+unfolding measureOf treeOf sizeOf colour
+measure-pixel f x y k e = rw e
 
+module _ (n : ℕ) (R : List ℕ) (l x y : ℕ) where
   pub measure-four : Picture n R → (l ≡ 0 → ⊥) → (a b c d r : Measured) → a ≡ measureOf (treeOf (pictureOf n R) (l - 1) (2 * x) (2 * y))
       → b ≡ measureOf (treeOf (pictureOf n R) (l - 1) (2 * x + 1) (2 * y)) → c ≡ measureOf (treeOf (pictureOf n R) (l - 1) (2 * x) (2 * y + 1))
       → d ≡ measureOf (treeOf (pictureOf n R) (l - 1) (2 * x + 1) (2 * y + 1)) → r ≡ joinedOf a b c d → r ≡ measureOf (treeOf (pictureOf n R) l x y)

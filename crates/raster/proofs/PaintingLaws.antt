@@ -4,7 +4,7 @@ use mathlib.Core.List.{List}
 use mathlib.Core.Logic.{⊎-elim}
 use mathlib.Core.Path.{_≡_, refl, ap, sym, _∙_}
 use Prim.Native.Nat.{ℕ, suc, _+_, _-_, _*_, _/_, _%_, _^_, _≤_, _<_}
-use native.Mathlib.Nat.{eq-or-lt-of-le, suc-mul, mul-le-mul-right, mod-lt}
+use native.Mathlib.Nat.{add-zero, mul-one, eq-or-lt-of-le, suc-mul, mul-le-mul-right, mod-lt}
 use native.Mathlib.Omega.{arith}
 use lib.Dec.{leb, ltb, eqb}
 use lib.ListN.{length, getD, set, length-set}
@@ -21,7 +21,8 @@ use Rattle.table.specs.Rules.{depthTo}
 use Rattle.table.specs.Nodes.{treeAt}
 use Rattle.table.proofs.AcceptedLaws.{tree-leaf, sons-of, fork-deep, depth-son}
 use Rattle.table.proofs.PictureLaws.{tree-son as table-son}
-use Rattle.raster.proofs.BlockLaws.{on-son}
+use Rattle.raster.proofs.BlockLaws.{on-son, block-fits, place-lt}
+use Rattle.raster.specs.Blocks.{OnSheet}
 use Rattle.raster.specs.Painting.{within, Filled, Painted, inBlock, inRows, coloursAt, Paintable}
 
 -- places in one row of a sheet of side s, both between its ends, are in the same row
@@ -147,6 +148,16 @@ module _ (n l X Y c : ℕ) (U : List ℕ) where
   pub rows-all : (j : ℕ) (W : List ℕ) → j ≡ 2 ^ l → Painted n (inRows l X Y j) (λ i j. c) U W → Painted n (inBlock l X Y) (λ i j. c) U W
   unfolding inRows inBlock
   rows-all j W e p = record { size = p .size; pixels = λ x y hx hy. p .pixels x y hx hy ∙ rw (e, span l Y y) }
+
+-- a block of one pixel
+pub painted-pixel : (n x y c : ℕ) (U : List ℕ) → OnSheet n 0 x y → length U ≡ 4 ^ n → Painted n (inBlock 0 x y) (λ i j. c) U (set U (y * 2 ^ n + x) c)
+painted-pixel n x y c U o e =
+    let place : ℕ = y * 2 ^ n + x in
+    let z : place + 0 ≡ place = add-zero place in
+    let lt : place + 0 < length U = omega (arith, place-lt o) in
+    let f : Filled place 1 c U (set U place c) = rw z at (filled-more place 0 c U U lt (filled-none place c U)) in
+    let a : (y * 1 + 0) * 2 ^ n + x * 1 ≡ place = rw (mul-one y, add-zero y, mul-one x) in
+    rows-all n 0 x y c U 1 _ refl (rows-more n 0 x y c U 0 U _ (block-fits o .0) (rows-none n 0 x y c U) (rw a f))
 
 -- a block, quarter by quarter
 half-test : (b X : ℕ) → eqb (b / 2) X ≡ eqb b (2 * X) || eqb b (2 * X + 1)

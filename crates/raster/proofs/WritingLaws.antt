@@ -18,9 +18,8 @@ use Rattle.table.specs.Preorder.{preorder}
 use Rattle.table.proofs.PreorderLaws.{sets-apart, Written, written-fork}
 use Rattle.table.proofs.PreorderAccepted.{sonNode, node-end}
 use Rattle.raster.specs.declared.Measured.{Measured}
-use Rattle.raster.specs.Raster.{pictureOf}
 use Rattle.raster.specs.Blocks.{measureOf, joinedOf}
-use Rattle.raster.proofs.BlockLaws.{tree-quarters, join-measure, measure-pixel, joined-fork}
+use Rattle.raster.proofs.BlockLaws.{tree-quarters, join-measure, joined-fork}
 use Rattle.raster.specs.Writing.{ahead, lateWords, forkPut, ForkRoom, Room, Ready, Put}
 
 pub late-fork : (U : List ℕ) (i f kind : ℕ) → kind ≡ forkType → U ≡ sets U i (lateWords f kind)
@@ -181,9 +180,8 @@ module _ (A B C D : Tree) (f p : ℕ) (ha : Coloured A) (hb : Coloured B) (hc : 
           rw j (unfold ahead in fork-words after h)
 
 -- a pixel writes nothing
-pub put-pixel : (n : ℕ) (R : List ℕ) (l x y f p : ℕ) (U : List ℕ) (k : ℕ) → l ≡ 0 → k ≡ pictureOf n R x y
-    → Put (treeOf (pictureOf n R) l x y) f p U U (record { nodes = 1; kind = k })
-put-pixel n R l x y f p U k z e = record { measured = measure-pixel n R l x y k z e; words = unfold treeOf ahead in rw z }
+pub put-pixel : (f : ℕ → ℕ → ℕ) (x y fa p : ℕ) (U : List ℕ) (m : Measured) → m ≡ measureOf (treeOf f 0 x y) → Put (treeOf f 0 x y) fa p U U m
+put-pixel f x y fa p U m e = record { measured = e; words = unfold treeOf ahead in refl }
 
 pub put-length : {t : Tree} {f p : ℕ} {U W : List ℕ} {r : Measured} → Put t f p U W r → length W ≡ length U
 put-length {t} {f} {p} {U} h = ap length (h .words) ∙ length-sets U (6 * p) (ahead f p t)

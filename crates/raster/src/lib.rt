@@ -35,6 +35,17 @@ fn pixel_at(raster: &[u8], n: u32, x: usize, y: usize) -> u32
     raster[y * across + x] as u32
 }
 
+// What the tree of one pixel comes to.
+fn leaf_at(raster: &[u8], n: u32, x: usize, y: usize) -> Measured
+    requires { ⌜ Picture n (now raster) × OnSheet n 0 x y ⌝ }
+    ensures { λ r. ⌜ r ≡ measureOf (treeOf (pictureOf n (now (raster .entry))) 0 x y) ⌝ }
+{
+    Measured {
+        nodes: 1,
+        kind: pixel_at(raster, n, x, y),
+    }
+}
+
 // Whether four kinds are those of four like leaves.
 fn alike(nw: u32, ne: u32, sw: u32, se: u32) -> bool
     ensures { λ r. ⌜ r ≡ likeKinds nw ne sw se ⌝ }
@@ -65,16 +76,32 @@ fn joined(nw: Measured, ne: Measured, sw: Measured, se: Measured) -> Measured
     }
 }
 
+// What the tree of a block of four pixels comes to.
+fn measure_four(raster: &[u8], n: u32, x: usize, y: usize) -> Measured
+    requires { ⌜ Picture n (now raster) × OnSheet n 1 x y ⌝ }
+    ensures { λ r. ⌜ r ≡ measureOf (treeOf (pictureOf n (now (raster .entry))) 1 x y) ⌝ }
+{
+    let west = 2 * x;
+    let north = 2 * y;
+    let east = west + 1;
+    let south = north + 1;
+    let nw = leaf_at(raster, n, west, north);
+    let ne = leaf_at(raster, n, east, north);
+    let sw = leaf_at(raster, n, west, south);
+    let se = leaf_at(raster, n, east, south);
+    joined(nw, ne, sw, se)
+}
+
 // What the tree of a block comes to, from its pixels up.
 fn measure(raster: &[u8], n: u32, level: u32, x: usize, y: usize) -> Measured
     requires { ⌜ Picture n (now raster) × OnSheet n level x y ⌝ }
     ensures { λ r. ⌜ r ≡ measureOf (treeOf (pictureOf n (now (raster .entry))) level x y) ⌝ }
 {
     if level == 0 {
-        return Measured {
-            nodes: 1,
-            kind: pixel_at(raster, n, x, y),
-        };
+        return leaf_at(raster, n, x, y);
+    }
+    if level == 1 {
+        return measure_four(raster, n, x, y);
     }
     let half = level - 1;
     let west = 2 * x;
@@ -124,6 +151,35 @@ fn put_fork(
     table::put_node(table, p as usize, father, a, b, c, d, quad::FORK as u32);
 }
 
+// Writes the tree of a block of four pixels from node p on where it is a fork, and gives what it comes to.
+fn put_four(
+    raster: &[u8],
+    n: u32,
+    x: usize,
+    y: usize,
+    table: &mut [u32],
+    p: u32,
+    father: u32,
+) -> Measured
+    requires { ⌜ Picture n (now raster) × OnSheet n 1 x y × Ready (treeOf (pictureOf n (now raster)) 1 x y) 1 p (length (now table)) ⌝ }
+    ensures { λ r. ⌜ Put (treeOf (pictureOf n (now (raster .entry))) 1 x y) father p (now (table .entry)) (now (table .exit)) r ⌝ }
+{
+    let west = 2 * x;
+    let north = 2 * y;
+    let east = west + 1;
+    let south = north + 1;
+    let nw = leaf_at(raster, n, west, north);
+    let ne = leaf_at(raster, n, east, north);
+    let sw = leaf_at(raster, n, west, south);
+    let se = leaf_at(raster, n, east, south);
+    let whole = joined(nw, ne, sw, se);
+    if whole.kind != quad::FORK as u32 {
+        return whole;
+    }
+    put_fork(table, p, father, nw, ne, sw, se);
+    whole
+}
+
 // Writes a block's tree from node p on where it is a fork; a leaf is left to its father. Gives what the tree comes to.
 fn put(
     raster: &[u8],
@@ -139,10 +195,10 @@ fn put(
     ensures { λ r. ⌜ Put (treeOf (pictureOf n (now (raster .entry))) level x y) father p (now (table .entry)) (now (table .exit)) r ⌝ }
 {
     if level == 0 {
-        return Measured {
-            nodes: 1,
-            kind: pixel_at(raster, n, x, y),
-        };
+        return leaf_at(raster, n, x, y);
+    }
+    if level == 1 {
+        return put_four(raster, n, x, y, table, p, father);
     }
     let half = level - 1;
     let west = 2 * x;
@@ -254,6 +310,27 @@ fn fill_block(raster: &mut [u8], n: u32, level: u32, x: usize, y: usize, colour:
     }
 }
 
+// Fills a block of one pixel.
+fn fill_pixel(raster: &mut [u8], n: u32, x: usize, y: usize, colour: u8)
+    requires { ⌜ (n ≤ topLevel) × OnSheet n 0 x y × (length (now raster) ≡ 4 ^ n) ⌝ }
+    ensures { λ _. ⌜ Painted n (inBlock 0 x y) (λ i j. colour) (now (raster .entry)) (now (raster .exit)) ⌝ }
+{
+    let across = side(n);
+    raster[y * across + x] = colour;
+}
+
+// Fills a leaf's block.
+fn fill_leaf(raster: &mut [u8], n: u32, level: u32, x: usize, y: usize, colour: u8)
+    requires { ⌜ (n ≤ topLevel) × OnSheet n level x y × (length (now raster) ≡ 4 ^ n) ⌝ }
+    ensures { λ _. ⌜ Painted n (inBlock level x y) (λ i j. colour) (now (raster .entry)) (now (raster .exit)) ⌝ }
+{
+    if level == 0 {
+        fill_pixel(raster, n, x, y, colour);
+        return;
+    }
+    fill_block(raster, n, level, x, y, colour);
+}
+
 // Paints the block of node p, each pixel once: a leaf fills its block, a fork paints its quarters.
 fn paint(table: &[u32], p: usize, n: u32, level: u32, x: usize, y: usize, raster: &mut [u8])
     requires { ⌜ Paintable n (now table) p level x y (length (now raster)) ⌝ }
@@ -261,7 +338,7 @@ fn paint(table: &[u32], p: usize, n: u32, level: u32, x: usize, y: usize, raster
 {
     let kind = table::word_at(table, p, 5);
     if kind != quad::FORK {
-        fill_block(raster, n, level, x, y, kind as u8);
+        fill_leaf(raster, n, level, x, y, kind as u8);
         return;
     }
     let half = level - 1;

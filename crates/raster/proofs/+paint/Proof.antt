@@ -14,7 +14,7 @@ use borrow.Fn.PlainCycle.{Measures, is, falls, and}
 use Rattle.raster.proofs.paint.Reads as paint
 use Rattle.raster.proofs.paint.Kinds as paint-kinds
 use Rattle.raster.proofs.+paint.Lts-paint as paint-lts
-use Rattle.raster.proofs.fill_block.Reads as fill-block-reads
+use Rattle.raster.proofs.fill_leaf.Reads as fill-leaf-reads
 use Rattle.table.proofs.word_at.Reads as word-at-reads
 use Rattle.raster.proofs.+paint.{statement}
 use Rattle.raster.proofs.+paint.Tie.{close}
@@ -28,84 +28,84 @@ paint-at t = and 2 paint-kinds.ps (is 2 paint-kinds.ps μ-paint t) paint.Pre
 abbrev paint-below : ℕ → In 2 paint-kinds.ps
 paint-below t = and 2 paint-kinds.ps (falls 2 paint-kinds.ps _<_ μ-paint t) paint.Pre
 
-paint-word-at-requires : (t : ℕ) → paint-lts.Need-word-at-requires (word-at-reads.Asked, word-at-reads.Learnt, fill-block-reads.Asked, fill-block-reads.Learnt, paint-below t, paint.Post) (paint-at t) paint.Post
+paint-word-at-requires : (t : ℕ) → paint-lts.Need-word-at-requires (word-at-reads.Asked, word-at-reads.Learnt, fill-leaf-reads.Asked, fill-leaf-reads.Learnt, paint-below t, paint.Post) (paint-at t) paint.Post
 paint-word-at-requires t c κs = (c .before .before .pre .1 .node, omega arith)
 
-paint-cast-fill-block : (t : ℕ) → paint-lts.Need-cast-fill-block (word-at-reads.Asked, word-at-reads.Learnt, fill-block-reads.Asked, fill-block-reads.Learnt, paint-below t, paint.Post) (paint-at t) paint.Post
-paint-cast-fill-block t c = omega (arith, c .before .before .word-at .ensures, type-byte (c .before .before .before .before .before .args .n) (c .before .before .before .before .before .args .table .now) (c .before .before .before .before .before .pre .1 .accepted) (c .before .before .before .before .before .args .p) (c .before .before .before .before .before .pre .1 .node))
+paint-cast-fill-leaf : (t : ℕ) → paint-lts.Need-cast-fill-leaf (word-at-reads.Asked, word-at-reads.Learnt, fill-leaf-reads.Asked, fill-leaf-reads.Learnt, paint-below t, paint.Post) (paint-at t) paint.Post
+paint-cast-fill-leaf t c = omega (arith, c .before .before .word-at .ensures, type-byte (c .before .before .before .before .before .args .n) (c .before .before .before .before .before .args .table .now) (c .before .before .before .before .before .pre .1 .accepted) (c .before .before .before .before .before .args .p) (c .before .before .before .before .before .pre .1 .node))
 
-paint-fill-block-requires : (t : ℕ) → paint-lts.Need-fill-block-requires (word-at-reads.Asked, word-at-reads.Learnt, fill-block-reads.Asked, fill-block-reads.Learnt, paint-below t, paint.Post) (paint-at t) paint.Post
-paint-fill-block-requires t c κs = (c .before .before .before .before .before .pre .1 .accepted .sized .level, c .before .before .before .before .before .pre .1 .block, c .before .before .before .before .before .pre .1 .whole)
+paint-fill-leaf-requires : (t : ℕ) → paint-lts.Need-fill-leaf-requires (word-at-reads.Asked, word-at-reads.Learnt, fill-leaf-reads.Asked, fill-leaf-reads.Learnt, paint-below t, paint.Post) (paint-at t) paint.Post
+paint-fill-leaf-requires t c κs = (c .before .before .before .before .before .pre .1 .accepted .sized .level, c .before .before .before .before .before .pre .1 .block, c .before .before .before .before .before .pre .1 .whole)
 
-paint-same-length : (t : ℕ) → paint-lts.Need-same-length (word-at-reads.Asked, word-at-reads.Learnt, fill-block-reads.Asked, fill-block-reads.Learnt, paint-below t, paint.Post) (paint-at t) paint.Post
-paint-same-length t c = c .before .before .fill-block .kept .0
+paint-same-length : (t : ℕ) → paint-lts.Need-same-length (word-at-reads.Asked, word-at-reads.Learnt, fill-leaf-reads.Asked, fill-leaf-reads.Learnt, paint-below t, paint.Post) (paint-at t) paint.Post
+paint-same-length t c = c .before .before .fill-leaf .kept .0
 
-paint-returns : (t : ℕ) → paint-lts.Need-returns (word-at-reads.Asked, word-at-reads.Learnt, fill-block-reads.Asked, fill-block-reads.Learnt, paint-below t, paint.Post) (paint-at t) paint.Post
-paint-returns t c = painted-leaf (c .before .before .before .before .before .before .before .before .args .table .now) _ _ _ _ _ _ _ _ (c .before .before .before .before .before .word-at .ensures) (c .before .before .before .before .if1 .taken) (c .before .before .fill-block .ensures)
+paint-returns : (t : ℕ) → paint-lts.Need-returns (word-at-reads.Asked, word-at-reads.Learnt, fill-leaf-reads.Asked, fill-leaf-reads.Learnt, paint-below t, paint.Post) (paint-at t) paint.Post
+paint-returns t c = painted-leaf (c .before .before .before .before .before .before .before .before .args .table .now) _ _ _ _ _ _ _ _ (c .before .before .before .before .before .word-at .ensures) (c .before .before .before .before .if1 .taken) (c .before .before .fill-leaf .ensures)
 
-paint-sub-half : (t : ℕ) → paint-lts.Need-sub-half (word-at-reads.Asked, word-at-reads.Learnt, fill-block-reads.Asked, fill-block-reads.Learnt, paint-below t, paint.Post) (paint-at t) paint.Post
+paint-sub-half : (t : ℕ) → paint-lts.Need-sub-half (word-at-reads.Asked, word-at-reads.Learnt, fill-leaf-reads.Asked, fill-leaf-reads.Learnt, paint-below t, paint.Post) (paint-at t) paint.Post
 paint-sub-half t c =
     let s = c .before .before .before .before .args in
     let h = c .before .before .before .before .pre .1 in
     let fk : isFork (s .table .now) (s .p) ≡ true = eq-eqb _ forkType (sym (c .before .word-at .ensures) ∙ c .if1 .left) in
     omega (arith, fork-above h fk)
 
-paint-mul-west : (t : ℕ) → paint-lts.Need-mul-west (word-at-reads.Asked, word-at-reads.Learnt, fill-block-reads.Asked, fill-block-reads.Learnt, paint-below t, paint.Post) (paint-at t) paint.Post
+paint-mul-west : (t : ℕ) → paint-lts.Need-mul-west (word-at-reads.Asked, word-at-reads.Learnt, fill-leaf-reads.Asked, fill-leaf-reads.Learnt, paint-below t, paint.Post) (paint-at t) paint.Post
 paint-mul-west t c = omega (arith, on-small (c .before .before .before .before .pre .1 .accepted .sized .level) (c .before .before .before .before .pre .1 .block))
 
-paint-mul-north : (t : ℕ) → paint-lts.Need-mul-north (word-at-reads.Asked, word-at-reads.Learnt, fill-block-reads.Asked, fill-block-reads.Learnt, paint-below t, paint.Post) (paint-at t) paint.Post
+paint-mul-north : (t : ℕ) → paint-lts.Need-mul-north (word-at-reads.Asked, word-at-reads.Learnt, fill-leaf-reads.Asked, fill-leaf-reads.Learnt, paint-below t, paint.Post) (paint-at t) paint.Post
 paint-mul-north t c = omega (arith, on-small (c .before .before .before .before .pre .1 .accepted .sized .level) (c .before .before .before .before .pre .1 .block))
 
-paint-add-east : (t : ℕ) → paint-lts.Need-add-east (word-at-reads.Asked, word-at-reads.Learnt, fill-block-reads.Asked, fill-block-reads.Learnt, paint-below t, paint.Post) (paint-at t) paint.Post
+paint-add-east : (t : ℕ) → paint-lts.Need-add-east (word-at-reads.Asked, word-at-reads.Learnt, fill-leaf-reads.Asked, fill-leaf-reads.Learnt, paint-below t, paint.Post) (paint-at t) paint.Post
 paint-add-east t c = omega (arith, on-small (c .before .before .before .before .pre .1 .accepted .sized .level) (c .before .before .before .before .pre .1 .block))
 
-paint-add-south : (t : ℕ) → paint-lts.Need-add-south (word-at-reads.Asked, word-at-reads.Learnt, fill-block-reads.Asked, fill-block-reads.Learnt, paint-below t, paint.Post) (paint-at t) paint.Post
+paint-add-south : (t : ℕ) → paint-lts.Need-add-south (word-at-reads.Asked, word-at-reads.Learnt, fill-leaf-reads.Asked, fill-leaf-reads.Learnt, paint-below t, paint.Post) (paint-at t) paint.Post
 paint-add-south t c = omega (arith, on-small (c .before .before .before .before .pre .1 .accepted .sized .level) (c .before .before .before .before .pre .1 .block))
 
-paint-word-at-requires-2 : (t : ℕ) → paint-lts.Need-word-at-requires-2 (word-at-reads.Asked, word-at-reads.Learnt, fill-block-reads.Asked, fill-block-reads.Learnt, paint-below t, paint.Post) (paint-at t) paint.Post
+paint-word-at-requires-2 : (t : ℕ) → paint-lts.Need-word-at-requires-2 (word-at-reads.Asked, word-at-reads.Learnt, fill-leaf-reads.Asked, fill-leaf-reads.Learnt, paint-below t, paint.Post) (paint-at t) paint.Post
 paint-word-at-requires-2 t c κs = (c .before .before .before .before .pre .1 .node, omega arith)
 
-paint-word-at-requires-3 : (t : ℕ) → paint-lts.Need-word-at-requires-3 (word-at-reads.Asked, word-at-reads.Learnt, fill-block-reads.Asked, fill-block-reads.Learnt, paint-below t, paint.Post) (paint-at t) paint.Post
+paint-word-at-requires-3 : (t : ℕ) → paint-lts.Need-word-at-requires-3 (word-at-reads.Asked, word-at-reads.Learnt, fill-leaf-reads.Asked, fill-leaf-reads.Learnt, paint-below t, paint.Post) (paint-at t) paint.Post
 paint-word-at-requires-3 t c κs = (c .before .before .before .before .before .pre .1 .node, omega arith)
 
-paint-word-at-requires-4 : (t : ℕ) → paint-lts.Need-word-at-requires-4 (word-at-reads.Asked, word-at-reads.Learnt, fill-block-reads.Asked, fill-block-reads.Learnt, paint-below t, paint.Post) (paint-at t) paint.Post
+paint-word-at-requires-4 : (t : ℕ) → paint-lts.Need-word-at-requires-4 (word-at-reads.Asked, word-at-reads.Learnt, fill-leaf-reads.Asked, fill-leaf-reads.Learnt, paint-below t, paint.Post) (paint-at t) paint.Post
 paint-word-at-requires-4 t c κs = (c .before .before .before .before .before .before .pre .1 .node, omega arith)
 
-paint-word-at-requires-5 : (t : ℕ) → paint-lts.Need-word-at-requires-5 (word-at-reads.Asked, word-at-reads.Learnt, fill-block-reads.Asked, fill-block-reads.Learnt, paint-below t, paint.Post) (paint-at t) paint.Post
+paint-word-at-requires-5 : (t : ℕ) → paint-lts.Need-word-at-requires-5 (word-at-reads.Asked, word-at-reads.Learnt, fill-leaf-reads.Asked, fill-leaf-reads.Learnt, paint-below t, paint.Post) (paint-at t) paint.Post
 paint-word-at-requires-5 t c κs = (c .before .before .before .before .before .before .before .pre .1 .node, omega arith)
 
-paint-paint-requires : (t : ℕ) → paint-lts.Need-paint-requires (word-at-reads.Asked, word-at-reads.Learnt, fill-block-reads.Asked, fill-block-reads.Learnt, paint-below t, paint.Post) (paint-at t) paint.Post
+paint-paint-requires : (t : ℕ) → paint-lts.Need-paint-requires (word-at-reads.Asked, word-at-reads.Learnt, fill-leaf-reads.Asked, fill-leaf-reads.Learnt, paint-below t, paint.Post) (paint-at t) paint.Post
 paint-paint-requires t c κs =
     let s = c .before .before .before .before .before .before .before .before .before .args in
     let h = c .before .before .before .before .before .before .before .before .before .pre .1 in
     let fk : isFork (s .table .now) (s .p) ≡ true = eq-eqb _ forkType (sym (c .before .before .before .before .before .before .word-at .ensures) ∙ c .before .before .before .before .before .if1 .left) in
     (omega (arith, c .before .before .before .before .before .before .before .before .before .pre .0, fork-above h fk), paintable-son h fk 0 _ _ _ (omega arith) (c .before .before .before .before .word-at2 .ensures) (omega arith) (omega arith))
 
-paint-paint-requires-2 : (t : ℕ) → paint-lts.Need-paint-requires-2 (word-at-reads.Asked, word-at-reads.Learnt, fill-block-reads.Asked, fill-block-reads.Learnt, paint-below t, paint.Post) (paint-at t) paint.Post
+paint-paint-requires-2 : (t : ℕ) → paint-lts.Need-paint-requires-2 (word-at-reads.Asked, word-at-reads.Learnt, fill-leaf-reads.Asked, fill-leaf-reads.Learnt, paint-below t, paint.Post) (paint-at t) paint.Post
 paint-paint-requires-2 t c κs =
     let s = c .before .before .before .before .before .before .before .before .before .before .before .before .before .args in
     let h = c .before .before .before .before .before .before .before .before .before .before .before .before .before .pre .1 in
     let fk : isFork (s .table .now) (s .p) ≡ true = eq-eqb _ forkType (sym (c .before .before .before .before .before .before .before .before .before .before .word-at .ensures) ∙ c .before .before .before .before .before .before .before .before .before .if1 .left) in
     (omega (arith, c .before .before .before .before .before .before .before .before .before .before .before .before .before .pre .0, fork-above h fk), rw (c .before .before .before .paint .kept .1 .1 .1 .1 .1 .1 .0) (paintable-son h fk 1 _ _ _ (omega arith) (c .before .before .before .before .before .before .before .word-at3 .ensures) (omega arith) (omega arith)))
 
-paint-paint-requires-3 : (t : ℕ) → paint-lts.Need-paint-requires-3 (word-at-reads.Asked, word-at-reads.Learnt, fill-block-reads.Asked, fill-block-reads.Learnt, paint-below t, paint.Post) (paint-at t) paint.Post
+paint-paint-requires-3 : (t : ℕ) → paint-lts.Need-paint-requires-3 (word-at-reads.Asked, word-at-reads.Learnt, fill-leaf-reads.Asked, fill-leaf-reads.Learnt, paint-below t, paint.Post) (paint-at t) paint.Post
 paint-paint-requires-3 t c κs =
     let s = c .before .before .before .before .before .before .before .before .before .before .before .before .before .before .before .before .before .args in
     let h = c .before .before .before .before .before .before .before .before .before .before .before .before .before .before .before .before .before .pre .1 in
     let fk : isFork (s .table .now) (s .p) ≡ true = eq-eqb _ forkType (sym (c .before .before .before .before .before .before .before .before .before .before .before .before .before .before .word-at .ensures) ∙ c .before .before .before .before .before .before .before .before .before .before .before .before .before .if1 .left) in
     (omega (arith, c .before .before .before .before .before .before .before .before .before .before .before .before .before .before .before .before .before .pre .0, fork-above h fk), rw (c .before .before .before .paint2 .kept .1 .1 .1 .1 .1 .1 .0, c .before .before .before .before .before .before .before .paint .kept .1 .1 .1 .1 .1 .1 .0) (paintable-son h fk 2 _ _ _ (omega arith) (c .before .before .before .before .before .before .before .before .before .before .word-at4 .ensures) (omega arith) (omega arith)))
 
-paint-paint-requires-4 : (t : ℕ) → paint-lts.Need-paint-requires-4 (word-at-reads.Asked, word-at-reads.Learnt, fill-block-reads.Asked, fill-block-reads.Learnt, paint-below t, paint.Post) (paint-at t) paint.Post
+paint-paint-requires-4 : (t : ℕ) → paint-lts.Need-paint-requires-4 (word-at-reads.Asked, word-at-reads.Learnt, fill-leaf-reads.Asked, fill-leaf-reads.Learnt, paint-below t, paint.Post) (paint-at t) paint.Post
 paint-paint-requires-4 t c κs =
     let s = c .before .before .before .before .before .before .before .before .before .before .before .before .before .before .before .before .before .before .before .before .before .args in
     let h = c .before .before .before .before .before .before .before .before .before .before .before .before .before .before .before .before .before .before .before .before .before .pre .1 in
     let fk : isFork (s .table .now) (s .p) ≡ true = eq-eqb _ forkType (sym (c .before .before .before .before .before .before .before .before .before .before .before .before .before .before .before .before .before .before .word-at .ensures) ∙ c .before .before .before .before .before .before .before .before .before .before .before .before .before .before .before .before .before .if1 .left) in
     (omega (arith, c .before .before .before .before .before .before .before .before .before .before .before .before .before .before .before .before .before .before .before .before .before .pre .0, fork-above h fk), rw (c .before .before .before .paint3 .kept .1 .1 .1 .1 .1 .1 .0, c .before .before .before .before .before .before .before .paint2 .kept .1 .1 .1 .1 .1 .1 .0, c .before .before .before .before .before .before .before .before .before .before .before .paint .kept .1 .1 .1 .1 .1 .1 .0) (paintable-son h fk 3 _ _ _ (omega arith) (c .before .before .before .before .before .before .before .before .before .before .before .before .before .word-at5 .ensures) (omega arith) (omega arith)))
 
-paint-same-length-2 : (t : ℕ) → paint-lts.Need-same-length-2 (word-at-reads.Asked, word-at-reads.Learnt, fill-block-reads.Asked, fill-block-reads.Learnt, paint-below t, paint.Post) (paint-at t) paint.Post
+paint-same-length-2 : (t : ℕ) → paint-lts.Need-same-length-2 (word-at-reads.Asked, word-at-reads.Learnt, fill-leaf-reads.Asked, fill-leaf-reads.Learnt, paint-below t, paint.Post) (paint-at t) paint.Post
 paint-same-length-2 t c = c .before .before .paint4 .kept .1 .1 .1 .1 .1 .1 .0 ∙ c .before .before .before .before .before .before .paint3 .kept .1 .1 .1 .1 .1 .1 .0 ∙ c .before .before .before .before .before .before .before .before .before .before .paint2 .kept .1 .1 .1 .1 .1 .1 .0 ∙ c .before .before .before .before .before .before .before .before .before .before .before .before .before .before .paint .kept .1 .1 .1 .1 .1 .1 .0
 
-paint-returns-2 : (t : ℕ) → paint-lts.Need-returns-2 (word-at-reads.Asked, word-at-reads.Learnt, fill-block-reads.Asked, fill-block-reads.Learnt, paint-below t, paint.Post) (paint-at t) paint.Post
+paint-returns-2 : (t : ℕ) → paint-lts.Need-returns-2 (word-at-reads.Asked, word-at-reads.Learnt, fill-leaf-reads.Asked, fill-leaf-reads.Learnt, paint-below t, paint.Post) (paint-at t) paint.Post
 paint-returns-2 t c =
     let s = c .before .before .before .before .before .before .before .before .before .before .before .before .before .before .before .before .before .before .before .before .before .before .before .before .args in
     let h = c .before .before .before .before .before .before .before .before .before .before .before .before .before .before .before .before .before .before .before .before .before .before .before .before .pre .1 in
@@ -117,12 +117,12 @@ paint-returns-2 t c =
     (rw (c .before .before .before .before .before .before .before .before .before .before .before .before .before .before .before .before .word-at5 .ensures) at (c .before .before .paint4 .ensures))
 
 pub +paint-spec : {M : Type 1} → statement M
-+paint-spec = close μ-paint λ t. paint-lts.spec (word-at-reads.Asked, word-at-reads.Learnt, fill-block-reads.Asked, fill-block-reads.Learnt, paint-below t, paint.Post)
++paint-spec = close μ-paint λ t. paint-lts.spec (word-at-reads.Asked, word-at-reads.Learnt, fill-leaf-reads.Asked, fill-leaf-reads.Learnt, paint-below t, paint.Post)
     (paint-at t)
     paint.Post
     (paint-word-at-requires t)
-    (paint-cast-fill-block t)
-    (paint-fill-block-requires t)
+    (paint-cast-fill-leaf t)
+    (paint-fill-leaf-requires t)
     (paint-same-length t)
     (paint-returns t)
     (paint-sub-half t)
