@@ -107,9 +107,9 @@ module _ (n : ℕ) (T : List ℕ) (p kind : ℕ) (k : kind ≡ type T p) where
     pub mark-word : (best : ℕ) → best ≡ offsetAround n T p stay → best ≡ none → none ≡ distanceAt plainOutside n T p
     mark-word best e z = sym (black-word ∙ at-none _ _ (sym e ∙ z))
 
-    pub some-word : (best w d : ℕ) → best ≡ offsetAround n T p stay → (best ≡ none → ⊥) → d ≡ depthTo T n p → w ≡ 2 ^ (n - d)
-        → w + 2 * best ≡ distanceAt plainOutside n T p
-    some-word best w d e z ed ew = rw (ew, ed, e) (sym (black-word ∙ at-some _ _ (λ q. z (e ∙ q))))
+    pub some-word : (best w d r : ℕ) → best ≡ offsetAround n T p stay → (best ≡ none → ⊥) → d ≡ depthTo T n p → w ≡ 2 ^ (n - d) → r ≡ w + 2 * best
+        → r ≡ distanceAt plainOutside n T p
+    some-word best w d r e z ed ew er = er ∙ rw (ew, ed, e) (sym (black-word ∙ at-some _ _ (λ q. z (e ∙ q))))
 
     pub some-fits : (best : ℕ) → best ≡ offsetAround n T p stay → (best ≡ none → ⊥) → best < 2 ^ topLevel
     some-fits best e z =
