@@ -82,6 +82,12 @@ module _ (n : ℕ) (T : List ℕ) (p : ℕ) where
   pub around-all : (best d : ℕ) → stay ≤ d → d ≤ stay → best ≡ offsetAround n T p d → best ≡ offsetAround n T p stay
   around-all best d h l e = e ∙ ap (offsetAround n T p) (omega arith)
 
+-- the word of a leaf that is not white
+pub black-nearest : (n : ℕ) (T : List ℕ) (p : ℕ) → isFork T p ≡ false → (type T p ≡ white → ⊥)
+    → distanceAt plainOutside n T p ≡ nearest plainOutside n (pixel n T) (centreAcross n T p) (centreDown n T p)
+unfolding distanceAt
+black-nearest n T p f dark = rw (distanceAt, ne-eqb (type T p) white dark, f)
+
 -- the word of a node
 module _ (n : ℕ) (T : List ℕ) (p kind : ℕ) (k : kind ≡ type T p) where
   pub white-word : kind ≡ white → 0 ≡ distanceAt plainOutside n T p
@@ -94,18 +100,16 @@ module _ (n : ℕ) (T : List ℕ) (p kind : ℕ) (k : kind ≡ type T p) where
 
   module _ (acc : Accepted n T) (lt : p < nodes T) (h : kind ≡ white → ⊥) (g : kind ≡ forkType → ⊥) where
     black-word : distanceAt plainOutside n T p ≡ atOffset (2 ^ levelOf n T p) (offsetAround n T p stay)
-    unfolding distanceAt
     black-word =
-        let w : eqb (type T p) white ≡ false = ne-eqb (type T p) white (λ q. h (k ∙ q)) in
         let f : isFork T p ≡ false = ne-eqb (type T p) forkType (λ q. g (k ∙ q)) in
-        rw (distanceAt, w, f) (leaf-nearest n T acc p lt f (λ q. h (k ∙ q)))
+        black-nearest n T p f (λ q. h (k ∙ q)) ∙ leaf-nearest n T acc p lt f (λ q. h (k ∙ q))
 
     pub mark-word : (best : ℕ) → best ≡ offsetAround n T p stay → best ≡ none → none ≡ distanceAt plainOutside n T p
     mark-word best e z = sym (black-word ∙ at-none _ _ (sym e ∙ z))
 
-    pub some-word : (best w d : ℕ) → best ≡ offsetAround n T p stay → (best ≡ none → ⊥) → d ≡ depthTo T n p → w ≡ 2 ^ (n - d)
-        → w + 2 * best ≡ distanceAt plainOutside n T p
-    some-word best w d e z ed ew = rw (ew, ed, e) (sym (black-word ∙ at-some _ _ (λ q. z (e ∙ q))))
+    pub some-word : (best w d r : ℕ) → best ≡ offsetAround n T p stay → (best ≡ none → ⊥) → d ≡ depthTo T n p → w ≡ 2 ^ (n - d) → r ≡ w + 2 * best
+        → r ≡ distanceAt plainOutside n T p
+    some-word best w d r e z ed ew er = er ∙ rw (ew, ed, e) (sym (black-word ∙ at-some _ _ (λ q. z (e ∙ q))))
 
     pub some-fits : (best : ℕ) → best ≡ offsetAround n T p stay → (best ≡ none → ⊥) → best < 2 ^ topLevel
     some-fits best e z =

@@ -86,7 +86,7 @@ step-or-apart X B =
     (lt-or-ge (B + 1) X)
 
 module _ (n : ℕ) (T : List ℕ) (acc : Accepted n T) (p : ℕ) (lt : p < nodes T) where
-  abbrev depth : ℕ
+  abbrev pub depth : ℕ
   depth = length (pathTo T n p)
 
   abbrev X : ℕ

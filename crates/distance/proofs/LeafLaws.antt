@@ -83,6 +83,15 @@ module _ (n : ℕ) (T : List ℕ) (acc : Accepted n T) (p : ℕ) (lt : p < nodes
       let b = white-beside n T acc p lt pos f dark in
       met (b .D) (b .i) (b .j) (b .below) (b .near) (b .white .colour) .0
 
+  -- and so does a leaf on a sheet with a white pixel
+  pub white-small : (i j : ℕ) → White n (pixel n T) i j → o < side
+  white-small i j w = go (placed n T acc p lt i j (w .across) (w .down))
+    where
+      go : Placed n T acc p lt i j → o < side
+      go (own ex ey) = absurd (dark (sym (own-pixel n T acc p lt i j f ex ey) ∙ w .colour))
+      go (beside-it D d near) = met D i j d near (w .colour) .0
+      go (away pos h) = father-small pos
+
   -- no white pixel is nearer
   no-nearer : (i j : ℕ) → White n (pixel n T) i j → atOffset side o ≤ toPixel (centreAcross n T p) (centreDown n T p) i j
   no-nearer i j w = go (placed n T acc p lt i j (w .across) (w .down))

@@ -8,3 +8,6 @@ pub mod FatherLaws
 pub mod LeafLaws
 pub mod AroundLaws
 pub mod CallLaws
+pub mod TheoremOne
+pub mod Bounds
+pub mod DistanceCall

@@ -201,6 +201,14 @@ fn around(n: u32, table: &[u32], p: usize, level: u32) -> u32
     best
 }
 
+// In half pixels, from the centre of a leaf of that side to the near edge of a pixel at that offset.
+fn to_edge(side: u32, offset: u32) -> u32
+    requires { ⌜ (side ≤ 2 ^ topLevel) × (offset < 2 ^ topLevel) ⌝ }
+    ensures { λ r. ⌜ r ≡ side + 2 * offset ⌝ }
+{
+    side + 2 * offset
+}
+
 // The distance of node p.
 fn distance(n: u32, table: &[u32], p: usize) -> u32
     requires { ⌜ Accepted n (now table) × (p < nodes (now table)) ⌝ }
@@ -218,7 +226,7 @@ fn distance(n: u32, table: &[u32], p: usize) -> u32
     if best == MARK {
         return MARK;
     }
-    side(level) + 2 * best
+    to_edge(side(level), best)
 }
 
 // Writes the distance of every node.

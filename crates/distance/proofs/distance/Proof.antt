@@ -30,14 +30,13 @@ returns-3 c = mark-word _ _ _ _ (c .before .before .before .before .before .word
 side-requires : tie.Need-side-requires
 side-requires c κs = omega (arith, c .before .before .before .before .before .before .before .pre .0 .sized .level)
 
-mul-result : tie.Need-mul-result
-mul-result c = omega (arith, some-fits _ _ _ _ (c .before .before .before .before .before .before .word-at .ensures) (c .before .before .before .before .before .before .before .before .pre .0) (c .before .before .before .before .before .before .before .before .pre .1) (c .before .before .before .before .before .if1 .left) (c .before .before .before .before .if2 .left) _ (c .before .before .around .ensures) (c .before .if3 .left))
-
-add-result : tie.Need-add-result
-add-result c = omega (arith, some-fits _ _ _ _ (c .before .before .before .before .before .before .word-at .ensures) (c .before .before .before .before .before .before .before .before .pre .0) (c .before .before .before .before .before .before .before .before .pre .1) (c .before .before .before .before .before .if1 .left) (c .before .before .before .before .if2 .left) _ (c .before .before .around .ensures) (c .before .if3 .left), side-fits _ _ _ (c .before .before .before .before .before .before .before .before .pre .0 .sized .level) (c .side .ensures))
+to-edge-requires : tie.Need-to-edge-requires
+to-edge-requires c κs =
+    (side-fits _ _ _ (c .before .before .before .before .before .before .before .before .pre .0 .sized .level) (c .side .ensures), some-fits _ _ _ _ (c .before .before .before .before .before .before .word-at .ensures) (c .before .before .before .before .before .before .before .before .pre .0) (c .before .before .before .before .before .before .before .before .pre .1) (c .before .before .before .before .before .if1 .left) (c .before .before .before .before .if2 .left) _ (c .before .before .around .ensures) (c .before .if3 .left))
 
 returns-4 : tie.Need-returns-4
-returns-4 c = some-word _ _ _ _ (c .before .before .before .before .before .before .word-at .ensures) (c .before .before .before .before .before .before .before .before .pre .0) (c .before .before .before .before .before .before .before .before .pre .1) (c .before .before .before .before .before .if1 .left) (c .before .before .before .before .if2 .left) _ _ _ (c .before .before .around .ensures) (c .before .if3 .left) (c .before .before .before .depth-to .ensures) (c .side .ensures)
+returns-4 c =
+    some-word _ _ _ _ (c .before .before .before .before .before .before .before .word-at .ensures) (c .before .before .before .before .before .before .before .before .before .pre .0) (c .before .before .before .before .before .before .before .before .before .pre .1) (c .before .before .before .before .before .before .if1 .left) (c .before .before .before .before .before .if2 .left) _ _ _ _ (c .before .before .before .around .ensures) (c .before .before .if3 .left) (c .before .before .before .before .depth-to .ensures) (c .before .side .ensures) (c .to-edge .ensures)
 
 pub distance-spec : {M : Type 1} → statement M
 distance-spec =
@@ -51,6 +50,5 @@ distance-spec =
     around-requires
     returns-3
     side-requires
-    mul-result
-    add-result
+    to-edge-requires
     returns-4)
