@@ -4,7 +4,7 @@ use mathlib.Core.Bool.{true, false}
 use mathlib.Core.List.{List, _∷_}
 use mathlib.Core.Logic.{⊎-elim}
 use mathlib.Core.Path.{_≡_, refl, ap, sym, _∙_}
-use Prim.Native.Nat.{ℕ, zero, suc, _+_, _-_, _*_, _/_, _%_, _^_, _<_}
+use Prim.Native.Nat.{ℕ, zero, suc, _+_, _-_, _*_, _/_, _%_, _^_, _≤_, _<_}
 use native.Mathlib.Nat.{pow-succ', mul-left-comm}
 use native.Mathlib.Omega.{arith}
 use lib.Dec.{eqb}
@@ -15,6 +15,7 @@ use Rattle.base.proofs.AllLaws.{all-at}
 use Rattle.base.proofs.BoolLaws.{by-bool}
 use Rattle.base.proofs.CaseLaws.{cond-case}
 use Rattle.answer.specs.declared.Outcome.the-variants.{Answered, NoBlock}
+use Rattle.quad.specs.Numbers.{none}
 use Rattle.quad.specs.Block.{column, row, Quadrants}
 use Rattle.quad.specs.Direction.{adjOf, diagonal}
 use Rattle.table.specs.Table.{nodes, son, isFork}
@@ -119,6 +120,10 @@ module _ (n : ℕ) (T : List ℕ) (acc : Accepted n T) (q p : ℕ) where
       go (suc k) =
           let m : ℕ = cornerDown T q k p in
           cond-case (λ (x : ℕ). x < nodes T) (isFork T m) (son T m q) m (λ f. sons-of n T acc m (go k) f q q4 .below) (λ f. go k)
+
+  -- and its number fits a word
+  pub corner-fits : (r : ℕ) → r ≡ cornerUnder n T q p → p < nodes T → q < 4 → r ≤ none
+  corner-fits r e lt q4 = omega (arith, corner-below lt q4, acc .sized .few)
 
 -- a corner that a side has at one end, and a corner in its own diagonal, go on in that direction
 pub side-on : (D C : ℕ) → D < 4 → adjOf D C ≡ true → onwardOf D C ≡ D

@@ -1,9 +1,8 @@
 -- `neighbour::leaf_beyond`: the neighbour, then down by the mirrored corner, is the leaf that holds the pixel beyond. Assumes nothing.
 use mathlib.Core.Path.{sym, _∙_}
-use Prim.Native.Nat.{_<_}
 use native.Mathlib.Omega.{arith}
 use Rattle.table.proofs.AcceptedLaws.{depth-le}
-use Rattle.neighbour.proofs.CornerLaws.{beyond-off, beyond-node, beyond-at, mirror-small, corner-below}
+use Rattle.neighbour.proofs.CornerLaws.{beyond-off, beyond-node, beyond-at, mirror-small, corner-fits}
 use borrow.Author.Needs.{needs}
 use Rattle.neighbour.proofs.leaf_beyond.Statement.{statement}
 use Rattle.neighbour.proofs.leaf_beyond.Tie as tie
@@ -35,8 +34,7 @@ cast-t10 : tie.Need-cast-t10
 cast-t10 c =
     let z = c .before .before .before .before .before .before .before .pre in
     let lt = beyond-node _ _ _ _ _ z _ _ (sym (c .before .before .before .before .before .seek .ensures) ∙ c .before .before .before .found .given .1) in
-    let q4 : c .before .mirror .result < 4 = rw (c .before .mirror .ensures) (mirror-small _ _ _ _ _ z) in
-    omega (arith, c .corner-of .ensures, corner-below _ _ (z .accepted) _ _ lt q4, z .accepted .sized .few)
+    omega (arith, corner-fits _ _ (z .accepted) _ _ _ (c .corner-of .ensures) lt (omega (arith, c .before .mirror .ensures, mirror-small _ _ _ _ _ z, z .corner)))
 
 returns-2 : tie.Need-returns-2
 returns-2 c =
