@@ -15,8 +15,9 @@ use Rattle.quad.specs.Tree.{Tree, leaf, fork, colour, sameLeaf, alike, Coloured
 use Rattle.quad.proofs.TreeLaws.{size-fits}
 use Rattle.quad.proofs.PictureLaws.{tree-within, tree-coloured}
 use Rattle.raster.specs.declared.Measured.{Measured}
+use Rattle.raster.specs.declared.Quarters.{Quarters}
 use Rattle.raster.specs.Raster.{pictureOf}
-use Rattle.raster.specs.Blocks.{Picture, OnSheet, sameKind, likeKinds, Few, measureOf, joinedOf}
+use Rattle.raster.specs.Blocks.{Picture, OnSheet, sameKind, likeKinds, Few, measureOf, joinedOf, quartersOf}
 
 -- 4 ^ n is the square of the side
 pub four-pow : (n : ℕ) → 4 ^ n ≡ 2 ^ n * 2 ^ n
@@ -147,8 +148,37 @@ block-fits {n} {l} {x} {y} o =
     let e : 2 ^ n ≡ 2 ^ (n - l) * 2 ^ l = ap (λ (k : ℕ). 2 ^ k) (sym s) ∙ pow-add 2 (n - l) l in
     (omega (arith, suc-mul x (2 ^ l), mul-le-mul-right (2 ^ l) (o .across)), omega (arith, suc-mul y (2 ^ l), mul-le-mul-right (2 ^ l) (o .down)))
 
-pub side-small : (n : ℕ) → n ≤ topLevel → 2 ^ n ≤ 2 ^ topLevel
-side-small n top = pow-le-pow-right {n = 2} (omega arith) {i = n} {j = topLevel} top
+pub corner-small : {n l x y : ℕ} → n ≤ topLevel → OnSheet n l x y → (x * 2 ^ l + 2 ^ l ≤ 2 ^ topLevel) × (y * 2 ^ l + 2 ^ l ≤ 2 ^ topLevel)
+corner-small {n} top o =
+    let fit = block-fits o in
+    let small = pow-le-pow-right {n = 2} (omega arith) {i = n} {j = topLevel} top in
+    (omega arith, omega arith)
 
-pub row-fits : (n t e : ℕ) → t < 2 ^ n → e ≤ 2 ^ n → t * 2 ^ n + e ≤ 4 ^ n
-row-fits n t e lt le = rw (four-pow n) (omega (arith, suc-mul t (2 ^ n), mul-le-mul-right (2 ^ n) lt))
+pub row-place : {n l x y : ℕ} → n ≤ topLevel → OnSheet n l x y → (j : ℕ) → j < 2 ^ l
+    → ((y * 2 ^ l + j) * 2 ^ n + x * 2 ^ l + 2 ^ l ≤ 4 ^ n) × (4 ^ n ≤ 4 ^ topLevel)
+row-place {n} {l} {x} {y} top o j lt =
+    let fit = block-fits o in
+    let t : ℕ = y * 2 ^ l + j in
+    let below : t < 2 ^ n = omega arith in
+    (rw (four-pow n) (omega (arith, suc-mul t (2 ^ n), mul-le-mul-right (2 ^ n) below)), pow-le-pow-right {n = 4} (omega arith) {i = n} {j = topLevel} top)
+
+-- the four quarters, one by one
+pub record Parts (f : ℕ → ℕ → ℕ) (l x y : ℕ) (q : Quarters) : Type 0 where
+  pub first : q .nw ≡ measureOf (treeOf f l (2 * x) (2 * y))
+  pub second : q .ne ≡ measureOf (treeOf f l (2 * x + 1) (2 * y))
+  pub third : q .sw ≡ measureOf (treeOf f l (2 * x) (2 * y + 1))
+  pub fourth : q .se ≡ measureOf (treeOf f l (2 * x + 1) (2 * y + 1))
+
+pub parts : (f : ℕ → ℕ → ℕ) (l x y : ℕ) (q : Quarters) → q ≡ quartersOf f l x y → Parts f l x y q
+unfolding quartersOf
+parts f l x y q e = record {
+  first = ap (λ (q : Quarters). q .nw) e;
+  second = ap (λ (q : Quarters). q .ne) e;
+  third = ap (λ (q : Quarters). q .sw) e;
+  fourth = ap (λ (q : Quarters). q .se) e;
+}
+
+pub parts-few : (f : ℕ → ℕ → ℕ) (l x y : ℕ) (q : Quarters) → l ≤ topLevel → q ≡ quartersOf f l x y → Few (q .nw) × Few (q .ne) × Few (q .sw) × Few (q .se)
+parts-few f l x y q top e =
+    let p = parts f l x y q e in
+    (measure-few f l _ _ _ top (p .first), measure-few f l _ _ _ top (p .second), measure-few f l _ _ _ top (p .third), measure-few f l _ _ _ top (p .fourth))

@@ -9,9 +9,10 @@ use Rattle.answer.specs.declared.Outcome.{Outcome}
 use Rattle.answer.specs.declared.Outcome.the-variants.{BadLevel}
 use Rattle.answer.specs.Numbers.{andThen, unless}
 use Rattle.quad.specs.Numbers.{topLevel, topColour, forkType, maxWords}
-use Rattle.quad.specs.Tree.{Tree, colour, sizeOf}
+use Rattle.quad.specs.Tree.{Tree, colour, sizeOf, treeOf}
 use Rattle.raster.specs.Raster.{rasterLength, pixelsFrom}
 use Rattle.raster.specs.declared.Measured.{Measured}
+use Rattle.raster.specs.declared.Quarters.{Quarters}
 
 -- a raster of level n that is not refused: 4 ^ n bytes, all of them colours
 pub record Picture (n : ℕ) (R : List ℕ) : Type 0 where
@@ -50,3 +51,12 @@ unfoldable pub joinedOf : Measured → Measured → Measured → Measured → Me
 joinedOf a b c d =
     cond (likeKinds (a .kind) (b .kind) (c .kind) (d .kind)) a
     (record { nodes = 1 + (a .nodes + (b .nodes + (c .nodes + d .nodes))); kind = forkType })
+
+-- what the quarters of the block (x, y) come to, where they are of level l
+unfoldable pub quartersOf : (ℕ → ℕ → ℕ) → ℕ → ℕ → ℕ → Quarters
+quartersOf f l x y = record {
+  nw = measureOf (treeOf f l (2 * x) (2 * y));
+  ne = measureOf (treeOf f l (2 * x + 1) (2 * y));
+  sw = measureOf (treeOf f l (2 * x) (2 * y + 1));
+  se = measureOf (treeOf f l (2 * x + 1) (2 * y + 1));
+}

@@ -8,7 +8,7 @@ ghost use Rattle.quad.specs.Numbers.{topLevel};
 ghost use Rattle.quad.specs.Tree.{treeOf};
 ghost use Rattle.raster.specs.Raster.{pictureOf, rasterLength, pixelsFrom};
 ghost use Rattle.raster.specs.Calls.{Builds, Decodes};
-ghost use Rattle.raster.specs.Blocks.{Picture, readableOf, OnSheet, Few, likeKinds, joinedOf, measureOf};
+ghost use Rattle.raster.specs.Blocks.{Picture, readableOf, OnSheet, Few, likeKinds, joinedOf, measureOf, quartersOf};
 ghost use Rattle.raster.specs.Painting.{Filled, Painted, inBlock, coloursAt, Paintable};
 ghost use Rattle.raster.specs.Writing.{lateWords, ForkRoom, forkPut, Ready, Put};
 
@@ -16,6 +16,14 @@ ghost use Rattle.raster.specs.Writing.{lateWords, ForkRoom, forkPut, Rea
 pub struct Measured {
     pub nodes: u32,
     pub kind: u32,
+}
+
+// The four quarters of a block.
+pub struct Quarters {
+    pub nw: Measured,
+    pub ne: Measured,
+    pub sw: Measured,
+    pub se: Measured,
 }
 
 // The side of a sheet.
@@ -76,10 +84,10 @@ fn joined(nw: Measured, ne: Measured, sw: Measured, se: Measured) -> Measured
     }
 }
 
-// What the tree of a block of four pixels comes to.
-fn measure_four(raster: &[u8], n: u32, x: usize, y: usize) -> Measured
+// What the trees of the four pixels of a block of level 1 come to.
+fn four_leaves(raster: &[u8], n: u32, x: usize, y: usize) -> Quarters
     requires { ⌜ Picture n (now raster) × OnSheet n 1 x y ⌝ }
-    ensures { λ r. ⌜ r ≡ measureOf (treeOf (pictureOf n (now (raster .entry))) 1 x y) ⌝ }
+    ensures { λ r. ⌜ r ≡ quartersOf (pictureOf n (now (raster .entry))) 0 x y ⌝ }
 {
     let west = 2 * x;
     let north = 2 * y;
@@ -89,7 +97,16 @@ fn measure_four(raster: &[u8], n: u32, x: usize, y: usize) -> Measured
     let ne = leaf_at(raster, n, east, north);
     let sw = leaf_at(raster, n, west, south);
     let se = leaf_at(raster, n, east, south);
-    joined(nw, ne, sw, se)
+    Quarters { nw, ne, sw, se }
+}
+
+// What the tree of a block of four pixels comes to.
+fn measure_four(raster: &[u8], n: u32, x: usize, y: usize) -> Measured
+    requires { ⌜ Picture n (now raster) × OnSheet n 1 x y ⌝ }
+    ensures { λ r. ⌜ r ≡ measureOf (treeOf (pictureOf n (now (raster .entry))) 1 x y) ⌝ }
+{
+    let q = four_leaves(raster, n, x, y);
+    joined(q.nw, q.ne, q.sw, q.se)
 }
 
 // What the tree of a block comes to, from its pixels up.
@@ -164,19 +181,12 @@ fn put_four(
     requires { ⌜ Picture n (now raster) × OnSheet n 1 x y × Ready (treeOf (pictureOf n (now raster)) 1 x y) 1 p (length (now table)) ⌝ }
     ensures { λ r. ⌜ Put (treeOf (pictureOf n (now (raster .entry))) 1 x y) father p (now (table .entry)) (now (table .exit)) r ⌝ }
 {
-    let west = 2 * x;
-    let north = 2 * y;
-    let east = west + 1;
-    let south = north + 1;
-    let nw = leaf_at(raster, n, west, north);
-    let ne = leaf_at(raster, n, east, north);
-    let sw = leaf_at(raster, n, west, south);
-    let se = leaf_at(raster, n, east, south);
-    let whole = joined(nw, ne, sw, se);
+    let q = four_leaves(raster, n, x, y);
+    let whole = joined(q.nw, q.ne, q.sw, q.se);
     if whole.kind != quad::FORK as u32 {
         return whole;
     }
-    put_fork(table, p, father, nw, ne, sw, se);
+    put_fork(table, p, father, q.nw, q.ne, q.sw, q.se);
     whole
 }
 

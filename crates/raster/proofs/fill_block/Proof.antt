@@ -1,10 +1,8 @@
 -- `raster::fill_block`: the first j rows are filled. The measure is the rows left. Assumes nothing.
 use native.Mathlib.Omega.{arith}
-use Rattle.raster.proofs.BlockLaws.{block-fits, side-small, row-fits}
+use Rattle.raster.proofs.BlockLaws.{block-fits, corner-small, row-place}
 use Rattle.raster.proofs.PaintingLaws.{rows-none, rows-more, rows-all}
-use Prim.Native.Nat.{ℕ, _+_, _-_, _*_, _^_, _≤_, _<_}
-use native.Mathlib.Nat.{pow-le-pow-right}
-use Rattle.quad.specs.Numbers.{topLevel}
+use Prim.Native.Nat.{_-_, _^_, _≤_}
 use Rattle.raster.specs.Painting.{Painted, inRows}
 use Rattle.raster.proofs.fill_block.Statement.{statement}
 use Rattle.raster.proofs.fill_block.Tie as tie
@@ -23,83 +21,37 @@ side-requires-2 : tie.Need-side-requires-2 Inv-loop μ-loop
 side-requires-2 c κs = omega (arith, c .before .before .pre .0, c .before .before .pre .1 .low)
 
 mul-left : tie.Need-mul-left Inv-loop μ-loop
-mul-left c =
-    let s = c .before .before .before .args in
-    let fit = block-fits (c .before .before .before .pre .1) in
-    let small = side-small (s .n) (c .before .before .before .pre .0) in
-    record { fits = rw (c .side2 .ensures) (omega arith) }
+mul-left c = record { fits = rw (c .side2 .ensures) (omega (arith, corner-small (c .before .before .before .pre .0) (c .before .before .before .pre .1))) }
 
 mul-top : tie.Need-mul-top Inv-loop μ-loop
-mul-top c =
-    let s = c .before .before .before .args in
-    let fit = block-fits (c .before .before .before .pre .1) in
-    let small = side-small (s .n) (c .before .before .before .pre .0) in
-    record { fits = rw (c .side2 .ensures) (omega arith) }
+mul-top c = record { fits = rw (c .side2 .ensures) (omega (arith, corner-small (c .before .before .before .pre .0) (c .before .before .before .pre .1))) }
 
 loop-holds : tie.Need-loop-holds Inv-loop μ-loop
 loop-holds c = (omega arith, rows-none _ _ _ _ _ _)
 
 add-fill-row : tie.Need-add-fill-row Inv-loop μ-loop
-add-fill-row c =
-    let s = c .before .before .before .before .before .before .args in
-    let fit = block-fits (c .before .before .before .before .before .before .pre .1) in
-    let small = side-small (s .n) (c .before .before .before .before .before .before .pre .0) in
-    let j : ℕ = c .before .before .loop .j in
-    let row : s .y * 2 ^ s .level + j < 2 ^ s .n = omega (arith, rw (c .before .before .before .side2 .ensures) at (c .before .loop-test .taken)) in
-    let place = row-fits (s .n) (s .y * 2 ^ s .level + j) (s .x * 2 ^ s .level + 2 ^ s .level) row (fit .0) in
-    let all = pow-le-pow-right {n = 4} (omega arith) {i = s .n} {j = topLevel} (c .before .before .before .before .before .before .pre .0) in
-    record { fits = rw (c .before .before .before .side2 .ensures) (omega arith) }
+add-fill-row c = record { fits = rw (c .before .before .before .side2 .ensures) (omega (arith, corner-small (c .before .before .before .before .before .before .pre .0) (c .before .before .before .before .before .before .pre .1), rw (c .before .before .before .side2 .ensures) at (c .before .loop-test .taken))) }
 
 mul-fill-row : tie.Need-mul-fill-row Inv-loop μ-loop
-mul-fill-row c =
-    let s = c .before .before .before .before .before .before .args in
-    let fit = block-fits (c .before .before .before .before .before .before .pre .1) in
-    let small = side-small (s .n) (c .before .before .before .before .before .before .pre .0) in
-    let j : ℕ = c .before .before .loop .j in
-    let row : s .y * 2 ^ s .level + j < 2 ^ s .n = omega (arith, rw (c .before .before .before .side2 .ensures) at (c .before .loop-test .taken)) in
-    let place = row-fits (s .n) (s .y * 2 ^ s .level + j) (s .x * 2 ^ s .level + 2 ^ s .level) row (fit .0) in
-    let all = pow-le-pow-right {n = 4} (omega arith) {i = s .n} {j = topLevel} (c .before .before .before .before .before .before .pre .0) in
-    record { fits = rw (c .before .before .before .side2 .ensures, c .before .before .before .before .side .ensures) (omega arith) }
+mul-fill-row c = record { fits = rw (c .before .before .before .side2 .ensures, c .before .before .before .before .side .ensures) (omega (arith, row-place (c .before .before .before .before .before .before .pre .0) (c .before .before .before .before .before .before .pre .1) (c .before .before .loop .j) (rw (c .before .before .before .side2 .ensures) at (c .before .loop-test .taken)))) }
 
 add-fill-row-2 : tie.Need-add-fill-row-2 Inv-loop μ-loop
-add-fill-row-2 c =
-    let s = c .before .before .before .before .before .before .args in
-    let fit = block-fits (c .before .before .before .before .before .before .pre .1) in
-    let small = side-small (s .n) (c .before .before .before .before .before .before .pre .0) in
-    let j : ℕ = c .before .before .loop .j in
-    let row : s .y * 2 ^ s .level + j < 2 ^ s .n = omega (arith, rw (c .before .before .before .side2 .ensures) at (c .before .loop-test .taken)) in
-    let place = row-fits (s .n) (s .y * 2 ^ s .level + j) (s .x * 2 ^ s .level + 2 ^ s .level) row (fit .0) in
-    let all = pow-le-pow-right {n = 4} (omega arith) {i = s .n} {j = topLevel} (c .before .before .before .before .before .before .pre .0) in
-    record { fits = rw (c .before .before .before .side2 .ensures, c .before .before .before .before .side .ensures) (omega arith) }
+add-fill-row-2 c = record { fits = rw (c .before .before .before .side2 .ensures, c .before .before .before .before .side .ensures) (omega (arith, row-place (c .before .before .before .before .before .before .pre .0) (c .before .before .before .before .before .before .pre .1) (c .before .before .loop .j) (rw (c .before .before .before .side2 .ensures) at (c .before .loop-test .taken)))) }
 
 fill-row-requires : tie.Need-fill-row-requires Inv-loop μ-loop
-fill-row-requires c κs =
-    let s = c .before .before .before .before .before .before .args in
-    let fit = block-fits (c .before .before .before .before .before .before .pre .1) in
-    let small = side-small (s .n) (c .before .before .before .before .before .before .pre .0) in
-    let j : ℕ = c .before .before .loop .j in
-    let row : s .y * 2 ^ s .level + j < 2 ^ s .n = omega (arith, rw (c .before .before .before .side2 .ensures) at (c .before .loop-test .taken)) in
-    let place = row-fits (s .n) (s .y * 2 ^ s .level + j) (s .x * 2 ^ s .level + 2 ^ s .level) row (fit .0) in
-    let all = pow-le-pow-right {n = 4} (omega arith) {i = s .n} {j = topLevel} (c .before .before .before .before .before .before .pre .0) in
-    rw (c .before .before .before .side2 .ensures, c .before .before .before .before .side .ensures, c .before .before .loop .inv .1 .size, c .before .before .before .before .before .before .pre .2) (omega arith)
+fill-row-requires c κs = rw (c .before .before .before .side2 .ensures, c .before .before .before .before .side .ensures, c .before .before .loop .inv .1 .size, c .before .before .before .before .before .before .pre .2) (row-place (c .before .before .before .before .before .before .pre .0) (c .before .before .before .before .before .before .pre .1) (c .before .before .loop .j) (rw (c .before .before .before .side2 .ensures) at (c .before .loop-test .taken)) .0)
 
 add-j : tie.Need-add-j Inv-loop μ-loop
-add-j c =
-    let s = c .before .before .before .before .before .before .before .before .before .args in
-    let fit = block-fits (c .before .before .before .before .before .before .before .before .before .pre .1) in
-    let small = side-small (s .n) (c .before .before .before .before .before .before .before .before .before .pre .0) in
-    record { fits = omega (arith, rw (c .before .before .before .before .before .before .side2 .ensures) at (c .before .before .before .before .loop-test .taken)) }
+add-j c = record { fits = omega (arith, corner-small (c .before .before .before .before .before .before .before .before .before .pre .0) (c .before .before .before .before .before .before .before .before .before .pre .1), rw (c .before .before .before .before .before .before .side2 .ensures) at (c .before .before .before .before .loop-test .taken)) }
 
 loop-less : tie.Need-loop-less Inv-loop μ-loop
 loop-less c = omega (arith, rw (c .before .before .before .before .before .before .side2 .ensures) at (c .before .before .before .before .loop-test .taken))
 
 loop-again : tie.Need-loop-again Inv-loop μ-loop
 loop-again c =
-    let s = c .before .before .before .before .before .before .before .before .before .args in
-    let fit = block-fits (c .before .before .before .before .before .before .before .before .before .pre .1) in
-    let small = side-small (s .n) (c .before .before .before .before .before .before .before .before .before .pre .0) in (
+    let s = c .before .before .before .before .before .before .before .before .before .args in (
       omega (arith, rw (c .before .before .before .before .before .before .side2 .ensures) at (c .before .before .before .before .loop-test .taken)),
-      rows-more (s .n) (s .level) (s .x) (s .y) _ _ _ _ _ (fit .0) (c .before .before .before .before .before .loop .inv .1) (rw (c .before .before .before .before .before .before .side2 .ensures, c .before .before .before .before .before .before .before .side .ensures) at (c .before .before .fill-row .ensures)),
+      rows-more (s .n) (s .level) (s .x) (s .y) _ _ _ _ _ (block-fits (c .before .before .before .before .before .before .before .before .before .pre .1) .0) (c .before .before .before .before .before .loop .inv .1) (rw (c .before .before .before .before .before .before .side2 .ensures, c .before .before .before .before .before .before .before .side .ensures) at (c .before .before .fill-row .ensures)),
     )
 
 same-length : tie.Need-same-length Inv-loop μ-loop
