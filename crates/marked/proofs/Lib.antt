@@ -1,2 +1,3 @@
 pub mod Marked
 pub mod Tied
+pub mod Walks
