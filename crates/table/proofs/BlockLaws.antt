@@ -16,7 +16,8 @@ use Rattle.table.specs.Rules.{depthTo, Accepted, Asked}
 use Rattle.table.specs.Nodes.{levelOf, sonType, pathTo, holder, Real}
 use Rattle.table.proofs.RuleLaws.{depth-root}
 use Rattle.table.proofs.AcceptedLaws.{father-below, sonType-lt, son-sonType, father-fork, depth-le, depth-up}
-use Rattle.table.proofs.NodeLaws.{path-root, holder-fork, real-quadrants, path-of, node-at}
+use Rattle.table.proofs.NodeLaws.{path-root, real-quadrants, path-of}
+use Rattle.table.proofs.HolderLaws.{path-up}
 
 -- from p as far as q: `unit` is 2 to the number of links passed, c and r are column and row of p's block within q's, and l is n less the links passed
 pub record Climbed (n : ℕ) (T : List ℕ) (p q unit c r l : ℕ) : Type 0 where
@@ -31,18 +32,6 @@ digit : (c u b x : ℕ) → c + b * u + u * 2 * x ≡ c + u * (b + 2 * x)
 digit c u b x = omega (arith, mul-add u b (2 * x), mul-comm b u, mul-assoc u 2 x)
 
 module _ (n : ℕ) (T : List ℕ) (acc : Accepted n T) where
-  -- a node's path: its own quadrant, then its father's path
-  pub path-up : (p : ℕ) → p < nodes T → 0 < p → pathTo T n p ≡ sonType T p ∷ pathTo T n (father T p)
-  unfolding Real
-  path-up p lt pos =
-      let f : ℕ = father T p in
-      let π = pathTo T n f in
-      let a = path-of n T acc f (omega (arith, father-below n T acc p lt pos)) in
-      let k : isFork T (holder T π) ≡ true = rw (a .ends) (father-fork n T acc p lt pos) in
-      let ends : holder T (sonType T p ∷ π) ≡ p = holder-fork T (sonType T p) π k ∙ rw (a .ends) (son-sonType n T acc p lt pos) in
-      let fits : suc (length π) ≤ n = omega (arith, a .size, depth-up n T acc p lt pos, depth-le T n p) in
-      rw ends at (node-at n T acc (sonType T p ∷ π) (sonType-lt n T acc p lt pos, k, a .real) .back n fits)
-
   -- a node's block lies on the sheet
   pub column-below : (p : ℕ) → p < nodes T → column (pathTo T n p) < 2 ^ depthTo T n p
   column-below p lt = let a = path-of n T acc p lt in rw (a .size) at (column-lt (pathTo T n p) (real-quadrants T (pathTo T n p) (a .real)))
@@ -78,7 +67,7 @@ module _ (n : ℕ) (T : List ℕ) (acc : Accepted n T) where
       let f : ℕ = father T q in
       let d : ℕ = depthTo T n f in
       let s : ℕ = sonType T q in
-      let π = path-up q (k .node) pos in
+      let π = path-up n T acc q (k .node) pos in
       let deep = depth-up n T acc q (k .node) pos in
       record {
         node = omega (arith, k .node, father-below n T acc q (k .node) pos);
