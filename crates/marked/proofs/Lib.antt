@@ -1,3 +1,4 @@
 pub mod Marked
 pub mod Tied
 pub mod Walks
+pub mod WrongLibraries

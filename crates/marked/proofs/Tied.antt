@@ -22,12 +22,12 @@ use Rattle.distance.specs.Distance.{toOutside, nearest, distanceAt, distancesOf
 use Rattle.sheet.specs.Calls.{Gives, Checks, Builds, FindsNeighbour, FindsCornerLeaf, FindsDistances, ReadsFile}
 use Rattle.marked.specs.Cases.{tableJ}
 
-given : (o : Outcome) (r k : ℕ) → Gives o r → numberOf o ≡ k → r ≡ k
+pub given : (o : Outcome) (r k : ℕ) → Gives o r → numberOf o ≡ k → r ≡ k
 unfolding Gives
 given o r k e h = e ∙ h
 
 -- a slice of N words that the distances are written to
-abbrev blank : ℕ → List ℕ
+abbrev pub blank : ℕ → List ℕ
 blank k = tab (λ i. 7) k
 
 pub record Tied : Type 0 where
