@@ -4,7 +4,7 @@ use mathlib.Core.List.{List, [], _∷_}
 use mathlib.Core.Logic.{⊎-elim}
 use mathlib.Core.Path.{_≡_, refl, ap, sym, _∙_}
 use Prim.Native.Nat.{ℕ, _+_, _-_, _*_, _^_, _≤_, _<_, min}
-use native.Mathlib.Nat.{min-eq-left, le-antisymm}
+use native.Mathlib.Nat.{min-eq-left, min-eq-right}
 use native.Mathlib.Omega.{arith}
 use lib.Dec.{eqb}
 use lib.ListN.{length, getD}
@@ -27,8 +27,9 @@ use Rattle.neighbour.specs.Search.{stay, neighbourFound}
 use Rattle.neighbour.proofs.FoundLaws.{FoundAt, found-facts}
 use Rattle.distance.specs.Distance.{plainOutside, nearest, distanceAt}
 use Rattle.distance.specs.Search.{offsetUnder, Spot}
-use Rattle.distance.specs.Around.{offsetFound, offsetBeside, offsetAround, atOffset, Leaf}
-use Rattle.distance.proofs.LeafLaws.{at-none, at-some, leaf-nearest, some-small}
+use Rattle.distance.specs.Around.{offsetFound, offsetBeside, offsetAround, Leaf, Inner}
+use Rattle.distance.proofs.SearchLaws.{offset-leaf, at-black}
+use Rattle.distance.proofs.LeafLaws.{side-small, father-small, leaf-nearest, root-nearest}
 
 -- the steps, read from their tables
 pub east-rule : (D : ℕ) → D < stay → getD (1 ∷ 2 ∷ 1 ∷ 0 ∷ 0 ∷ 2 ∷ 0 ∷ 2 ∷ []) D 0 ≡ eastStep D
@@ -47,40 +48,77 @@ module _ (n : ℕ) (T : List ℕ) (p D : ℕ) (found : Found) (e : found ≡ nei
   unfolding offsetBeside offsetFound
   beside-off best t o = rw (← e, o) (sym (min-eq-left t))
 
-  pub beside-at : (best r m l east south : ℕ) → found ≡ At m l → east ≡ eastStep D → south ≡ southStep D
-      → r ≡ min best (offsetUnder T east south l m 0 0) → r ≡ min best (offsetBeside n T p D)
-  unfolding offsetBeside offsetFound
-  beside-at best r m l east south o ee es h = h ∙ rw (← e, o, ee, es)
+  module _ (m l : ℕ) (o : found ≡ At m l) where
+    pub beside-at : (best r east south : ℕ) → east ≡ eastStep D → south ≡ southStep D
+        → r ≡ min best (offsetUnder T east south l m 0 0) → r ≡ min best (offsetBeside n T p D)
+    unfolding offsetBeside offsetFound
+    beside-at best r east south ee es h = h ∙ rw (← e, o, ee, es)
 
-  pub found-spot : (k m l : ℕ) → Leaf n T p k → D < stay → found ≡ At m l → Spot T l m 0 0
-  found-spot k m l s d o =
-      let acc = s .accepted in
-      let f = found-facts n T acc p D (s .node) (omega arith) m l (sym e ∙ o) in
-      let top = acc .sized .level in
-      let h : 2 ^ l ≤ 2 ^ topLevel = pow-mono {i = l} {j = topLevel} (omega (arith, f .level)) in
-      record {
-        n = n;
-        accepted = acc;
-        node = f .below;
-        level = omega (arith, f .level, depth-le T n m);
-        across = omega arith;
-        down = omega arith;
-      }
+    module _ (best kind : ℕ) (t : best ≤ none) (k : kind ≡ type T m) where
+      pub beside-white : kind ≡ white → 0 ≡ min best (offsetBeside n T p D)
+      beside-white w =
+          let lf : isFork T m ≡ false = ne-eqb (type T m) forkType (λ q. omega arith) in
+          beside-at best 0 (eastStep D) (southStep D) refl refl
+          (rw (offset-leaf T (eastStep D) (southStep D) l m 0 0 lf, eq-eqb (type T m) white (sym k ∙ w)) (omega arith))
 
--- the loop over the directions
-module _ (n : ℕ) (T : List ℕ) (p : ℕ) where
-  pub around-none : none ≡ offsetAround n T p 0
+      pub beside-black : (kind ≡ white → ⊥) → (kind ≡ forkType → ⊥) → best ≡ min best (offsetBeside n T p D)
+      beside-black w g =
+          beside-at best best (eastStep D) (southStep D) refl refl (at-black T (eastStep D) (southStep D) l m 0 0 best kind t k w g)
+
+    module _ (q : ℕ) (s : Leaf n T p q) (d : D < stay) where
+      facts : FoundAt n T p m l
+      facts = found-facts n T (s .accepted) p D (s .node) (omega arith) m l (sym e ∙ o)
+
+      pub found-node : m < nodes T
+      found-node = facts .below
+
+      pub found-spot : (kind : ℕ) → kind ≡ type T m → kind ≡ forkType → Spot T l m 0 0 × (isFork T m ≡ true)
+      found-spot kind k g =
+          let top = s .accepted .sized .level in
+          let h : 2 ^ l ≤ 2 ^ topLevel = pow-mono {i = l} {j = topLevel} (omega (arith, facts .level)) in (
+            record {
+              n = n;
+              accepted = s .accepted;
+              node = facts .below;
+              level = omega (arith, facts .level, depth-le T n m);
+              across = omega arith;
+              down = omega arith;
+            },
+            eq-eqb (type T m) forkType (sym k ∙ g),
+          )
+
+-- the loop over the directions: the best so far is the least offset in those passed, or one less than the side
+module _ (n : ℕ) (T : List ℕ) (p l : ℕ) (s : Inner n T p l) where
+  abbrev so-far : ℕ → ℕ
+  so-far d = min (2 ^ l - 1) (offsetAround n T p d)
+
+  small : offsetAround n T p stay ≤ 2 ^ l - 1
+  small =
+      let g = s .place in
+      let e : 2 ^ l ≡ 2 ^ levelOf n T p = ap (λ (k : ℕ). 2 ^ k) (g .level) in
+      let h = father-small n T (g .accepted) p (g .node) (s .leaf) (s .dark) (s .has-father) in
+      omega arith
+
+  pub inner-level : l ≤ topLevel
+  inner-level =
+      let g = s .place in
+      let top = g .accepted .sized .level in
+      omega (arith, g .level)
+
+  pub around-none : (w : ℕ) → w ≡ 2 ^ l → w - 1 ≡ so-far 0
   unfolding least
-  around-none = refl
+  around-none w e = rw e (sym (min-eq-left (omega (arith, pow-mono {i = l} {j = topLevel} inner-level))))
 
-  pub around-more : (best r d : ℕ) → best ≡ offsetAround n T p d → r ≡ min best (offsetBeside n T p d) → r ≡ offsetAround n T p (d + 1)
-  around-more best r d e h = h ∙ rw e (sym (least-next none (offsetBeside n T p) d))
+  pub around-more : (best r d : ℕ) → best ≡ so-far d → r ≡ min best (offsetBeside n T p d) → r ≡ so-far (d + 1)
+  around-more best r d e h = h ∙ rw (e, least-next none (offsetBeside n T p) d) (omega arith)
 
-  pub around-zero : (best d : ℕ) → d < stay → best ≡ offsetAround n T p d → best ≡ 0 → best ≡ offsetAround n T p stay
-  around-zero best d h e z = omega (arith, least-less none (offsetBeside n T p) d stay (omega arith))
+  pub around-zero : (best d : ℕ) → d < stay → best ≡ so-far d → best ≡ 0 → best ≡ offsetAround n T p stay
+  around-zero best d h e z = omega (arith, small, least-less none (offsetBeside n T p) d stay (omega arith))
 
-  pub around-all : (best d : ℕ) → stay ≤ d → d ≤ stay → best ≡ offsetAround n T p d → best ≡ offsetAround n T p stay
-  around-all best d h l e = e ∙ ap (offsetAround n T p) (omega arith)
+  pub around-all : (best d : ℕ) → stay ≤ d → d ≤ stay → best ≡ so-far d → best ≡ offsetAround n T p stay
+  around-all best d h k e =
+      let q : d ≡ stay = omega arith in
+      e ∙ ap so-far q ∙ min-eq-right small
 
 -- the word of a leaf that is not white
 pub black-nearest : (n : ℕ) (T : List ℕ) (p : ℕ) → isFork T p ≡ false → (type T p ≡ white → ⊥)
@@ -99,26 +137,36 @@ module _ (n : ℕ) (T : List ℕ) (p kind : ℕ) (k : kind ≡ type T p) where
   fork-word h e = rw (distanceAt, ne-eqb (type T p) white (λ q. h (k ∙ q)), eq-eqb (type T p) forkType (sym k ∙ e))
 
   module _ (acc : Accepted n T) (lt : p < nodes T) (h : kind ≡ white → ⊥) (g : kind ≡ forkType → ⊥) where
-    black-word : distanceAt plainOutside n T p ≡ atOffset (2 ^ levelOf n T p) (offsetAround n T p stay)
-    black-word =
-        let f : isFork T p ≡ false = ne-eqb (type T p) forkType (λ q. g (k ∙ q)) in
-        black-nearest n T p f (λ q. h (k ∙ q)) ∙ leaf-nearest n T acc p lt f (λ q. h (k ∙ q))
+    f : isFork T p ≡ false
+    f = ne-eqb (type T p) forkType (λ q. g (k ∙ q))
 
-    pub mark-word : (best : ℕ) → best ≡ offsetAround n T p stay → best ≡ none → none ≡ distanceAt plainOutside n T p
-    mark-word best e z = sym (black-word ∙ at-none _ _ (sym e ∙ z))
+    dark : type T p ≡ white → ⊥
+    dark q = h (k ∙ q)
 
-    pub some-word : (best w d r : ℕ) → best ≡ offsetAround n T p stay → (best ≡ none → ⊥) → d ≡ depthTo T n p → w ≡ 2 ^ (n - d) → r ≡ w + 2 * best
-        → r ≡ distanceAt plainOutside n T p
-    some-word best w d r e z ed ew er = er ∙ rw (ew, ed, e) (sym (black-word ∙ at-some _ _ (λ q. z (e ∙ q))))
+    pub root-word : p ≡ 0 → none ≡ distanceAt plainOutside n T p
+    root-word z = sym (black-nearest n T p f dark ∙ root-nearest n T acc p lt f dark z)
 
-    pub some-fits : (best : ℕ) → best ≡ offsetAround n T p stay → (best ≡ none → ⊥) → best < 2 ^ topLevel
-    some-fits best e z =
-        let f : isFork T p ≡ false = ne-eqb (type T p) forkType (λ q. g (k ∙ q)) in
-        rw e (some-small n T acc p lt f (λ q. h (k ∙ q)) (λ q. z (e ∙ q)))
+    module _ (z : p ≡ 0 → ⊥) (d : ℕ) (ed : d ≡ depthTo T n p) where
+      pub inner-place : Inner n T p (n - d)
+      inner-place = record {
+        place = record { accepted = acc; node = lt; level = rw ed };
+        has-father = omega arith;
+        leaf = f;
+        dark = dark;
+      }
 
--- a side is at most the largest sheet's
-pub side-fits : (n d w : ℕ) → n ≤ topLevel → w ≡ 2 ^ (n - d) → w ≤ 2 ^ topLevel
-side-fits n d w h e = rw e (pow-mono {i = n - d} {j = topLevel} (omega arith))
+      module _ (best w : ℕ) (e : best ≡ offsetAround n T p stay) (ew : w ≡ 2 ^ (n - d)) where
+        pub edge-asks : (w ≤ 2 ^ topLevel) × (best < 2 ^ topLevel)
+        edge-asks =
+            let pos : 0 < p = omega arith in
+            let small = father-small n T acc p lt f dark pos in
+            let s = side-small n T acc p lt f dark in
+            (rw (ew, ed) s, omega (arith, e))
+
+        pub inner-word : (r : ℕ) → r ≡ w + 2 * best → r ≡ distanceAt plainOutside n T p
+        inner-word r er =
+            let pos : 0 < p = omega arith in
+            er ∙ rw (ew, ed, e) (sym (black-nearest n T p f dark ∙ leaf-nearest n T acc p lt f dark pos))
 
 -- what the climb asks
 pub rising : (n : ℕ) (T : List ℕ) → Accepted n T → (p : ℕ) → p < nodes T → Rising T (p + 1)

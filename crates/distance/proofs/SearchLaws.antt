@@ -173,18 +173,12 @@ spot-son {T} {l} {p} {a} {b} {q} u v s f q4 hu hv =
     }
 
 -- a fork's four quarters, one after the other
-module _ {T : List ℕ} {l p a b kind : ℕ} (s : Spot T l p a b) (k : kind ≡ type T p) (f : kind ≡ forkType) where
-  grey : isFork T p ≡ true
-  grey = eq-eqb (type T p) forkType (sym k ∙ f)
-
-  pub above : 0 < l
-  above = fork-level s grey
-
+module _ {T : List ℕ} {l p a b : ℕ} (s : Spot T l p a b) (f : isFork T p ≡ true) where
   pub quarter-asks : (t q : ℕ) → 2 * l ≡ t → q < 4 → (2 * (l - 1) + 1 < t) × (Spot T (l - 1 + 1) p a b × (isFork T p ≡ true) × (q < 4))
   quarter-asks t q e q4 =
-      let pos = above in
+      let pos = fork-level s f in
       let back : l - 1 + 1 ≡ l = omega arith in
-      (omega arith, (rw back s, grey, q4))
+      (omega arith, (rw back s, f, q4))
 
   pub quarters : (east south best r₁ r₂ r₃ r₄ q r : ℕ) → best ≤ none → q ≡ nearQuarter east south → r ≡ nextQuarter east south
       → r₁ ≡ min best (offsetIn T east south (l - 1) p a b q) → r₂ ≡ min r₁ (offsetIn T east south (l - 1) p a b r)
@@ -192,10 +186,10 @@ module _ {T : List ℕ} {l p a b kind : ℕ} (s : Spot T l p a b) (k : kind ≡ 
       → r₄ ≡ min best (offsetUnder T east south l p a b)
   quarters east south best r₁ r₂ r₃ r₄ q r t eq er e₁ e₂ e₃ e₄ =
       let m : ℕ = l - 1 in
-      let pos = above in
+      let pos = fork-level s f in
       let e : l ≡ suc m = omega arith in
       let all : offsetUnder T east south l p a b ≡ least none (offsetIn T east south m p a b) 4 =
-      ap (λ (k : ℕ). offsetUnder T east south k p a b) e ∙ offset-fork T east south m p a b grey in
+      ap (λ (k : ℕ). offsetUnder T east south k p a b) e ∙ offset-fork T east south m p a b f in
       let pr : Pair q r = rw (eq, er) (near-next east south) in
       rw (e₄, e₃, e₂, e₁, all) (four-quarters (offsetIn T east south m p a b) q r pr best t)
 
@@ -204,6 +198,9 @@ near-lt east south e = rw e (near-next east south .first)
 
 pub next-lt : {q : ℕ} (east south : ℕ) → q ≡ nextQuarter east south → q < 4
 next-lt east south e = rw e (near-next east south .second)
+
+pub son-lt : {T : List ℕ} {l p a b q : ℕ} (m : ℕ) → Spot T l p a b → isFork T p ≡ true → q < 4 → m ≡ son T p q → m < nodes T
+son-lt {T} {l} {p} {a} {b} {q} m s f q4 e = rw e (sons-of (s .n) T (s .accepted) p (s .node) f q q4 .below)
 
 -- one of them is entered: u and v are how much farther on it lies
 module _ {T : List ℕ} (l : ℕ) {p a b q : ℕ} (east south : ℕ) (s : Spot T (l + 1) p a b) (f : isFork T p ≡ true) (q4 : q < 4)
@@ -221,11 +218,11 @@ module _ {T : List ℕ} (l : ℕ) {p a b q : ℕ} (east south : ℕ) (s : Spot T
       omega (arith, s .down)
 
   module _ {u v m : ℕ} (eu : u ≡ fartherBy east (q % 2) w) (ev : v ≡ fartherBy south (q / 2) w) (em : m ≡ son T p q) where
-    pub enter-asks : (t : ℕ) → 2 * l + 1 ≡ t → (2 * l < t) × Spot T l m (a + u) (b + v)
-    enter-asks t e =
+    pub enter-asks : (t kind : ℕ) → 2 * l + 1 ≡ t → kind ≡ type T m → kind ≡ forkType → (2 * l < t) × (Spot T l m (a + u) (b + v) × (isFork T m ≡ true))
+    enter-asks t kind e k g =
         let lu : u ≤ 2 ^ l = rw (eu, ew) (far-le east (q % 2) (2 ^ l)) in
         let lv : v ≤ 2 ^ l = rw (ev, ew) (far-le south (q / 2) (2 ^ l)) in
-        (omega arith, rw em (spot-son u v s f q4 lu lv))
+        (omega arith, (rw em (spot-son u v s f q4 lu lv), eq-eqb (type T m) forkType (sym k ∙ g)))
 
     pub entered : (best r : ℕ) → r ≡ min best (offsetUnder T east south l m (a + u) (b + v)) → r ≡ min best (offsetIn T east south l p a b q)
     entered best r e = e ∙ rw (em, eu, ev, ew)

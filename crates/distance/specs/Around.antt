@@ -1,14 +1,13 @@
 -- The eight neighbours of a leaf as the code goes through them (document 001, section V: CHESSBOARD-DIST). Inner definitions: no outside call's statement
 -- cites them.
-use mathlib.Core.Bool.{cond}
+use mathlib.Core.Bool.{false}
 use mathlib.Core.List.{List}
 use mathlib.Core.Path.{_≡_}
-use Prim.Native.Nat.{ℕ, _+_, _*_, _<_}
-use lib.Dec.{eqb}
+use Prim.Native.Nat.{ℕ, _<_}
 use Rattle.base.specs.Tab.{least}
-use Rattle.quad.specs.Numbers.{none}
+use Rattle.quad.specs.Numbers.{white, none}
 use Rattle.quad.specs.Direction.{eastStep, southStep}
-use Rattle.table.specs.Table.{nodes}
+use Rattle.table.specs.Table.{nodes, type, isFork}
 use Rattle.table.specs.Rules.{Accepted}
 use Rattle.table.specs.Nodes.{levelOf}
 use Rattle.neighbour.specs.declared.Found.{Found}
@@ -29,12 +28,15 @@ offsetBeside n T p D = offsetFound T D (neighbourFound n T p D)
 abbrev pub offsetAround : ℕ → List ℕ → ℕ → ℕ → ℕ
 offsetAround n T p k = least none (offsetBeside n T p) k
 
--- the distance, in half pixels, from the centre of a leaf of side w to a pixel at an offset from its edge; none where there is no such pixel
-unfoldable pub atOffset : ℕ → ℕ → ℕ
-atOffset w o = cond (eqb o none) none (w + 2 * o)
-
 -- what the code asks of its caller: p is a node of level l of an accepted table
 pub record Leaf (n : ℕ) (T : List ℕ) (p l : ℕ) : Type 0 where
   pub accepted : Accepted n T
   pub node : p < nodes T
   pub level : l ≡ levelOf n T p
+
+-- and p is a leaf that is not white, and has a father
+pub record Inner (n : ℕ) (T : List ℕ) (p l : ℕ) : Type 0 where
+  pub place : Leaf n T p l
+  pub has-father : 0 < p
+  pub leaf : isFork T p ≡ false
+  pub dark : type T p ≡ white → ⊥

@@ -14,10 +14,10 @@ ghost use Rattle.table.specs.Rules.{Accepted};
 ghost use Rattle.neighbour.specs.Search.{stay};
 ghost use Rattle.distance.specs.Calls.{Distances};
 ghost use Rattle.distance.specs.Distance.{plainOutside, distanceAt, distancesOf};
-ghost use Rattle.distance.specs.Around.{offsetBeside, offsetAround, Leaf};
+ghost use Rattle.distance.specs.Around.{offsetBeside, offsetAround, Leaf, Inner};
 ghost use Rattle.distance.specs.Search.{fartherBy, nearHalf, nearQuarter, nextQuarter, offsetUnder, offsetIn, Spot};
 
-// The mark where no pixel is white: no offset and no distance is as great.
+// The mark where no pixel is white.
 const MARK: u32 = 4294967295;
 
 // One more than the step that a direction takes to the east, and to the south.
@@ -99,7 +99,7 @@ fn next_quarter(east: u32, south: u32) -> usize
     x + 2 * (1 - y)
 }
 
-// The least of best and the offsets of the white pixels under node p, whose block has its near edges at a and b: no offset there is below the larger.
+// The least of best and the offsets of the white pixels under fork p, whose block has its near edges at a and b: its quarters, the nearest first.
 fn seek(
     table: &[u32],
     east: u32,
@@ -110,20 +110,9 @@ fn seek(
     b: u32,
     best: u32,
 ) -> u32
-    requires { ⌜ Spot (now table) level p a b ⌝ }
+    requires { ⌜ Spot (now table) level p a b × (isFork (now table) p ≡ true) ⌝ }
     ensures { λ r. ⌜ r ≡ min best (offsetUnder (now (table .entry)) east south level p a b) ⌝ }
 {
-    let bound = larger(a, b);
-    if best <= bound {
-        return best;
-    }
-    let kind = word_at(table, p, 5);
-    if kind == 0 {
-        return bound;
-    }
-    if kind != quad::FORK {
-        return best;
-    }
     let m = level - 1;
     let near = near_quarter(east, south);
     let next = next_quarter(east, south);
@@ -133,7 +122,7 @@ fn seek(
     seek_in(table, east, south, p, m, a, b, 3 - near, best3)
 }
 
-// The same under quarter q of a fork p; a quarter's level is given.
+// The same in quarter q of fork p; a quarter's level is given. No offset there is below the larger of those of the quarter's near edges.
 fn seek_in(
     table: &[u32],
     east: u32,
@@ -151,19 +140,22 @@ fn seek_in(
     let half = side(level);
     let across = a + farther_by(east, q % 2, half);
     let down = b + farther_by(south, q / 2, half);
-    seek(
-        table,
-        east,
-        south,
-        word_at(table, p, 1 + q),
-        level,
-        across,
-        down,
-        best,
-    )
+    let bound = larger(across, down);
+    if best <= bound {
+        return best;
+    }
+    let son = word_at(table, p, 1 + q);
+    let kind = word_at(table, son, 5);
+    if kind == 0 {
+        return bound;
+    }
+    if kind != quad::FORK {
+        return best;
+    }
+    seek(table, east, south, son, level, across, down, best)
 }
 
-// The least of best and the offsets of the white pixels in the neighbour of leaf p in a direction: off the sheet none is white.
+// The least of best and the offsets of the white pixels in the neighbour of leaf p in a direction. Off the sheet nothing is white.
 fn beside(n: u32, table: &[u32], p: usize, level: u32, direction: usize, best: u32) -> u32
     requires { ⌜ Leaf n (now table) p level × (direction < stay) ⌝ }
     ensures { λ r. ⌜ r ≡ min best (offsetBeside n (now (table .entry)) p direction) ⌝ }
@@ -172,6 +164,13 @@ fn beside(n: u32, table: &[u32], p: usize, level: u32, direction: usize, best: u
     let Found::At { node, level: its } = found else {
         return best;
     };
+    let kind = word_at(table, node, 5);
+    if kind == 0 {
+        return 0;
+    }
+    if kind != quad::FORK {
+        return best;
+    }
     seek(
         table,
         east_step(direction),
@@ -184,12 +183,13 @@ fn beside(n: u32, table: &[u32], p: usize, level: u32, direction: usize, best: u
     )
 }
 
-// The least offset of a white pixel in the eight neighbours of leaf p. None is below 0.
+// The least offset of a white pixel in the eight neighbours of a black leaf that has a father. It is below the side (document 001, Theorem 1), and none is
+// below 0.
 fn around(n: u32, table: &[u32], p: usize, level: u32) -> u32
-    requires { ⌜ Leaf n (now table) p level ⌝ }
+    requires { ⌜ Inner n (now table) p level ⌝ }
     ensures { λ r. ⌜ r ≡ offsetAround n (now (table .entry)) p stay ⌝ }
 {
-    let mut best: u32 = MARK;
+    let mut best = side(level) - 1;
     let mut direction = 0;
     while direction < 8 {
         if best == 0 {
@@ -209,7 +209,7 @@ fn to_edge(side: u32, offset: u32) -> u32
     side + 2 * offset
 }
 
-// The distance of node p.
+// The distance of node p. A black root is the whole sheet: nothing is white.
 fn distance(n: u32, table: &[u32], p: usize) -> u32
     requires { ⌜ Accepted n (now table) × (p < nodes (now table)) ⌝ }
     ensures { λ r. ⌜ r ≡ distanceAt plainOutside n (now (table .entry)) p ⌝ }
@@ -221,12 +221,11 @@ fn distance(n: u32, table: &[u32], p: usize) -> u32
     if kind == quad::FORK {
         return 0;
     }
-    let level = n - table::depth_to(table, n, p);
-    let best = around(n, table, p, level);
-    if best == MARK {
+    if p == 0 {
         return MARK;
     }
-    to_edge(side(level), best)
+    let level = n - table::depth_to(table, n, p);
+    to_edge(side(level), around(n, table, p, level))
 }
 
 // Writes the distance of every node.

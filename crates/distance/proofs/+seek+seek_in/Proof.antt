@@ -1,17 +1,19 @@
 -- `distance::seek` and `distance::seek_in`: the quarters of a fork one after the other, each with the best so far. The measure is twice the level, and one more
 -- where a quarter is still to be entered. Assumes nothing.
 use Prim.Native.Nat.{ℕ, _+_, _*_, _<_}
+use mathlib.Core.Path.{refl}
 use native.Mathlib.Omega.{arith}
 use borrow.Author.Needs.{needs}
 use Rattle.distance.proofs.SearchLaws.{
   stopped,
   at-white,
   at-black,
-  above,
+  fork-level,
   near-lt,
   next-lt,
   quarter-asks,
   quarters,
+  son-lt,
   spot-level,
   room-across,
   room-down,
@@ -55,18 +57,7 @@ seek-in-below t = and 1 seek-in-kinds.ps (falls 1 seek-in-kinds.ps _<_ μ-seek-i
 
 -- what the calls of each promise
 abbrev in-seek : ℕ → seek-lts.Claims
-in-seek t = (
-  larger-reads.Asked,
-  larger-reads.Learnt,
-  word-at-reads.Asked,
-  word-at-reads.Learnt,
-  near-quarter-reads.Asked,
-  near-quarter-reads.Learnt,
-  next-quarter-reads.Asked,
-  next-quarter-reads.Learnt,
-  seek-in-below t,
-  seek-in.Post,
-)
+in-seek t = (near-quarter-reads.Asked, near-quarter-reads.Learnt, next-quarter-reads.Asked, next-quarter-reads.Learnt, seek-in-below t, seek-in.Post)
 
 abbrev in-seek-in : ℕ → seek-in-lts.Claims
 in-seek-in t = (
@@ -74,6 +65,8 @@ in-seek-in t = (
   side-reads.Learnt,
   farther-by-reads.Asked,
   farther-by-reads.Learnt,
+  larger-reads.Asked,
+  larger-reads.Learnt,
   word-at-reads.Asked,
   word-at-reads.Learnt,
   seek-below t,
@@ -81,23 +74,8 @@ in-seek-in t = (
 )
 
 module _ (t : ℕ) where
-  seek-larger-requires : seek-lts.Need-larger-requires (in-seek t) (seek-at t) seek.Post
-  seek-larger-requires c κs = search needs
-
-  seek-returns : seek-lts.Need-returns (in-seek t) (seek-at t) seek.Post
-  seek-returns c = stopped _ _ _ _ _ _ _ _ _ (c .before .larger .ensures) (omega arith) (c .if1 .taken)
-
-  seek-word-at-requires : seek-lts.Need-word-at-requires (in-seek t) (seek-at t) seek.Post
-  seek-word-at-requires c κs = (c .before .before .before .pre .1 .node, omega arith)
-
-  seek-returns-2 : seek-lts.Need-returns-2 (in-seek t) (seek-at t) seek.Post
-  seek-returns-2 c = at-white _ _ _ _ _ _ _ _ _ _ (c .before .before .before .larger .ensures) (c .before .before .if1 .left) (c .before .word-at .ensures) (c .if2 .taken)
-
-  seek-returns-3 : seek-lts.Need-returns-3 (in-seek t) (seek-at t) seek.Post
-  seek-returns-3 c = at-black _ _ _ _ _ _ _ _ _ (omega arith) (c .before .before .word-at .ensures) (c .before .if2 .left) (c .if3 .taken)
-
   seek-sub-m : seek-lts.Need-sub-m (in-seek t) (seek-at t) seek.Post
-  seek-sub-m c = above (c .before .before .before .before .before .before .pre .1) (c .before .before .word-at .ensures) (c .if3 .left)
+  seek-sub-m c = fork-level (c .before .pre .1 .0) (c .before .pre .1 .1)
 
   seek-near-quarter-requires : seek-lts.Need-near-quarter-requires (in-seek t) (seek-at t) seek.Post
   seek-near-quarter-requires c κs = search needs
@@ -106,25 +84,25 @@ module _ (t : ℕ) where
   seek-next-quarter-requires c κs = search needs
 
   seek-seek-in-requires : seek-lts.Need-seek-in-requires (in-seek t) (seek-at t) seek.Post
-  seek-seek-in-requires c κs = quarter-asks (c .before .before .before .before .before .before .before .before .pre .1) (c .before .before .before .before .word-at .ensures) (c .before .before .if3 .left) t _ (c .before .before .before .before .before .before .before .before .pre .0) (near-lt (c .before .before .before .before .before .before .before .before .args .east) (c .before .before .before .before .before .before .before .before .args .south) (c .before .near-quarter .ensures))
+  seek-seek-in-requires c κs = quarter-asks (c .before .before .before .pre .1 .0) (c .before .before .before .pre .1 .1) t _ (c .before .before .before .pre .0) (near-lt (c .before .before .before .args .east) (c .before .before .before .args .south) (c .before .near-quarter .ensures))
 
   seek-seek-in-requires-2 : seek-lts.Need-seek-in-requires-2 (in-seek t) (seek-at t) seek.Post
-  seek-seek-in-requires-2 c κs = quarter-asks (c .before .before .before .before .before .before .before .before .before .pre .1) (c .before .before .before .before .before .word-at .ensures) (c .before .before .before .if3 .left) t _ (c .before .before .before .before .before .before .before .before .before .pre .0) (next-lt (c .before .before .before .before .before .before .before .before .before .args .east) (c .before .before .before .before .before .before .before .before .before .args .south) (c .before .next-quarter .ensures))
+  seek-seek-in-requires-2 c κs = quarter-asks (c .before .before .before .before .pre .1 .0) (c .before .before .before .before .pre .1 .1) t _ (c .before .before .before .before .pre .0) (next-lt (c .before .before .before .before .args .east) (c .before .before .before .before .args .south) (c .before .next-quarter .ensures))
 
   seek-sub-seek-in : seek-lts.Need-sub-seek-in (in-seek t) (seek-at t) seek.Post
-  seek-sub-seek-in c = omega (arith, next-lt (c .before .before .before .before .before .before .before .before .before .before .args .east) (c .before .before .before .before .before .before .before .before .before .before .args .south) (c .before .before .next-quarter .ensures))
+  seek-sub-seek-in c = omega (arith, next-lt (c .before .before .before .before .before .args .east) (c .before .before .before .before .before .args .south) (c .before .before .next-quarter .ensures))
 
   seek-seek-in-requires-3 : seek-lts.Need-seek-in-requires-3 (in-seek t) (seek-at t) seek.Post
-  seek-seek-in-requires-3 c κs = quarter-asks (c .before .before .before .before .before .before .before .before .before .before .pre .1) (c .before .before .before .before .before .before .word-at .ensures) (c .before .before .before .before .if3 .left) t _ (c .before .before .before .before .before .before .before .before .before .before .pre .0) (omega (arith, next-lt (c .before .before .before .before .before .before .before .before .before .before .args .east) (c .before .before .before .before .before .before .before .before .before .before .args .south) (c .before .before .next-quarter .ensures)))
+  seek-seek-in-requires-3 c κs = quarter-asks (c .before .before .before .before .before .pre .1 .0) (c .before .before .before .before .before .pre .1 .1) t _ (c .before .before .before .before .before .pre .0) (omega (arith, next-lt (c .before .before .before .before .before .args .east) (c .before .before .before .before .before .args .south) (c .before .before .next-quarter .ensures)))
 
   seek-sub-seek-in-2 : seek-lts.Need-sub-seek-in-2 (in-seek t) (seek-at t) seek.Post
-  seek-sub-seek-in-2 c = omega (arith, near-lt (c .before .before .before .before .before .before .before .before .before .before .before .args .east) (c .before .before .before .before .before .before .before .before .before .before .before .args .south) (c .before .before .before .before .near-quarter .ensures))
+  seek-sub-seek-in-2 c = omega (arith, near-lt (c .before .before .before .before .before .before .args .east) (c .before .before .before .before .before .before .args .south) (c .before .before .before .before .near-quarter .ensures))
 
   seek-seek-in-requires-4 : seek-lts.Need-seek-in-requires-4 (in-seek t) (seek-at t) seek.Post
-  seek-seek-in-requires-4 c κs = quarter-asks (c .before .before .before .before .before .before .before .before .before .before .before .pre .1) (c .before .before .before .before .before .before .before .word-at .ensures) (c .before .before .before .before .before .if3 .left) t _ (c .before .before .before .before .before .before .before .before .before .before .before .pre .0) (omega (arith, near-lt (c .before .before .before .before .before .before .before .before .before .before .before .args .east) (c .before .before .before .before .before .before .before .before .before .before .before .args .south) (c .before .before .before .before .near-quarter .ensures)))
+  seek-seek-in-requires-4 c κs = quarter-asks (c .before .before .before .before .before .before .pre .1 .0) (c .before .before .before .before .before .before .pre .1 .1) t _ (c .before .before .before .before .before .before .pre .0) (omega (arith, near-lt (c .before .before .before .before .before .before .args .east) (c .before .before .before .before .before .before .args .south) (c .before .before .before .before .near-quarter .ensures)))
 
-  seek-returns-4 : seek-lts.Need-returns-4 (in-seek t) (seek-at t) seek.Post
-  seek-returns-4 c = quarters (c .before .before .before .before .before .before .before .before .before .before .before .before .pre .1) (c .before .before .before .before .before .before .before .before .word-at .ensures) (c .before .before .before .before .before .before .if3 .left) _ _ _ _ _ _ _ _ _ (omega (arith, c .before .before .before .before .before .before .before .before .before .before .before .before .fits .best)) (c .before .before .before .before .before .near-quarter .ensures) (c .before .before .before .before .next-quarter .ensures) (c .before .before .before .seek-in .ensures) (c .before .before .seek-in2 .ensures) (c .before .seek-in3 .ensures) (c .seek-in4 .ensures)
+  seek-returns : seek-lts.Need-returns (in-seek t) (seek-at t) seek.Post
+  seek-returns c = quarters (c .before .before .before .before .before .before .before .pre .1 .0) (c .before .before .before .before .before .before .before .pre .1 .1) _ _ _ _ _ _ _ _ _ (omega (arith, c .before .before .before .before .before .before .before .fits .best)) (c .before .before .before .before .before .near-quarter .ensures) (c .before .before .before .before .next-quarter .ensures) (c .before .before .before .seek-in .ensures) (c .before .before .seek-in2 .ensures) (c .before .seek-in3 .ensures) (c .seek-in4 .ensures)
 
   seek-in-side-requires : seek-in-lts.Need-side-requires (in-seek-in t) (seek-in-at t) seek-in.Post
   seek-in-side-requires c κs = omega (arith, spot-level (c .before .pre .1 .0))
@@ -141,20 +119,35 @@ module _ (t : ℕ) where
   seek-in-add-down : seek-in-lts.Need-add-down (in-seek-in t) (seek-in-at t) seek-in.Post
   seek-in-add-down c = omega (arith, room-down (c .before .before .before .before .args .level) (c .before .before .before .before .args .east) (c .before .before .before .before .args .south) (c .before .before .before .before .pre .1 .0) (c .before .before .before .before .pre .1 .1) (c .before .before .before .before .pre .1 .2) (c .before .before .side .ensures) _ _ (c .farther-by2 .ensures))
 
-  seek-in-add-word-at : seek-in-lts.Need-add-word-at (in-seek-in t) (seek-in-at t) seek-in.Post
-  seek-in-add-word-at c = omega (arith, c .before .before .before .before .pre .1 .2)
-
-  seek-in-word-at-requires : seek-in-lts.Need-word-at-requires (in-seek-in t) (seek-in-at t) seek-in.Post
-  seek-in-word-at-requires c κs = (c .before .before .before .before .pre .1 .0 .node, omega (arith, c .before .before .before .before .pre .1 .2))
-
-  seek-in-seek-requires : seek-in-lts.Need-seek-requires (in-seek-in t) (seek-in-at t) seek-in.Post
-  seek-in-seek-requires c κs = enter-asks (c .before .before .before .before .before .args .level) (c .before .before .before .before .before .args .east) (c .before .before .before .before .before .args .south) (c .before .before .before .before .before .pre .1 .0) (c .before .before .before .before .before .pre .1 .1) (c .before .before .before .before .before .pre .1 .2) (c .before .before .before .side .ensures) (c .before .before .farther-by .ensures) (c .before .farther-by2 .ensures) (c .word-at .ensures) t (c .before .before .before .before .before .pre .0)
+  seek-in-larger-requires : seek-in-lts.Need-larger-requires (in-seek-in t) (seek-in-at t) seek-in.Post
+  seek-in-larger-requires c κs = search needs
 
   seek-in-returns : seek-in-lts.Need-returns (in-seek-in t) (seek-in-at t) seek-in.Post
-  seek-in-returns c = entered (c .before .before .before .before .before .before .args .level) (c .before .before .before .before .before .before .args .east) (c .before .before .before .before .before .before .args .south) (c .before .before .before .before .before .before .pre .1 .0) (c .before .before .before .before .before .before .pre .1 .1) (c .before .before .before .before .before .before .pre .1 .2) (c .before .before .before .before .side .ensures) (c .before .before .before .farther-by .ensures) (c .before .before .farther-by2 .ensures) (c .before .word-at .ensures) _ _ (c .seek .ensures)
+  seek-in-returns c = entered (c .before .before .before .before .before .before .args .level) (c .before .before .before .before .before .before .args .east) (c .before .before .before .before .before .before .args .south) (c .before .before .before .before .before .before .pre .1 .0) (c .before .before .before .before .before .before .pre .1 .1) (c .before .before .before .before .before .before .pre .1 .2) (c .before .before .before .before .side .ensures) (c .before .before .before .farther-by .ensures) (c .before .before .farther-by2 .ensures) refl _ _ (stopped _ _ _ _ _ _ _ _ _ (c .before .larger .ensures) (omega (arith, c .before .before .before .before .before .before .fits .best)) (c .if1 .taken))
+
+  seek-in-add-word-at : seek-in-lts.Need-add-word-at (in-seek-in t) (seek-in-at t) seek-in.Post
+  seek-in-add-word-at c = omega (arith, c .before .before .before .before .before .before .pre .1 .2)
+
+  seek-in-word-at-requires : seek-in-lts.Need-word-at-requires (in-seek-in t) (seek-in-at t) seek-in.Post
+  seek-in-word-at-requires c κs = (c .before .before .before .before .before .before .pre .1 .0 .node, omega (arith, c .before .before .before .before .before .before .pre .1 .2))
+
+  seek-in-word-at-requires-2 : seek-in-lts.Need-word-at-requires-2 (in-seek-in t) (seek-in-at t) seek-in.Post
+  seek-in-word-at-requires-2 c κs = (son-lt _ (c .before .before .before .before .before .before .before .pre .1 .0) (c .before .before .before .before .before .before .before .pre .1 .1) (c .before .before .before .before .before .before .before .pre .1 .2) (c .word-at .ensures), omega arith)
+
+  seek-in-returns-2 : seek-in-lts.Need-returns-2 (in-seek-in t) (seek-in-at t) seek-in.Post
+  seek-in-returns-2 c = entered (c .before .before .before .before .before .before .before .before .before .args .level) (c .before .before .before .before .before .before .before .before .before .args .east) (c .before .before .before .before .before .before .before .before .before .args .south) (c .before .before .before .before .before .before .before .before .before .pre .1 .0) (c .before .before .before .before .before .before .before .before .before .pre .1 .1) (c .before .before .before .before .before .before .before .before .before .pre .1 .2) (c .before .before .before .before .before .before .before .side .ensures) (c .before .before .before .before .before .before .farther-by .ensures) (c .before .before .before .before .before .farther-by2 .ensures) (c .before .before .word-at .ensures) _ _ (at-white _ _ _ _ _ _ _ _ _ _ (c .before .before .before .before .larger .ensures) (c .before .before .before .if1 .left) (c .before .word-at2 .ensures) (c .if2 .taken))
+
+  seek-in-returns-3 : seek-in-lts.Need-returns-3 (in-seek-in t) (seek-in-at t) seek-in.Post
+  seek-in-returns-3 c = entered (c .before .before .before .before .before .before .before .before .before .before .args .level) (c .before .before .before .before .before .before .before .before .before .before .args .east) (c .before .before .before .before .before .before .before .before .before .before .args .south) (c .before .before .before .before .before .before .before .before .before .before .pre .1 .0) (c .before .before .before .before .before .before .before .before .before .before .pre .1 .1) (c .before .before .before .before .before .before .before .before .before .before .pre .1 .2) (c .before .before .before .before .before .before .before .before .side .ensures) (c .before .before .before .before .before .before .before .farther-by .ensures) (c .before .before .before .before .before .before .farther-by2 .ensures) (c .before .before .before .word-at .ensures) _ _ (at-black _ _ _ _ _ _ _ _ _ (omega (arith, c .before .before .before .before .before .before .before .before .before .before .fits .best)) (c .before .before .word-at2 .ensures) (c .before .if2 .left) (c .if3 .taken))
+
+  seek-in-seek-requires : seek-in-lts.Need-seek-requires (in-seek-in t) (seek-in-at t) seek-in.Post
+  seek-in-seek-requires c κs = enter-asks (c .before .before .before .before .before .before .before .before .before .before .args .level) (c .before .before .before .before .before .before .before .before .before .before .args .east) (c .before .before .before .before .before .before .before .before .before .before .args .south) (c .before .before .before .before .before .before .before .before .before .before .pre .1 .0) (c .before .before .before .before .before .before .before .before .before .before .pre .1 .1) (c .before .before .before .before .before .before .before .before .before .before .pre .1 .2) (c .before .before .before .before .before .before .before .before .side .ensures) (c .before .before .before .before .before .before .before .farther-by .ensures) (c .before .before .before .before .before .before .farther-by2 .ensures) (c .before .before .before .word-at .ensures) t _ (c .before .before .before .before .before .before .before .before .before .before .pre .0) (c .before .before .word-at2 .ensures) (c .if3 .left)
+
+  seek-in-returns-4 : seek-in-lts.Need-returns-4 (in-seek-in t) (seek-in-at t) seek-in.Post
+  seek-in-returns-4 c = entered (c .before .before .before .before .before .before .before .before .before .before .before .args .level) (c .before .before .before .before .before .before .before .before .before .before .before .args .east) (c .before .before .before .before .before .before .before .before .before .before .before .args .south) (c .before .before .before .before .before .before .before .before .before .before .before .pre .1 .0) (c .before .before .before .before .before .before .before .before .before .before .before .pre .1 .1) (c .before .before .before .before .before .before .before .before .before .before .before .pre .1 .2) (c .before .before .before .before .before .before .before .before .before .side .ensures) (c .before .before .before .before .before .before .before .before .farther-by .ensures) (c .before .before .before .before .before .before .before .farther-by2 .ensures) (c .before .before .before .before .word-at .ensures) _ _ (c .seek .ensures)
 
 pub +seek+seek-in-spec : {M : Type 1} → statement M
 +seek+seek-in-spec =
     close μ-seek μ-seek-in
-    (λ t. seek-lts.spec (in-seek t) (seek-at t) seek.Post (seek-larger-requires t) (seek-returns t) (seek-word-at-requires t) (seek-returns-2 t) (seek-returns-3 t) (seek-sub-m t) (seek-near-quarter-requires t) (seek-next-quarter-requires t) (seek-seek-in-requires t) (seek-seek-in-requires-2 t) (seek-sub-seek-in t) (seek-seek-in-requires-3 t) (seek-sub-seek-in-2 t) (seek-seek-in-requires-4 t) (seek-returns-4 t))
-    (λ t. seek-in-lts.spec (in-seek-in t) (seek-in-at t) seek-in.Post (seek-in-side-requires t) (seek-in-farther-by-requires t) (seek-in-add-across t) (seek-in-farther-by-requires-2 t) (seek-in-add-down t) (seek-in-add-word-at t) (seek-in-word-at-requires t) (seek-in-seek-requires t) (seek-in-returns t))
+    (λ t. seek-lts.spec (in-seek t) (seek-at t) seek.Post (seek-sub-m t) (seek-near-quarter-requires t) (seek-next-quarter-requires t) (seek-seek-in-requires t) (seek-seek-in-requires-2 t) (seek-sub-seek-in t) (seek-seek-in-requires-3 t) (seek-sub-seek-in-2 t) (seek-seek-in-requires-4 t) (seek-returns t))
+    (λ t. seek-in-lts.spec (in-seek-in t) (seek-in-at t) seek-in.Post (seek-in-side-requires t) (seek-in-farther-by-requires t) (seek-in-add-across t) (seek-in-farther-by-requires-2 t) (seek-in-add-down t) (seek-in-larger-requires t) (seek-in-returns t) (seek-in-add-word-at t) (seek-in-word-at-requires t) (seek-in-word-at-requires-2 t) (seek-in-returns-2 t) (seek-in-returns-3 t) (seek-in-seek-requires t) (seek-in-returns-4 t))
