@@ -7,7 +7,7 @@ use native.Mathlib.Nat.{pow-succ'}
 use native.Mathlib.Omega.{arith}
 use lib.Dec.{eqb}
 use lib.ListN.{length}
-use lib.Seq.{sets, length-sets}
+use lib.Seq.{sets}
 use borrow.Author.Tests.{eq-eqb, ne-eqb}
 use Rattle.base.proofs.CaseLaws.{cond-case}
 use Rattle.quad.specs.Numbers.{topLevel, forkType, none}
@@ -182,9 +182,6 @@ module _ (A B C D : Tree) (f p : ℕ) (ha : Coloured A) (hb : Coloured B) (hc : 
 -- a pixel writes nothing
 pub put-pixel : (f : ℕ → ℕ → ℕ) (x y fa p : ℕ) (U : List ℕ) (m : Measured) → m ≡ measureOf (treeOf f 0 x y) → Put (treeOf f 0 x y) fa p U U m
 put-pixel f x y fa p U m e = record { measured = e; words = unfold treeOf ahead in refl }
-
-pub put-length : {t : Tree} {f p : ℕ} {U W : List ℕ} {r : Measured} → Put t f p U W r → length W ≡ length U
-put-length {t} {f} {p} {U} h = ap length (h .words) ∙ length-sets U (6 * p) (ahead f p t)
 
 -- room for a fork is room for each of its parts; four like leaves need none
 pub room-of : (t : Tree) (i words : ℕ) → 6 * (i + sizeOf t) ≤ words → Room t i words
