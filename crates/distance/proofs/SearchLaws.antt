@@ -1,7 +1,7 @@
 -- The search turn by turn: nothing under a node is nearer than its near edges, and the four quarters, taken in any order, are the fork.
-use mathlib.Core.Bool.{Bool, true, false, cond}
+use mathlib.Core.Bool.{true, false}
 use mathlib.Core.List.{List}
-use mathlib.Core.Logic.{_⊎_, inl, inr, ⊎-elim}
+use mathlib.Core.Logic.{_⊎_, ⊎-elim}
 use mathlib.Core.Path.{_≡_, refl, ap, sym, _∙_}
 use Prim.Native.Nat.{ℕ, zero, suc, _+_, _-_, _*_, _/_, _%_, _^_, _≤_, _<_, min, max}
 use native.Mathlib.Nat.{pow-succ', le-trans, le-antisymm, le-min, min-le-left, min-le-right, min-eq-left, min-eq-right, max-le, le-max-left, le-max-right}
@@ -12,11 +12,9 @@ use borrow.Author.Tests.{eq-eqb, ne-eqb, eqb-true, eqb-false}
 use Rattle.base.specs.Tab.{least}
 use Rattle.base.proofs.BoolLaws.{by-bool}
 use Rattle.base.proofs.CaseLaws.{cond-case}
-use Rattle.base.proofs.LeastLaws.{least-top, least-le, least-ge}
+use Rattle.base.proofs.LeastLaws.{least-le, least-ge}
 use Rattle.quad.specs.Numbers.{white, none, topLevel, forkType}
-use Rattle.quad.proofs.TreeLaws.{by-quadrant}
 use Rattle.table.specs.Table.{nodes, son, type, isFork}
-use Rattle.table.specs.Rules.{depthTo, Accepted}
 use Rattle.table.proofs.AcceptedLaws.{sons-of, depth-son, fork-deep}
 use Rattle.distance.specs.Search.{nearHalf, fartherBy, nearQuarter, nextQuarter, leafOffset, offsetUnder, offsetIn, Spot}
 

@@ -1,7 +1,7 @@
 -- The search under a neighbour as the code goes through it (document 001, section V: DIST-ADJACENT and DIST-CORNER as one). Inner definitions: no outside
 -- call's statement cites them. Along each axis a direction takes a step, one more than the move: 0 back, 1 stay, 2 forth. An offset counts pixels in
 -- that step from the near edge of the neighbour's block; along an axis on which the step stays it is 0.
-use mathlib.Core.Bool.{Bool, true, false, cond}
+use mathlib.Core.Bool.{true, false, cond}
 use mathlib.Core.List.{List}
 use mathlib.Core.Path.{_≡_}
 use Prim.Native.Nat.{ℕ, zero, suc, _+_, _-_, _*_, _/_, _%_, _^_, _≤_, _<_, max}
