@@ -1,7 +1,6 @@
 -- The least of a function's values: below the top and each value, and itself the top or one of them; so a number is the least where all that holds of it.
-use mathlib.Core.Bool.{Bool, true, false}
 use mathlib.Core.Logic.{_⊎_, inl, inr, ⊎-elim}
-use mathlib.Core.Path.{_≡_, refl, sym, _∙_}
+use mathlib.Core.Path.{_≡_, refl}
 use Prim.Native.Nat.{ℕ, zero, suc, _+_, _≤_, _<_, min}
 use native.Mathlib.Nat.{le-trans, le-antisymm, le-min, le-of-lt, min-le-left, min-le-right, min-eq-left, min-eq-right, min-comm, eq-or-lt-of-le, le-of-suc-le-suc, not-suc-le-zero}
 use native.Mathlib.Numerals.{add-one}

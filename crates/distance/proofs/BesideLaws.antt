@@ -1,11 +1,11 @@
 -- The neighbours of a node told by blocks and pixels: the block in direction D of p's, the offsets and distances of its white pixels, and every pixel of the
 -- sheet in p's own block, in one of the eight beside it, or two or more blocks away.
-use mathlib.Core.Bool.{Bool, true, false, cond, _&&_, true≢false}
+use mathlib.Core.Bool.{Bool, true, false, _&&_, true≢false}
 use mathlib.Core.List.{List}
 use mathlib.Core.Logic.{_⊎_, inl, inr, ⊎-elim}
 use mathlib.Core.Path.{_≡_, refl, ap, sym, _∙_}
-use Prim.Native.Nat.{ℕ, zero, suc, _+_, _-_, _*_, _/_, _%_, _^_, _≤_, _<_, max}
-use native.Mathlib.Nat.{zero-add, div-lt-iff-lt-mul, le-trans, eq-zero-or-pos}
+use Prim.Native.Nat.{ℕ, zero, suc, _+_, _-_, _*_, _/_, _^_, _≤_, _<_, max}
+use native.Mathlib.Nat.{zero-add, div-lt-iff-lt-mul, eq-zero-or-pos}
 use native.Mathlib.Omega.{arith}
 use lib.Dec.{ltb, eqb}
 use lib.ListN.{length}
@@ -14,31 +14,30 @@ use borrow.Author.Tests.{ltb-true, eqb-true, eq-eqb}
 use Rattle.base.specs.All.{all}
 use Rattle.base.proofs.AllLaws.{all-at}
 use Rattle.base.proofs.BoolLaws.{by-bool, lt-or-ge, and-left, and-right}
-use Rattle.answer.specs.declared.Outcome.{Outcome}
 use Rattle.answer.specs.declared.Outcome.the-variants.{Answered}
 use Rattle.quad.specs.Numbers.{white, none}
 use Rattle.quad.specs.Block.{pathOf, column, row, Quadrants}
 use Rattle.quad.specs.Direction.{eastStep, southStep}
 use Rattle.quad.proofs.PathLaws.{path-length, path-quadrants, path-back, column-lt, row-lt}
 use Rattle.table.specs.Table.{nodes, type, isFork}
-use Rattle.table.specs.Rules.{depthTo, Accepted}
-use Rattle.table.specs.Nodes.{pathTo, holder, pixel, treeAt, levelOf, centreAcross, centreDown}
+use Rattle.table.specs.Rules.{Accepted}
+use Rattle.table.specs.Nodes.{pathTo, holder, pixel, levelOf, centreAcross, centreDown}
 use Rattle.table.proofs.AcceptedLaws.{depth-le}
 use Rattle.table.proofs.NodeLaws.{path-root}
-use Rattle.table.proofs.HolderLaws.{Held, held, own-path, own-depth}
+use Rattle.table.proofs.HolderLaws.{held, own-path, own-depth}
 use Rattle.table.proofs.HolderLaws as holders
 use Rattle.table.proofs.BlockPixels.{pixel-block}
 use Rattle.neighbour.specs.declared.Found.{Found}
 use Rattle.neighbour.specs.declared.Found.the-variants.{At, Off}
 use Rattle.neighbour.specs.Neighbour.{beside}
 use Rattle.neighbour.specs.Search.{stay, neighbourFound}
-use Rattle.neighbour.proofs.SearchLaws.{Stays, must-move}
+use Rattle.neighbour.proofs.SearchLaws.{must-move}
 use Rattle.neighbour.proofs.FoundLaws.{neighbour-outcome}
-use Rattle.neighbour.proofs.NeighbourLaws.{Lies, lies, lies-answers}
+use Rattle.neighbour.proofs.NeighbourLaws.{lies, lies-answers}
 use Rattle.distance.specs.Distance.{toPixel}
 use Rattle.distance.specs.Search.{offsetUnder}
 use Rattle.distance.specs.Around.{offsetFound, offsetBeside}
-use Rattle.distance.proofs.NearestLaws.{White, WhiteAt}
+use Rattle.distance.proofs.NearestLaws.{WhiteAt}
 use Rattle.distance.proofs.SearchLaws.{offset-leaf}
 use Rattle.distance.proofs.OffsetLaws.{pixelOffset, offset-lt, hue-leaf, offset-le, Reached, offset-hit}
 use Rattle.distance.proofs.GapLaws.{to-neighbour, Apart, far-across, far-down}

@@ -2,14 +2,14 @@
 -- sheet with no white pixel has one node (document 01, 'Distance').
 use mathlib.Core.List.{List}
 use mathlib.Core.Logic.{⊎-elim}
-use mathlib.Core.Path.{_≡_, refl, ap, sym, _∙_}
+use mathlib.Core.Path.{_≡_, refl, sym, _∙_}
 use Prim.Native.Nat.{ℕ, _-_, _*_, _%_, _≤_, _<_}
 use native.Mathlib.Nat.{eq-zero-or-pos}
 use native.Mathlib.Omega.{arith}
 use Rattle.quad.specs.Numbers.{black, none}
 use Rattle.quad.specs.Tree.{leaf, sizeOf}
 use Rattle.quad.proofs.PictureLaws.{pixel-lt}
-use Rattle.table.specs.Table.{nodes, type, isFork}
+use Rattle.table.specs.Table.{nodes, type}
 use Rattle.table.specs.Rules.{Accepted}
 use Rattle.table.specs.Nodes.{pixel, treeAt, sideOf}
 use Rattle.table.proofs.PictureLaws.{sheet-sound, pixel-shade}

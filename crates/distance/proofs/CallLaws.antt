@@ -1,15 +1,14 @@
 -- The call's refusals in document 01's order, as the code goes through them: 1 and 2, the slice's length, then the check; only then anything is written.
-use mathlib.Core.Bool.{Bool, true, false, not, cond}
+use mathlib.Core.Bool.{Bool, true, false, not}
 use mathlib.Core.List.{List}
-use mathlib.Core.Path.{_≡_, refl, ap, sym, _∙_}
+use mathlib.Core.Path.{_≡_, refl, sym, _∙_}
 use Prim.Native.Nat.{ℕ}
-use lib.Dec.{eqb}
 use lib.ListN.{length}
 use borrow.Author.Tests.{eq-eqb, ne-eqb}
 use Rattle.base.proofs.BoolLaws.{on, off}
 use Rattle.answer.specs.declared.Outcome.{Outcome}
 use Rattle.answer.specs.declared.Outcome.the-variants.{Answered, WrongLength}
-use Rattle.answer.specs.Numbers.{answers, andThen, unless}
+use Rattle.answer.specs.Numbers.{answers}
 use Rattle.table.specs.Table.{nodes}
 use Rattle.table.specs.Rules.{sizesOf, faultsOf, checkOf, Accepted}
 use Rattle.table.proofs.CheckLaws.{accepted-of}

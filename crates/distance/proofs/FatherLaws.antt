@@ -1,26 +1,25 @@
 -- A leaf that is not white and has a father has a white pixel in a block beside its own: the father's block has one, since no fork is needless.
-use mathlib.Core.Bool.{Bool, true, false, cond, _&&_, true≢false}
-use mathlib.Core.List.{List, [], _∷_}
-use mathlib.Core.Logic.{_⊎_, inl, inr, ⊎-elim}
-use mathlib.Core.Path.{_≡_, refl, ap, sym, _∙_}
-use Prim.Native.Nat.{ℕ, zero, suc, _+_, _-_, _*_, _/_, _%_, _^_, _≤_, _<_}
+use mathlib.Core.Bool.{false}
+use mathlib.Core.List.{List}
+use mathlib.Core.Logic.{_⊎_, ⊎-elim}
+use mathlib.Core.Path.{_≡_, refl, sym, _∙_}
+use Prim.Native.Nat.{ℕ, suc, _+_, _-_, _*_, _/_, _%_, _^_, _<_}
 use native.Mathlib.Omega.{arith}
 use lib.ListN.{length}
 use Rattle.quad.specs.Numbers.{white, black}
 use Rattle.quad.specs.Block.{pathOf, column, row}
-use Rattle.quad.specs.Direction.{eastStep, southStep}
-use Rattle.quad.specs.Tree.{Tree, leaf, fork, shade}
+use Rattle.quad.specs.Tree.{leaf}
 use Rattle.quad.proofs.PathLaws.{half-last, path-back, column-lt, row-lt}
-use Rattle.table.specs.Table.{nodes, father, son, type, isFork}
-use Rattle.table.specs.Rules.{depthTo, Accepted}
+use Rattle.table.specs.Table.{nodes, father, type, isFork}
+use Rattle.table.specs.Rules.{Accepted}
 use Rattle.table.specs.Nodes.{sonType, pathTo, holder, pixel, treeAt, levelOf}
-use Rattle.table.proofs.AcceptedLaws.{Sound, tree-sound, tree-fork, father-below, father-fork, sonType-lt, depth-up, depth-le}
-use Rattle.table.proofs.HolderLaws.{path-up, path-quadrants, own-path, own-depth}
+use Rattle.table.proofs.AcceptedLaws.{tree-sound, tree-fork, father-below, father-fork, sonType-lt, depth-up, depth-le}
+use Rattle.table.proofs.HolderLaws.{path-up, path-quadrants, own-path}
 use Rattle.table.proofs.BlockPixels.{pixel-block}
 use Rattle.neighbour.specs.Search.{stay}
 use Rattle.distance.proofs.NearestLaws.{White}
 use Rattle.distance.proofs.WhiteLaws.{HasWhite, black-or-white}
-use Rattle.distance.proofs.BesideLaws.{Way, way, Near, in-sheet, block-lt, level-depth, own-pixel}
+use Rattle.distance.proofs.BesideLaws.{way, Near, in-sheet, block-lt, level-depth, own-pixel}
 
 -- a white pixel of a block beside p's
 pub record WhiteBeside (n : ℕ) (T : List ℕ) (acc : Accepted n T) (p : ℕ) (lt : p < nodes T) : Type 0 where

@@ -1,13 +1,13 @@
 -- Blocks and gaps along one axis, from the centre of block X of level l: a pixel one block on is a side and twice its offset away, a pixel of the same
 -- column of blocks at most a side, and any other at least three sides. So the pixels of a neighbour are as far as their offsets say.
-use mathlib.Core.Logic.{_⊎_, inl, inr, ⊎-elim}
+use mathlib.Core.Logic.{_⊎_, inl, inr}
 use mathlib.Core.Path.{_≡_, refl, ap, sym, _∙_}
-use Prim.Native.Nat.{ℕ, zero, suc, _+_, _-_, _*_, _/_, _%_, _^_, _≤_, _<_, max}
-use native.Mathlib.Nat.{add-mul, mul-le-mul-right, mod-lt, div-add-mod', le-trans, max-le, le-max-left, le-max-right}
+use Prim.Native.Nat.{ℕ, zero, suc, _+_, _-_, _*_, _/_, _^_, _≤_, _<_, max}
+use native.Mathlib.Nat.{add-mul, mul-le-mul-right, mod-lt, div-add-mod', le-trans, le-max-left, le-max-right}
 use native.Mathlib.Omega.{arith}
 use lib.Pow.{pow-pos}
 use Rattle.distance.specs.Distance.{gap, toPixel}
-use Rattle.distance.proofs.OffsetLaws.{offsetOf, pixelOffset}
+use Rattle.distance.proofs.OffsetLaws.{pixelOffset}
 
 -- the centre of block X of level l along an axis, in half pixels
 abbrev pub centre : ℕ → ℕ → ℕ

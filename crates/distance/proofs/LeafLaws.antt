@@ -1,21 +1,20 @@
 -- The distance of a leaf that is not white. If it has a father, the least offset among its eight neighbours tells the least distance among all white pixels
 -- of the sheet: a white pixel beside the leaf's block is met in its direction, any other is three sides away or more, and one beside is nearer than
 -- that. If it has none, it is the whole sheet.
-use mathlib.Core.Bool.{Bool, true, false, cond}
+use mathlib.Core.Bool.{false}
 use mathlib.Core.List.{List, []}
 use mathlib.Core.Logic.{_⊎_, inl, inr, ⊎-elim}
-use mathlib.Core.Path.{_≡_, refl, ap, sym, _∙_}
+use mathlib.Core.Path.{_≡_, refl, sym, _∙_}
 use Prim.Native.Nat.{ℕ, _+_, _-_, _*_, _/_, _^_, _≤_, _<_}
 use native.Mathlib.Nat.{le-trans}
 use native.Mathlib.Omega.{arith}
 use lib.ListN.{length}
 use lib.Pow.{pow-mono}
-use Rattle.base.specs.Tab.{least}
 use Rattle.base.proofs.LeastLaws.{Hit, least-le, least-hit}
 use Rattle.quad.specs.Numbers.{white, none, topLevel}
 use Rattle.quad.specs.Block.{column, row}
 use Rattle.table.specs.Table.{nodes, type, isFork}
-use Rattle.table.specs.Rules.{depthTo, Accepted}
+use Rattle.table.specs.Rules.{Accepted}
 use Rattle.table.specs.Nodes.{pathTo, pixel, levelOf, centreAcross, centreDown}
 use Rattle.table.proofs.NodeLaws.{path-root}
 use Rattle.neighbour.specs.Search.{stay}
@@ -24,7 +23,7 @@ use Rattle.distance.specs.Distance.{toPixel, plainOutside, nearest}
 use Rattle.distance.specs.Around.{offsetBeside, offsetAround}
 use Rattle.distance.proofs.NearestLaws.{White, WhiteAt, nearest-is}
 use Rattle.distance.proofs.BesideLaws.{Near, onward-lt, near-far, near-le, Seen, none-or-seen, own-pixel, Placed, own, beside-it, away, placed}
-use Rattle.distance.proofs.FatherLaws.{WhiteBeside, white-beside}
+use Rattle.distance.proofs.FatherLaws.{white-beside}
 
 module _ (n : ℕ) (T : List ℕ) (acc : Accepted n T) (p : ℕ) (lt : p < nodes T) (f : isFork T p ≡ false) (dark : type T p ≡ white → ⊥) where
   abbrev side : ℕ

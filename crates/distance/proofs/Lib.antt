@@ -11,3 +11,4 @@ pub mod CallLaws
 pub mod TheoremOne
 pub mod Bounds
 pub mod DistanceCall
+pub mod NearestFirst

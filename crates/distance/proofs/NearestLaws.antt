@@ -1,15 +1,14 @@
 -- The plain call's nearest white pixel: no white pixel is nearer, and it is attained, or it is the mark; so a number of which all that holds is it.
-use mathlib.Core.Bool.{Bool, true, false, cond}
-use mathlib.Core.Logic.{_⊎_, inl, inr, ⊎-elim}
-use mathlib.Core.Path.{_≡_, refl, sym, _∙_}
+use mathlib.Core.Bool.{cond}
+use mathlib.Core.Logic.{_⊎_, ⊎-elim}
+use mathlib.Core.Path.{_≡_}
 use Prim.Native.Nat.{ℕ, _^_, _≤_, _<_}
 use native.Mathlib.Nat.{le-trans, le-antisymm}
-use native.Mathlib.Omega.{arith}
 use lib.Dec.{eqb}
 use borrow.Author.Tests.{eq-eqb, eqb-true}
 use Rattle.base.specs.Tab.{least}
 use Rattle.base.proofs.CaseLaws.{cond-case}
-use Rattle.base.proofs.LeastLaws.{Hit, least-top, least-le, least-ge}
+use Rattle.base.proofs.LeastLaws.{least-top, least-le, least-ge}
 use Rattle.quad.specs.Numbers.{white, none}
 use Rattle.distance.specs.Distance.{toPixel, plainOutside, toOutside, nearest}
 

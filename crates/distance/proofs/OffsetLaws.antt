@@ -1,10 +1,10 @@
 -- What the search finds under a node, told by pixels: no white pixel of the block has a lesser offset, and a white pixel has that offset, or none is white.
-use mathlib.Core.Bool.{Bool, true, false, cond}
+use mathlib.Core.Bool.{true, false, cond}
 use mathlib.Core.List.{List}
 use mathlib.Core.Logic.{_⊎_, inl, inr, ⊎-elim}
 use mathlib.Core.Path.{_≡_, refl, ap, sym, _∙_}
 use Prim.Native.Nat.{ℕ, zero, suc, _+_, _-_, _*_, _/_, _%_, _^_, _≤_, _<_, max}
-use native.Mathlib.Nat.{pow-succ', le-trans, mod-lt, max-le, le-max-left, le-max-right, div-one}
+use native.Mathlib.Nat.{pow-succ', le-trans, mod-lt, max-le, le-max-left, le-max-right}
 use native.Mathlib.Omega.{arith}
 use lib.Dec.{eqb}
 use lib.Pow.{pow-pos, mod-pow-add, high, low}
@@ -21,7 +21,7 @@ use Rattle.table.specs.Table.{son, type, isFork}
 use Rattle.table.specs.Nodes.{treeAt}
 use Rattle.table.proofs.AcceptedLaws.{tree-zero, tree-leaf}
 use Rattle.table.proofs.PictureLaws.{tree-son}
-use Rattle.distance.specs.Search.{nearHalf, fartherBy, leafOffset, offsetUnder, offsetIn}
+use Rattle.distance.specs.Search.{fartherBy, leafOffset, offsetUnder, offsetIn}
 use Rattle.distance.proofs.SearchLaws.{offset-leaf, offset-zero, offset-fork}
 
 -- the offset of the m-th column (or row) of a block of side w

@@ -1,7 +1,7 @@
 -- The search turn by turn: nothing under a node is nearer than its near edges, and the four quarters, taken in any order, are the fork.
-use mathlib.Core.Bool.{Bool, true, false, cond}
+use mathlib.Core.Bool.{Bool, true, false}
 use mathlib.Core.List.{List}
-use mathlib.Core.Logic.{_⊎_, inl, inr, ⊎-elim}
+use mathlib.Core.Logic.{_⊎_, ⊎-elim}
 use mathlib.Core.Path.{_≡_, refl, ap, sym, _∙_}
 use Prim.Native.Nat.{ℕ, zero, suc, _+_, _-_, _*_, _/_, _%_, _^_, _≤_, _<_, min, max}
 use native.Mathlib.Nat.{pow-succ', le-trans, le-antisymm, le-min, min-le-left, min-le-right, min-eq-left, min-eq-right, max-le, le-max-left, le-max-right}
@@ -12,13 +12,11 @@ use borrow.Author.Tests.{eq-eqb, ne-eqb, eqb-true, eqb-false}
 use Rattle.base.specs.Tab.{least}
 use Rattle.base.proofs.BoolLaws.{by-bool}
 use Rattle.base.proofs.CaseLaws.{cond-case}
-use Rattle.base.proofs.LeastLaws.{least-top, least-le, least-ge}
+use Rattle.base.proofs.LeastLaws.{least-le, least-ge}
 use Rattle.quad.specs.Numbers.{white, none, topLevel, forkType}
-use Rattle.quad.proofs.TreeLaws.{by-quadrant}
 use Rattle.table.specs.Table.{nodes, son, type, isFork}
-use Rattle.table.specs.Rules.{depthTo, Accepted}
 use Rattle.table.proofs.AcceptedLaws.{sons-of, depth-son, fork-deep}
-use Rattle.distance.specs.Search.{nearHalf, fartherBy, nearQuarter, nextQuarter, leafOffset, offsetUnder, offsetIn, Spot}
+use Rattle.distance.specs.Search.{nearHalf, fartherBy, nearQuarter, acrossFirst, nextQuarter, leafOffset, offsetUnder, offsetIn, Spot}
 
 -- one half, as the code finds it
 pub far-near : (step half w r : ℕ) → (step ≡ 1 → ⊥) → r ≡ nearHalf step → half ≡ r → 0 ≡ fartherBy step half w
@@ -36,17 +34,17 @@ far-le step half w =
     (λ e. cond-case (λ (m : ℕ). m ≤ w) (eqb half (nearHalf step)) 0 w (λ e. omega arith) (λ e. omega arith))
 
 -- the next quarter, as the code finds it
-module _ (east south x y : ℕ) (ex : x ≡ nearHalf east) (ey : y ≡ nearHalf south) where
-  pub next-across : east ≡ 1 → 1 - x + 2 * y ≡ nextQuarter east south
+module _ (east south a b x y : ℕ) (u : Bool) (ex : x ≡ nearHalf east) (ey : y ≡ nearHalf south) (eu : u ≡ acrossFirst east south a b) where
+  pub next-across : u ≡ true → 1 - x + 2 * y ≡ nextQuarter east south a b
   unfolding nextQuarter
-  next-across h = rw (ex, ey, eq-eqb east 1 h)
+  next-across h = rw (ex, ey, nextQuarter, ← eu, h)
 
-  pub next-down : (east ≡ 1 → ⊥) → x + 2 * (1 - y) ≡ nextQuarter east south
+  pub next-down : u ≡ false → x + 2 * (1 - y) ≡ nextQuarter east south a b
   unfolding nextQuarter
-  next-down h = rw (ex, ey, ne-eqb east 1 h)
+  next-down h = rw (ex, ey, nextQuarter, ← eu, h)
 
 -- the next quarter shares a side with the nearest, so that these and the ones opposite are the four
-near-half-lt : (step : ℕ) → nearHalf step < 2
+pub near-half-lt : (step : ℕ) → nearHalf step < 2
 near-half-lt step = cond-case (λ (m : ℕ). m < 2) (eqb step 0) 1 0 (λ e. omega arith) (λ e. omega arith)
 
 pub record Pair (q r : ℕ) : Type 0 where
@@ -55,12 +53,12 @@ pub record Pair (q r : ℕ) : Type 0 where
   pub apart : q ≡ r → ⊥
   pub adjacent : q + r ≡ 3 → ⊥
 
-pub near-next : (east south : ℕ) → Pair (nearQuarter east south) (nextQuarter east south)
+pub near-next : (east south a b : ℕ) → Pair (nearQuarter east south) (nextQuarter east south a b)
 unfolding nearQuarter nextQuarter
-near-next east south =
+near-next east south a b =
     let x = near-half-lt east in
     let y = near-half-lt south in
-    cond-case (Pair (nearHalf east + 2 * nearHalf south)) (eqb east 1) (1 - nearHalf east + 2 * nearHalf south) (nearHalf east + 2 * (1 - nearHalf south))
+    cond-case (Pair (nearHalf east + 2 * nearHalf south)) (acrossFirst east south a b) (1 - nearHalf east + 2 * nearHalf south) (nearHalf east + 2 * (1 - nearHalf south))
     (λ e. record { first = omega arith; second = omega arith; apart = λ h. omega arith; adjacent = λ h. omega arith })
     (λ e. record { first = omega arith; second = omega arith; apart = λ h. omega arith; adjacent = λ h. omega arith })
 
@@ -180,7 +178,7 @@ module _ {T : List ℕ} {l p a b : ℕ} (s : Spot T l p a b) (f : isFork T p ≡
       let back : l - 1 + 1 ≡ l = omega arith in
       (omega arith, (rw back s, f, q4))
 
-  pub quarters : (east south best r₁ r₂ r₃ r₄ q r : ℕ) → best ≤ none → q ≡ nearQuarter east south → r ≡ nextQuarter east south
+  pub quarters : (east south best r₁ r₂ r₃ r₄ q r : ℕ) → best ≤ none → q ≡ nearQuarter east south → r ≡ nextQuarter east south a b
       → r₁ ≡ min best (offsetIn T east south (l - 1) p a b q) → r₂ ≡ min r₁ (offsetIn T east south (l - 1) p a b r)
       → r₃ ≡ min r₂ (offsetIn T east south (l - 1) p a b (3 - r)) → r₄ ≡ min r₃ (offsetIn T east south (l - 1) p a b (3 - q))
       → r₄ ≡ min best (offsetUnder T east south l p a b)
@@ -190,14 +188,14 @@ module _ {T : List ℕ} {l p a b : ℕ} (s : Spot T l p a b) (f : isFork T p ≡
       let e : l ≡ suc m = omega arith in
       let all : offsetUnder T east south l p a b ≡ least none (offsetIn T east south m p a b) 4 =
       ap (λ (k : ℕ). offsetUnder T east south k p a b) e ∙ offset-fork T east south m p a b f in
-      let pr : Pair q r = rw (eq, er) (near-next east south) in
+      let pr : Pair q r = rw (eq, er) (near-next east south a b) in
       rw (e₄, e₃, e₂, e₁, all) (four-quarters (offsetIn T east south m p a b) q r pr best t)
 
 pub near-lt : {q : ℕ} (east south : ℕ) → q ≡ nearQuarter east south → q < 4
-near-lt east south e = rw e (near-next east south .first)
+near-lt east south e = rw e (near-next east south 0 0 .first)
 
-pub next-lt : {q : ℕ} (east south : ℕ) → q ≡ nextQuarter east south → q < 4
-next-lt east south e = rw e (near-next east south .second)
+pub next-lt : {q : ℕ} (east south a b : ℕ) → q ≡ nextQuarter east south a b → q < 4
+next-lt east south a b e = rw e (near-next east south a b .second)
 
 pub son-lt : {T : List ℕ} {l p a b q : ℕ} (m : ℕ) → Spot T l p a b → isFork T p ≡ true → q < 4 → m ≡ son T p q → m < nodes T
 son-lt {T} {l} {p} {a} {b} {q} m s f q4 e = rw e (sons-of (s .n) T (s .accepted) p (s .node) f q q4 .below)

@@ -6,12 +6,11 @@ use mathlib.Core.Path.{_≡_, ap, sym, _∙_}
 use Prim.Native.Nat.{ℕ, _/_, _^_, _<_}
 use native.Mathlib.Omega.{arith}
 use borrow.Author.Tests.{ne-eqb}
-use Rattle.answer.specs.declared.Outcome.{Outcome}
 use Rattle.answer.specs.declared.Outcome.the-variants.{Answered}
 use Rattle.quad.specs.Numbers.{white, black, forkType}
 use Rattle.table.specs.Table.{nodes, type, isFork}
 use Rattle.table.specs.Rules.{Accepted}
-use Rattle.table.specs.Nodes.{pixel, levelOf}
+use Rattle.table.specs.Nodes.{levelOf}
 use Rattle.table.proofs.BlockPixels.{pixel-block}
 use Rattle.neighbour.specs.Neighbour.{neighbourOf}
 use Rattle.neighbour.specs.Search.{outcomeOf}
@@ -19,7 +18,7 @@ use Rattle.neighbour.proofs.FoundLaws.{neighbour-outcome}
 use Rattle.neighbour.proofs.NeighbourLaws.{neighbour-is}
 use Rattle.distance.proofs.OffsetLaws.{hue-leaf}
 use Rattle.distance.proofs.BesideLaws.{depth, level-depth, there, found-near}
-use Rattle.distance.proofs.FatherLaws.{WhiteBeside, white-beside}
+use Rattle.distance.proofs.FatherLaws.{white-beside}
 
 -- black is no fork, and not white
 pub black-leaf : (T : List ℕ) (p : ℕ) → type T p ≡ black → isFork T p ≡ false

@@ -13,7 +13,6 @@ use Rattle.quad.specs.Tree.{Tree, leaf, fork, sonOf, shade, sameLeaf, alike, Wi
 use Rattle.quad.proofs.PathLaws.{shade-top, shade-leaf}
 use Rattle.quad.proofs.TreeLaws.{each-son, four-sons, within-son, reduced-son}
 use Rattle.quad.proofs.PictureLaws.{block-up}
-use Rattle.table.proofs.AcceptedLaws.{Sound}
 
 -- leaves are white or black
 pub two-colours : (c : ℕ) → c ≤ topColour → (c ≡ white) ⊎ (c ≡ black)

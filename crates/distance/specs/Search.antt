@@ -5,7 +5,7 @@ use mathlib.Core.Bool.{Bool, true, false, cond}
 use mathlib.Core.List.{List}
 use mathlib.Core.Path.{_≡_}
 use Prim.Native.Nat.{ℕ, zero, suc, _+_, _-_, _*_, _/_, _%_, _^_, _≤_, _<_, max}
-use lib.Dec.{eqb}
+use lib.Dec.{eqb, ltb}
 use Rattle.base.specs.Tab.{least}
 use Rattle.quad.specs.Numbers.{white, none, topLevel}
 use Rattle.table.specs.Table.{nodes, son, type, isFork}
@@ -19,12 +19,17 @@ nearHalf step = cond (eqb step 0) 1 0
 unfoldable pub fartherBy : ℕ → ℕ → ℕ → ℕ
 fartherBy step half w = cond (eqb step 1) 0 (cond (eqb half (nearHalf step)) 0 w)
 
--- the quarter at the near edges, and the next one: the one beside it along the axis on which the step stays
+-- the quarter at the near edges
 unfoldable pub nearQuarter : ℕ → ℕ → ℕ
 nearQuarter east south = nearHalf east + 2 * nearHalf south
 
-unfoldable pub nextQuarter : ℕ → ℕ → ℕ
-nextQuarter east south = cond (eqb east 1) (1 - nearHalf east + 2 * nearHalf south) (nearHalf east + 2 * (1 - nearHalf south))
+-- of the two beside it, the one across lies no farther: the step stays across, or the near edge down, at b, is farther than the one across, at a
+unfoldable pub acrossFirst : ℕ → ℕ → ℕ → ℕ → Bool
+acrossFirst east south a b = cond (eqb east 1) true (cond (eqb south 1) false (ltb a b))
+
+-- so that one is next; the other two are the ones opposite, in the other order
+unfoldable pub nextQuarter : ℕ → ℕ → ℕ → ℕ → ℕ
+nextQuarter east south a b = cond (acrossFirst east south a b) (1 - nearHalf east + 2 * nearHalf south) (nearHalf east + 2 * (1 - nearHalf south))
 
 -- a leaf whose near edges lie at a and b: its nearest pixel is at the larger offset, and counts where it is white
 abbrev pub leafOffset : ℕ → ℕ → ℕ → ℕ

@@ -15,7 +15,7 @@ ghost use Rattle.neighbour.specs.Search.{stay};
 ghost use Rattle.distance.specs.Calls.{Distances};
 ghost use Rattle.distance.specs.Distance.{plainOutside, distanceAt, distancesOf};
 ghost use Rattle.distance.specs.Around.{offsetBeside, offsetAround, Leaf, Inner};
-ghost use Rattle.distance.specs.Search.{fartherBy, nearHalf, nearQuarter, nextQuarter, offsetUnder, offsetIn, Spot};
+ghost use Rattle.distance.specs.Search.{fartherBy, nearHalf, nearQuarter, acrossFirst, nextQuarter, offsetUnder, offsetIn, Spot};
 
 // The mark where no pixel is white.
 const MARK: u32 = 4294967295;
@@ -87,13 +87,26 @@ fn near_quarter(east: u32, south: u32) -> usize
     near_half(east) + 2 * near_half(south)
 }
 
-// The quarter to take next: no other lies nearer than the one across the axis along which the step stays.
-fn next_quarter(east: u32, south: u32) -> usize
-    ensures { λ r. ⌜ r ≡ nextQuarter east south ⌝ }
+// Whether the quarter across lies no farther than the one down: where the step stays across, or the near edge down is the farther one already.
+fn across_first(east: u32, south: u32, a: u32, b: u32) -> bool
+    ensures { λ r. ⌜ r ≡ acrossFirst east south a b ⌝ }
+{
+    if east == 1 {
+        return true;
+    }
+    if south == 1 {
+        return false;
+    }
+    a < b
+}
+
+// The quarter that lies nearest but for that one.
+fn next_quarter(east: u32, south: u32, a: u32, b: u32) -> usize
+    ensures { λ r. ⌜ r ≡ nextQuarter east south a b ⌝ }
 {
     let x = near_half(east);
     let y = near_half(south);
-    if east == 1 {
+    if across_first(east, south, a, b) {
         return 1 - x + 2 * y;
     }
     x + 2 * (1 - y)
@@ -115,7 +128,7 @@ fn seek(
 {
     let m = level - 1;
     let near = near_quarter(east, south);
-    let next = next_quarter(east, south);
+    let next = next_quarter(east, south, a, b);
     let best1 = seek_in(table, east, south, p, m, a, b, near, best);
     let best2 = seek_in(table, east, south, p, m, a, b, next, best1);
     let best3 = seek_in(table, east, south, p, m, a, b, 3 - next, best2);

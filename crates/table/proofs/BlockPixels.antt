@@ -1,12 +1,11 @@
 -- The pixels of a block are those of the node that holds it: a pixel's path from the sheet goes through its block of any level.
-use mathlib.Core.List.{List, [], _∷_}
-use mathlib.Core.Path.{_≡_, refl, ap, sym, _∙_}
+use mathlib.Core.List.{List}
+use mathlib.Core.Path.{_≡_, ap, _∙_}
 use Prim.Native.Nat.{ℕ, zero, suc, _+_, _/_, _^_}
 use native.Mathlib.Nat.{add-zero}
 use native.Mathlib.Omega.{arith}
-use lib.ListN.{length}
-use Rattle.quad.specs.Block.{quadrantOf, pathOf}
-use Rattle.quad.specs.Tree.{Tree, sonOf, under, shade}
+use Rattle.quad.specs.Block.{pathOf}
+use Rattle.quad.specs.Tree.{Tree, under, shade}
 use Rattle.quad.proofs.PathLaws.{path-length, path-quadrants, half-last, shade-top}
 use Rattle.table.specs.Nodes.{holder, pixel, treeAt}
 use Rattle.table.proofs.PictureLaws.{tree-under, pixel-shade}

@@ -87,13 +87,13 @@ module _ (t : ℕ) where
   seek-seek-in-requires c κs = quarter-asks (c .before .before .before .pre .1 .0) (c .before .before .before .pre .1 .1) t _ (c .before .before .before .pre .0) (near-lt (c .before .before .before .args .east) (c .before .before .before .args .south) (c .before .near-quarter .ensures))
 
   seek-seek-in-requires-2 : seek-lts.Need-seek-in-requires-2 (in-seek t) (seek-at t) seek.Post
-  seek-seek-in-requires-2 c κs = quarter-asks (c .before .before .before .before .pre .1 .0) (c .before .before .before .before .pre .1 .1) t _ (c .before .before .before .before .pre .0) (next-lt (c .before .before .before .before .args .east) (c .before .before .before .before .args .south) (c .before .next-quarter .ensures))
+  seek-seek-in-requires-2 c κs = quarter-asks (c .before .before .before .before .pre .1 .0) (c .before .before .before .before .pre .1 .1) t _ (c .before .before .before .before .pre .0) (next-lt (c .before .before .before .before .args .east) (c .before .before .before .before .args .south) (c .before .before .before .before .args .a) (c .before .before .before .before .args .b) (c .before .next-quarter .ensures))
 
   seek-sub-seek-in : seek-lts.Need-sub-seek-in (in-seek t) (seek-at t) seek.Post
-  seek-sub-seek-in c = omega (arith, next-lt (c .before .before .before .before .before .args .east) (c .before .before .before .before .before .args .south) (c .before .before .next-quarter .ensures))
+  seek-sub-seek-in c = omega (arith, next-lt (c .before .before .before .before .before .args .east) (c .before .before .before .before .before .args .south) (c .before .before .before .before .before .args .a) (c .before .before .before .before .before .args .b) (c .before .before .next-quarter .ensures))
 
   seek-seek-in-requires-3 : seek-lts.Need-seek-in-requires-3 (in-seek t) (seek-at t) seek.Post
-  seek-seek-in-requires-3 c κs = quarter-asks (c .before .before .before .before .before .pre .1 .0) (c .before .before .before .before .before .pre .1 .1) t _ (c .before .before .before .before .before .pre .0) (omega (arith, next-lt (c .before .before .before .before .before .args .east) (c .before .before .before .before .before .args .south) (c .before .before .next-quarter .ensures)))
+  seek-seek-in-requires-3 c κs = quarter-asks (c .before .before .before .before .before .pre .1 .0) (c .before .before .before .before .before .pre .1 .1) t _ (c .before .before .before .before .before .pre .0) (omega (arith, next-lt (c .before .before .before .before .before .args .east) (c .before .before .before .before .before .args .south) (c .before .before .before .before .before .args .a) (c .before .before .before .before .before .args .b) (c .before .before .next-quarter .ensures)))
 
   seek-sub-seek-in-2 : seek-lts.Need-sub-seek-in-2 (in-seek t) (seek-at t) seek.Post
   seek-sub-seek-in-2 c = omega (arith, near-lt (c .before .before .before .before .before .before .args .east) (c .before .before .before .before .before .before .args .south) (c .before .before .before .before .near-quarter .ensures))

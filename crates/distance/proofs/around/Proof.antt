@@ -4,7 +4,6 @@ use Prim.Native.Nat.{_-_, _≤_, _^_, min}
 use mathlib.Core.Path.{_≡_}
 use native.Mathlib.Omega.{arith}
 use lib.Pow.{pow-pos}
-use borrow.Author.Needs.{needs}
 use Rattle.neighbour.specs.Search.{stay}
 use Rattle.distance.specs.Around.{offsetAround}
 use Rattle.distance.proofs.AroundLaws.{inner-level, around-none, around-more, around-zero, around-all}

@@ -1,12 +1,11 @@
 -- `distance::fill`: the words before p are the distances of their nodes. The measure is the words left. Assumes nothing.
-use Prim.Native.Nat.{_+_, _-_, _≤_}
+use Prim.Native.Nat.{_-_, _≤_}
 use mathlib.Core.Path.{_≡_}
 use native.Mathlib.Omega.{arith}
 use lib.ListN.{length, take, length-set}
 use borrow.Author.Needs.{needs}
 use Rattle.base.specs.Tab.{tab}
 use Rattle.base.proofs.FillLaws.{filled-none, filled-more, filled-all}
-use Rattle.table.specs.Table.{nodes}
 use Rattle.distance.specs.Distance.{plainOutside, distanceAt, distancesOf}
 use Rattle.distance.proofs.fill.Statement.{statement}
 use Rattle.distance.proofs.fill.Tie as tie

@@ -1,4 +1,4 @@
--- `distance::next_quarter`: across the axis on which the step stays. Assumes nothing.
+-- `distance::next_quarter`: across, or down. Assumes nothing.
 use Rattle.distance.proofs.SearchLaws.{next-across, next-down}
 use borrow.Author.Needs.{needs}
 use Rattle.distance.proofs.next_quarter.Statement.{statement}
@@ -9,6 +9,9 @@ near-half-requires c κs = search needs
 
 near-half-requires-2 : tie.Need-near-half-requires-2
 near-half-requires-2 c κs = search needs
+
+across-first-requires : tie.Need-across-first-requires
+across-first-requires c κs = search needs
 
 sub-result : tie.Need-sub-result
 sub-result c = search needs
@@ -40,6 +43,7 @@ next-quarter-spec =
     (tie.spec
     near-half-requires
     near-half-requires-2
+    across-first-requires
     sub-result
     mul-result
     add-result

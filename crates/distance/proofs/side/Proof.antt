@@ -1,9 +1,6 @@
--- `distance::side`: a shift is a power of two, one computed test over the levels. Assumes nothing.
-use Prim.Native.Nat.{ℕ, _*_, _%_, _^_, _+_}
-use lib.Dec.{eqb}
+-- `distance::side`: a shift is a power of two, and no bit is lost. Assumes nothing.
 use lib.Pow.{shl-exact}
 use native.Mathlib.Omega.{arith}
-use Rattle.quad.specs.Numbers.{topLevel}
 use borrow.Author.Needs.{needs}
 use Rattle.distance.proofs.side.Statement.{statement}
 use Rattle.distance.proofs.side.Tie as tie
