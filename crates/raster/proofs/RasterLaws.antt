@@ -17,7 +17,7 @@ unfolding tabFrom
 tab-length f zero i = refl
 tab-length f (suc k) i = ap suc (tab-length f k (i + 1))
 
-tab-at : (f : ℕ → ℕ) (k i j : ℕ) → j < k → getD (tabFrom f k i) j 0 ≡ f (i + j)
+pub tab-at : (f : ℕ → ℕ) (k i j : ℕ) → j < k → getD (tabFrom f k i) j 0 ≡ f (i + j)
 unfolding tabFrom
 tab-at f zero i j lt = absurd (not-suc-le-zero lt)
 tab-at f (suc k) i zero lt = rw add-zero
