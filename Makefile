@@ -6,13 +6,23 @@
 #
 # test-c and bench take another archive by LIB=path.
 #
+# The archive is for x86-64. On another processor its programs are made by a cross
+# compiler and run under an emulator (tests/on-x86), and a time says nothing.
+#
 # A new call needs no line here: its files are tests/NAME_test.c,
 # tests/second/NAME.c, bench/NAME_bench.c and bench/plain/NAME.c. Nor does a new
 # example: its file is examples/NAME.c, and tests/examples.sh runs it.
 
 LIB = target/staticlib/libsheet.a
+ON_X86 := $(filter x86_64,$(shell uname -m))
+ifdef ON_X86
 CC = cc
 CXX = c++
+else
+CC = x86_64-linux-gnu-gcc
+CXX = x86_64-linux-gnu-g++
+endif
+RUN = tests/on-x86
 INCLUDE = -Iinclude -Itests -Ibench
 WARN = -Wall -Wextra -Werror
 NOT_FUSED = -ffp-contract=off
@@ -27,9 +37,9 @@ BENCH_SHARED = $(filter-out %_bench.c,$(wildcard bench/*.c bench/plain/*.c))
 BENCH_OBJECTS = $(BENCH_SHARED:%.c=build/%.o)
 
 works = $(shell mkdir -p build && echo 'int main(void) { return 0; }' >build/works.c && \
-	$(1) build/works.c -o build/works 2>/dev/null && build/works && echo yes)
+	$(1) build/works.c -o build/works 2>/dev/null && $(RUN) build/works && echo yes)
 HAS_CXX := $(call works,$(CXX) -x c++)
-HAS_SANITIZE := $(call works,$(CC) $(SANITIZE))
+HAS_SANITIZE := $(if $(ON_X86),$(call works,$(CC) $(SANITIZE)))
 
 CALL_TESTS = $(filter-out tests/header_test.c,$(wildcard tests/*_test.c))
 TESTS = $(patsubst tests/%.c,build/tests/%,$(wildcard tests/*_test.c)) \
@@ -61,7 +71,7 @@ list-tests:
 	@$(if $(HAS_SANITIZE),:,echo 'left out: the tests under the sanitizers, which do not run here' >&2)
 
 bench: $(BENCHES)
-	@for program in $(BENCHES); do $$program || exit 1; done
+	@for program in $(BENCHES); do $(RUN) $$program || exit 1; done
 
 clean:
 	rm -rf build target

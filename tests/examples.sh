@@ -8,6 +8,13 @@ work=$(mktemp -d) || exit 1
 trap 'rm -rf "$work"' EXIT
 passed=0 failed=0
 
+# Runs an example.
+run() { # NAME WORDS...
+    example=$1
+    shift
+    "$here/tests/on-x86" "$built/$example" "$@"
+}
+
 verdict() { # NAME STATUS
     if [ "$2" -eq 0 ]; then
         echo "ok     $1"
@@ -36,8 +43,9 @@ refuses() { # NAME LINE COMMAND...
 
 # ---- pbm
 
-sheet() { "$built/pbm" sheet; }
-picture() { "$built/pbm" picture; }
+pbm() { run pbm "$@"; }
+sheet() { pbm sheet; }
+picture() { pbm picture; }
 
 # A plain picture as a sheet file in octal, so that it can be compared in a line.
 octal_sheet() { printf '%b' "$1" | sheet | od -An -v -t o1 | tr -d ' \n'; }
@@ -97,13 +105,13 @@ pbm_refusals() {
     { cat "$work/ponds.sheet" && printf 'Q'; } >"$work/in"
     refuses "a byte too many" "pbm: sheet_read refused, code 14, value $(wc -c <"$work/ponds.sheet" | tr -d ' ')" \
         picture <"$work/in"
-    refuses "no way named" "pbm: use: pbm sheet <PBM >SHEET, or pbm picture <SHEET >PBM" "$built/pbm"
+    refuses "no way named" "pbm: use: pbm sheet <PBM >SHEET, or pbm picture <SHEET >PBM" pbm
 }
 
 # ---- ponds
 
 ponds() {
-    "$built/ponds" >"$work/printed"
+    run ponds >"$work/printed"
     cat >"$work/wanted" <<'END'
 nodes: 9
 east of the pond: node 2, grey

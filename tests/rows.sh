@@ -3,11 +3,14 @@
 # through a pipe, and holds what it prints against what is stored beside them. The
 # last line is 'N passed, M failed'.
 set -u
-rows=$1
-cases=$(dirname "$0")/rows
+program=$1
+here=$(dirname "$0")
+cases=$here/rows
 work=$(mktemp -d) || exit 1
 trap 'rm -rf "$work"' EXIT
 passed=0 failed=0
+
+rows() { "$here/on-x86" "$program"; }
 
 # Is what the program printed exactly this file?
 verdict() { # NAME WANTED
@@ -23,16 +26,16 @@ verdict() { # NAME WANTED
 # Does it print this one line?
 says() { # NAME LINE BYTES
     printf '%s\n' "$2" >"$work/wanted"
-    printf '%b' "$3" | "$rows" >"$work/printed"
+    printf '%b' "$3" | rows >"$work/printed"
     verdict "$1" "$work/wanted"
 }
 
 head='\0121\0123' node='\0121\0116'
 for wanted in "$cases"/*.txt; do
     name=$(basename "$wanted" .txt)
-    "$rows" <"$cases/$name.sheet" >"$work/printed"
+    rows <"$cases/$name.sheet" >"$work/printed"
     verdict "$name" "$wanted"
-    dd bs=7 <"$cases/$name.sheet" 2>/dev/null | "$rows" >"$work/printed"
+    dd bs=7 <"$cases/$name.sheet" 2>/dev/null | rows >"$work/printed"
     verdict "$name, seven bytes at a time" "$wanted"
 done
 
@@ -57,7 +60,7 @@ says "a byte left over" "refused 14 8" "$head\0000\0001\0000${node}\0001\0000"
 # Long input is read only as far as it decides.
 { printf '%b' "$head\0000\0001\0000${node}\0001" && head -c 300000 /dev/zero; } >"$work/long"
 printf 'refused 14 8\n' >"$work/wanted"
-"$rows" <"$work/long" >"$work/printed"
+rows <"$work/long" >"$work/printed"
 verdict "a sheet and 300,000 bytes more" "$work/wanted"
 
 echo "$passed passed, $failed failed"
