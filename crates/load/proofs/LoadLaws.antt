@@ -1,10 +1,10 @@
 -- The programs' read is sheet_read's but for a sheet that is too large; what it loads is an accepted sheet; and it has no second outcome.
-use mathlib.Core.Bool.{Bool, true, false, cond}
+use mathlib.Core.Bool.{Bool, true, false}
 use mathlib.Core.List.{List}
 use mathlib.Core.Path.{_≡_, refl, ap, sym, _∙_}
 use Prim.Native.Nat.{ℕ, _*_, _/_, _%_, _≤_, _<_}
 use native.Mathlib.Omega.{arith}
-use lib.Dec.{leb, eqb}
+use lib.Dec.{leb}
 use lib.ListN.{length, getD, take}
 use lib.Seq.{take-append-seam}
 use borrow.Author.Tests.{le-leb, lt-leb, eq-eqb}

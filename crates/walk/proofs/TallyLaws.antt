@@ -40,19 +40,19 @@ sides-most zero (fork a b c d) = omega arith
 sides-most (suc l) (fork a b c d) = omega (arith, pow-succ' 4 l, sides-most l a, sides-most l b, sides-most l c, sides-most l d)
 
 -- the steps from a place before the first that stops, of k at most
-unfoldable pub left : ℕ → List ℕ → Place → ℕ
-left zero T p = 0
-left (suc k) T p = elim (stops (stepOf T p .answer)) [ zero ↦ suc (left k T (stepOf T p .place)) | suc j ↦ 0 ]
+unfoldable pub stepsFrom : ℕ → List ℕ → Place → ℕ
+stepsFrom zero T p = 0
+stepsFrom (suc k) T p = elim (stops (stepOf T p .answer)) [ zero ↦ suc (stepsFrom k T (stepOf T p .place)) | suc j ↦ 0 ]
 
-left-is : {T : List ℕ} {p r : Place} {us : List Answer} (k : ℕ) → Walked T p us r → tally stops us ≡ 0 → stepOf T r .answer ≡ Done → length us ≤ k
-    → left k T p ≡ length us
-unfolding left tally
-left-is zero here h d le = refl
-left-is (suc k) here h d le = rw (left, d)
-left-is zero (step a q e w) h d le = absurd (omega arith)
-left-is (suc k) (step a q e w) h d le =
+steps-are : {T : List ℕ} {p r : Place} {us : List Answer} (k : ℕ) → Walked T p us r → tally stops us ≡ 0 → stepOf T r .answer ≡ Done → length us ≤ k
+    → stepsFrom k T p ≡ length us
+unfolding stepsFrom tally
+steps-are zero here h d le = refl
+steps-are (suc k) here h d le = rw (stepsFrom, d)
+steps-are zero (step a q e w) h d le = absurd (omega arith)
+steps-are (suc k) (step a q e w) h d le =
     let go : stops a ≡ 0 = omega arith in
-    rw (left, e, go, e) (ap suc (left-is k w (omega arith) d (omega arith)))
+    rw (stepsFrom, e, go, e) (ap suc (steps-are k w (omega arith) d (omega arith)))
 
 -- a walk that is not at Done goes on with its step's answer
 onward : {T : List ℕ} {p r : Place} {us : List Answer} (s : Stepped) → Walked T p us r → stepOf T r .answer ≡ Done → Steps T p s → (s .answer ≡ Done → ⊥)
@@ -71,7 +71,7 @@ pub record UnderWay (n : ℕ) (T : List ℕ) (p : Place) (moved : ℕ) : Type 0 
 
 -- the steps left to it
 abbrev pub stepsLeft : ℕ → List ℕ → Place → ℕ
-stepsLeft n T p = left (length (wholeWalk n T)) T p
+stepsLeft n T p = stepsFrom (length (wholeWalk n T)) T p
 
 module _ (n : ℕ) (T : List ℕ) (acc : Accepted n T) where
   ended : stepOf T (startAt n (2 ^ n)) .answer ≡ Done
@@ -93,7 +93,12 @@ module _ (n : ℕ) (T : List ℕ) (acc : Accepted n T) where
     pub links-few : links < 4294967295
     links-few =
         omega (
-          arith, u .links, tally-append moves (u .told) (u .rest), ap (tally moves) (u .whole), whole-links n T acc, sides-most n (treeAt T n 0),
+          arith,
+          u .links,
+          tally-append moves (u .told) (u .rest),
+          ap (tally moves) (u .whole),
+          whole-links n T acc,
+          sides-most n (treeAt T n 0),
           pow-le-pow-right {n = 4} (omega arith) {i = n} {j = topLevel} (acc .sized .level),
         )
 
@@ -127,6 +132,6 @@ module _ (n : ℕ) (T : List ℕ) (acc : Accepted n T) where
       unfolding tally
       step-less going =
           let o = onward s (u .ends) ended e going in
-          let here = left-is (length (wholeWalk n T)) (u .ends) (omega (arith, unstopped)) ended rest-le in
-          let there = left-is (length (wholeWalk n T)) (o .2) (omega (arith, unstopped, ap (tally stops) (o .1))) ended (omega (arith, rest-le, ap length (o .1))) in
+          let here = steps-are (length (wholeWalk n T)) (u .ends) (omega (arith, unstopped)) ended rest-le in
+          let there = steps-are (length (wholeWalk n T)) (o .2) (omega (arith, unstopped, ap (tally stops) (o .1))) ended (omega (arith, rest-le, ap length (o .1))) in
           omega (arith, here, there, ap length (o .1))
