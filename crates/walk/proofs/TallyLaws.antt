@@ -32,7 +32,7 @@ pub tally-exact : (n : ℕ) (T : List ℕ) (r : ℕ) → Accepted n T → Tallie
 tally-exact n T r acc a =
     ap (λ (k : ℕ). k + 4 * 2 ^ n) (a .links ∙ ap (tally moves) (walk-exact n T acc (a .told) (a .last) (a .walked) (a .unbroken) (a .done))) ∙ whole-links n T acc
 
--- the sides of a block's leaves are at most its pixels
+-- the sum of the leaves' sides is at most the number of pixels
 sides-most : (l : ℕ) (t : Tree) → sidesOf l t ≤ 4 ^ l
 unfolding sidesOf
 sides-most l (leaf c) = pow-le-pow-left {n = 2} {m = 4} (omega arith) l
@@ -132,6 +132,8 @@ module _ (n : ℕ) (T : List ℕ) (acc : Accepted n T) where
       unfolding tally
       step-less going =
           let o = onward s (u .ends) ended e going in
-          let here = steps-are (length (wholeWalk n T)) (u .ends) (omega (arith, unstopped)) ended rest-le in
-          let there = steps-are (length (wholeWalk n T)) (o .2) (omega (arith, unstopped, ap (tally stops) (o .1))) ended (omega (arith, rest-le, ap length (o .1))) in
-          omega (arith, here, there, ap length (o .1))
+          let k = length (wholeWalk n T) in
+          let one-less = ap length (o .1) in
+          let here = steps-are k (u .ends) (omega (arith, unstopped)) ended rest-le in
+          let there = steps-are k (o .2) (omega (arith, unstopped, ap (tally stops) (o .1))) ended (omega (arith, rest-le, one-less)) in
+          omega (arith, here, there, one-less)
