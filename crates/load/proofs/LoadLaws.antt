@@ -1,19 +1,27 @@
--- The programs' read is sheet_read's but for a sheet that is too large, and has no second outcome.
-use mathlib.Core.Bool.{Bool, true, false, cond}
+-- The programs' read is sheet_read's but for a sheet that is too large; what it loads is an accepted sheet; and it has no second outcome.
+use mathlib.Core.Bool.{Bool, true, false}
 use mathlib.Core.List.{List}
 use mathlib.Core.Path.{_≡_, refl, ap, sym, _∙_}
-use Prim.Native.Nat.{ℕ, _*_, _/_, _≤_, _<_}
+use Prim.Native.Nat.{ℕ, _*_, _/_, _%_, _≤_, _<_}
 use native.Mathlib.Omega.{arith}
-use lib.Dec.{leb, eqb}
-use lib.ListN.{length, getD}
+use lib.Dec.{leb}
+use lib.ListN.{length, getD, take}
+use lib.Seq.{take-append-seam}
 use borrow.Author.Tests.{le-leb, lt-leb, eq-eqb}
 use Rattle.answer.specs.declared.Outcome.{Outcome}
 use Rattle.answer.specs.declared.Outcome.the-variants.{Answered, TooLarge}
-use Rattle.quad.specs.Numbers.{topLevel}
+use Rattle.quad.specs.Numbers.{topLevel, none}
+use Rattle.base.specs.Tab.{overlay}
 use Rattle.base.proofs.CaseLaws.{cond-case}
+use Rattle.table.specs.Rules.{Accepted}
+use Rattle.table.specs.Preorder.{preorderTable}
+use Rattle.table.proofs.PreorderAccepted.{preorder-accepted}
+use Rattle.table.proofs.PreorderLaws.{preorder-length}
 use Rattle.file.specs.File.{mark, sheetMark, readTable}
 use Rattle.file.specs.Calls.{Reads}
 use Rattle.file.proofs.FaultLaws.{Answers, read-answers, read-length}
+use Rattle.file.proofs.OneFile.{opens}
+use Rattle.file.proofs.RoundTrip.{read-leaves}
 use Rattle.load.specs.Load.{tooLarge, loadOf, loadedTable, printedLevel, Loads}
 
 -- the last test, with the level as the call gave it
@@ -39,13 +47,17 @@ module _ (s before : List ℕ) (u : Bool) (e : u ≡ tooLarge s) where
   load-read r after h reads = record { answer = rw (loadOf, ← e, h) (reads .answer); table = rw (loadedTable, ← e, h) (reads .table) }
 
 -- an answer is the file reader's, so its nodes fit
+not-large : (s : List ℕ) (words v : ℕ) → loadOf s words ≡ Answered v → tooLarge s ≡ false
+unfolding loadOf
+not-large s words v h = go (tooLarge s) refl
+  where
+    go : (b : Bool) → tooLarge s ≡ b → tooLarge s ≡ false
+    go true e = absurd (let z : _≡_ {A = ℕ} 0 1 = (let f : TooLarge 2 ≡ Answered v = rw (loadOf, e) at h in cc) in omega arith)
+    go false e = e
+
 pub load-answers : (s : List ℕ) (words v : ℕ) → loadOf s words ≡ Answered v → Answers s words v
 unfolding loadOf
-load-answers s words v h = go (tooLarge s) refl
-  where
-    go : (b : Bool) → tooLarge s ≡ b → Answers s words v
-    go true e = absurd (let z : _≡_ {A = ℕ} 0 1 = (let f : TooLarge 2 ≡ Answered v = rw (loadOf, e) at h in cc) in omega arith)
-    go false e = read-answers s words v (rw (loadOf, e) at h)
+load-answers s words v h = read-answers s words v (rw (loadOf, not-large s words v h) at h)
 
 pub loaded-fits : (s before after : List ℕ) (r : Outcome) (v : ℕ) → Loads s before r after → r ≡ Answered v → 6 * (v / 8) ≤ length before
 loaded-fits s before after r v l e =
@@ -56,6 +68,21 @@ pub loaded-length : (s before after : List ℕ) (r : Outcome) → Loads s before
 unfolding loadedTable
 loaded-length s before after r l =
     ap length (l .table) ∙ cond-case (λ (t : List ℕ). length t ≡ length before) (tooLarge s) before (readTable s before) (λ e. refl) (λ e. read-length s before)
+
+-- the words of the nodes loaded are an accepted sheet of the level loaded
+pub loaded-accepted : (s before after : List ℕ) (r : Outcome) (v : ℕ) → Loads s before r after → r ≡ Answered v → Accepted (v % 8) (take (6 * (v / 8)) after)
+unfolding loadedTable
+loaded-accepted s before after r v l e =
+    let h = sym (l .answer) ∙ e in
+    let a = load-answers s (length before) v h in
+    let w = a .whole in
+    let t = a .tree in
+    let opened = opens s (a .level) t (w .header .first) (w .header .second) (w .level) (w .count) (w .ends) (w .spells .spelt) (a .low) (w .spells .sound) in
+    let is : after ≡ overlay (preorderTable t) before =
+    l .table ∙ rw (loadedTable, not-large s (length before) v h) (read-leaves s before (a .level) t opened (a .fits)) in
+    let level : v % 8 ≡ a .level = omega (arith, a .value, a .low) in
+    let words : 6 * (v / 8) ≡ length (preorderTable t) = omega (arith, a .value, a .low, preorder-length none 0 t) in
+    rw (is, level, words, take-append-seam) (preorder-accepted (a .level) t (a .low) (w .spells .sound))
 
 -- no second outcome
 pub one-outcome : (s before : List ℕ) (r q : Outcome) (after final : List ℕ) → Loads s before r after → Loads s before q final → (r ≡ q) × (after ≡ final)

@@ -2,12 +2,8 @@
 use answer::Outcome;
 use walk::Answer;
 use walk::Place;
-ghost use mathlib.Core.Path.{_≡_};
-ghost use Prim.Native.Nat.{_+_, _*_, _≤_, _<_, _/_, _%_};
-ghost use lib.ListN.{length};
-
-// More steps than a walk over the largest printed sheet takes.
-const STEPS: u32 = 10000;
+ghost use Rattle.table.specs.Rules.{Accepted};
+ghost use Rattle.walk.specs.Whole.{Tallied};
 
 fn wide(x: u32) -> u64 {
     x as u64
@@ -79,12 +75,14 @@ fn print_answer(answer: Answer, from: Place) {
     }
 }
 
-// Walks over the table from the start place to the first Done, prints the rows, and gives the links followed.
-fn print_rows(level: u32, table: &[u32]) -> u32 {
+// Walks over the table from the start place to the first Done, prints the rows, and gives the links followed: the Moved that its steps told.
+fn print_rows(level: u32, table: &[u32]) -> u32
+    requires { ⌜ Accepted level (now table) ⌝ }
+    ensures { λ r. ⌜ Tallied level (now (table .entry)) r ⌝ }
+{
     let mut place = walk::start(level);
     let mut links: u32 = 0;
-    let mut steps: u32 = 0;
-    while steps < STEPS {
+    loop {
         let from = place;
         let s = from.step(table);
         place = s.place;
@@ -94,9 +92,7 @@ fn print_rows(level: u32, table: &[u32]) -> u32 {
         }
         print_answer(answer, from);
         links = walk::with_link(links, answer);
-        steps += 1;
     }
-    links
 }
 
 fn main() {

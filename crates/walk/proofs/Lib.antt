@@ -10,4 +10,5 @@ pub mod SpellLaws
 pub mod LeafLaws
 pub mod RowLaws
 pub mod DemandLaws
+pub mod TallyLaws
 pub mod WrongLaws

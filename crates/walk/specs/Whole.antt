@@ -9,8 +9,9 @@ use Rattle.table.specs.Nodes.{treeAt}
 use Rattle.walk.specs.declared.Place.{Place}
 use Rattle.walk.specs.declared.Stepped.{Stepped}
 use Rattle.walk.specs.declared.Answer.{Answer}
-use Rattle.walk.specs.declared.Answer.the-variants.{Moved, Run, EndRow}
-use Rattle.walk.specs.Walk.{stepOf}
+use Rattle.walk.specs.declared.Answer.the-variants.{Moved, Run, EndRow, Done}
+use Rattle.walk.specs.Walk.{start, stepOf}
+use Rattle.walk.specs.Rows.{moves, stops, tally}
 
 -- from a place, by steps that give these answers, to a place
 pub data Walked (T : List ℕ) : Place → List Answer → Place → Type 0 where
@@ -22,6 +23,15 @@ pub data Walked (T : List ℕ) : Place → List Answer → Place → Type 0 wher
 unfoldable pub trace : ℕ → List ℕ → Place → List Stepped
 trace zero T p = []
 trace (suc k) T p = stepOf T p ∷ trace k T (stepOf T p .place)
+
+-- r is how many Moved a walk over a sheet of level n tells: counted over the answers of its own steps, from the start place to the first Done
+pub record Tallied (n : ℕ) (T : List ℕ) (r : ℕ) : Type 0 where
+  pub told : List Answer
+  pub last : Place
+  pub walked : Walked T (start n) told last
+  pub unbroken : tally stops told ≡ 0
+  pub done : stepOf T last .answer ≡ Done
+  pub links : r ≡ tally moves told
 
 -- the start place with y set to a row
 abbrev pub startAt : ℕ → ℕ → Place

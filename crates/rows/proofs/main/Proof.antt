@@ -1,80 +1,66 @@
--- `rows::main`: the nodes that were loaded fit the table. Assumes nothing.
-use Rattle.load.proofs.LoadLaws.{loaded-fits, loaded-length}
+-- `rows::main`: the nodes that were loaded fit the table, and are an accepted sheet of the level loaded. Assumes nothing.
+use Rattle.load.proofs.LoadLaws.{loaded-fits, loaded-length, loaded-accepted}
 use lib.ListN.{length-take}
 use native.Mathlib.Omega.{arith}
 use borrow.Author.Needs.{needs}
 use Rattle.rows.proofs.main.Statement.{statement}
 use Rattle.rows.proofs.main.Tie as tie
 
--- src/main.rt:103:20
 large-buffer-requires : tie.Need-large-buffer-requires
 large-buffer-requires c κs = search needs
 
--- src/main.rt:104:33
 slice-aggregate-read-full : tie.Need-slice-aggregate-read-full
 slice-aggregate-read-full c = search needs
 
--- src/main.rt:104:9
 read-full-requires : tie.Need-read-full-requires
 read-full-requires c κs = search needs
 
--- src/main.rt:106:29
 array-share-prefix-file : tie.Need-array-share-prefix-file
 array-share-prefix-file c = search needs
 
--- src/main.rt:106:29
 slice-aggregate-load : tie.Need-slice-aggregate-load
 slice-aggregate-load c = search needs
 
--- src/main.rt:106:44
 slice-aggregate-load-2 : tie.Need-slice-aggregate-load-2
 slice-aggregate-load-2 c = search needs
 
--- src/main.rt:106:9
 load-requires : tie.Need-load-requires
 load-requires c κs = search needs
 
--- src/main.rt:107:29
 enum-known-loaded : tie.Need-enum-known-loaded
 enum-known-loaded c = search needs
 
--- src/main.rt:108:9
 refusal-requires : tie.Need-refusal-requires
 refusal-requires c κs = search needs
 
--- src/main.rt:109:9
 returns : tie.Need-returns
 returns c = search needs
 
--- src/main.rt:113:5
 title-requires : tie.Need-title-requires
 title-requires c κs = search needs
 
--- src/main.rt:114:21
 cast-words : tie.Need-cast-words
 cast-words c = search needs
 
--- src/main.rt:114:17
 mul-words : tie.Need-mul-words
 mul-words c = search needs
 
--- src/main.rt:115:35
 array-share-prefix-table : tie.Need-array-share-prefix-table
-array-share-prefix-table c = omega (arith, loaded-length _ _ _ _ (c .before .before .before .before .before .load .ensures), loaded-fits _ _ _ _ _ (c .before .before .before .before .before .load .ensures) (c .before .before .loaded .given .1))
+array-share-prefix-table c =
+    let loads = c .before .before .before .before .before .load .ensures in
+    omega (arith, loaded-length _ _ _ _ loads, loaded-fits _ _ _ _ _ loads (c .before .before .loaded .given .1))
 
--- src/main.rt:115:35
 slice-aggregate-print-rows : tie.Need-slice-aggregate-print-rows
-slice-aggregate-print-rows c = simp length-take (omega (arith, loaded-length _ _ _ _ (c .before .before .before .before .before .before .load .ensures), loaded-fits _ _ _ _ _ (c .before .before .before .before .before .before .load .ensures) (c .before .before .before .loaded .given .1)))
+slice-aggregate-print-rows c =
+    let loads = c .before .before .before .before .before .before .load .ensures in
+    simp length-take (omega (arith, loaded-length _ _ _ _ loads, loaded-fits _ _ _ _ _ loads (c .before .before .before .loaded .given .1)))
 
--- src/main.rt:115:9
 print-rows-requires : tie.Need-print-rows-requires
-print-rows-requires c κs = search needs
+print-rows-requires c κs = search (loaded-accepted, needs)
 
--- src/main.rt:116:5
 links-line-requires : tie.Need-links-line-requires
 links-line-requires c κs = search needs
 
--- src/main.rt:102:1
 returns-2 : tie.Need-returns-2
 returns-2 c = search needs
 
