@@ -10,5 +10,4 @@ pub mod AroundLaws
 pub mod CallLaws
 pub mod TheoremOne
 pub mod Bounds
-pub mod DistanceCall
 pub mod NearestFirst

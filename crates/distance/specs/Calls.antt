@@ -1,4 +1,4 @@
--- What the call owes for any level, words and slice. The theorems are about this name, which the contract cites.
+-- What the call owes for any level, words and slice, as its contract says.
 use mathlib.Core.List.{List}
 use mathlib.Core.Path.{_≡_}
 use Prim.Native.Nat.{ℕ}

@@ -10,5 +10,4 @@ pub mod WriteLaws
 pub mod WriteCallLaws
 pub mod OneFile
 pub mod RoundTrip
-pub mod FileCalls
 pub mod FaultLaws

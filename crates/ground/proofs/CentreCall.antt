@@ -1,28 +1,19 @@
--- What the statement of the centre's call settles: there is no second outcome; sheet A's node 1 lies where document 01's definitions put it; and libraries
--- that write nothing, that refuse everything or that give every node one place do not meet it (demand 2).
-use mathlib.Core.Bool.{true, false, true≢false}
+-- The centre's call, computed: on sheet A, and at the ends of the ground's ranges.
+use mathlib.Core.Bool.{true, false}
 use mathlib.Core.List.{List, [], _∷_}
-use mathlib.Core.Path.{_≡_, refl, ap, sym, _∙_}
+use mathlib.Core.Path.{_≡_, refl}
 use Prim.Native.Nat.{ℕ}
 use native.Mathlib.Omega.{arith}
 use lib.IntN.{negsuc}
 use lib.Ieee as Ieee
 use lib.Ieee.{Float, nan, inf, fin, ofInt, units, round, odd, size, climb, span, neg, sum, add, sub, mul, div, lt, eq, le, fits}
-use Rattle.answer.specs.declared.Outcome.{Outcome}
 use Rattle.answer.specs.declared.Outcome.the-variants.{Answered, OutOfRange}
-use Rattle.answer.specs.Numbers.{answers}
 use Rattle.quad.specs.Block.{column, row}
 use Rattle.table.specs.Rules.{depthTo, allOf, typeOk, fatherOk, onceOk, sonOk, wordOk, sonsOk, depthOk, sonAlike, mixedOk, faultAt, faultFrom, faultsOf, lengthOk, sizesOf, checkOf, askedOf}
 use Rattle.table.specs.Nodes.{firstQuadrant, sonType, pathTo}
 use Rattle.table.specs.SheetA.{tableA}
 use Rattle.ground.specs.declared.Ground.{Ground}
 use Rattle.ground.specs.Ground.{whole, within, far, finest, coarsest, two, rangeOf, reachOf, eastOf, northOf, centreOf, centreAfter}
-use Rattle.ground.specs.Call.{Centres}
-
--- no second outcome
-pub one-outcome : (n : ℕ) (T : List ℕ) (p : ℕ) (g : Ground) (old : List Float) (r s : Outcome) (a b : List Float)
-    → Centres n T p g old r a → Centres n T p g old s b → (r ≡ s) × (a ≡ b)
-one-outcome n T p g old r s a b c d = (c .gives ∙ sym (d .gives), c .leaves ∙ sym (d .leaves))
 
 -- east 1000, north 2000, step 10
 abbrev pub place : Ground
@@ -35,12 +26,22 @@ lent = whole 0 ∷ whole 0 ∷ whole 7 ∷ []
 -- nodes 1 and 2 of sheet A: answered, at (1010, 1990) and (1030, 1990), and the rest of the slice stays
 pub record OnA : Type 0 where
   pub answered : centreOf 2 tableA 1 place 3 ≡ Answered 0
+  pub answered-2 : centreOf 2 tableA 2 place 3 ≡ Answered 0
   pub node-1 : centreAfter 2 tableA 1 place lent ≡ whole 1010 ∷ whole 1990 ∷ whole 7 ∷ []
   pub node-2 : centreAfter 2 tableA 2 place lent ≡ whole 1030 ∷ whole 1990 ∷ whole 7 ∷ []
 
 pub on-A : OnA
 unfolding centreAfter centreOf checkOf sizesOf lengthOk faultsOf faultFrom faultAt typeOk fatherOk onceOk sonsOk sonOk wordOk depthOk depthTo allOf sonAlike mixedOk askedOf firstQuadrant sonType pathTo column row rangeOf within far finest coarsest two reachOf eastOf northOf ofInt units round odd size climb span neg sum add sub mul div lt eq le
-on-A = record { answered = refl; node-1 = refl; node-2 = refl }
+on-A = record { answered = refl; answered-2 = refl; node-1 = refl; node-2 = refl }
+
+-- node 1's place is not what the slice held, and not node 2's
+pub moved : (more less : List Float) → whole 1010 ∷ more ≡ whole 0 ∷ less → ⊥
+unfolding ofInt units round odd size climb span
+moved more less e = let z : _≡_ {A = ℕ} 0 1 = cc in omega arith
+
+pub apart : (more less : List Float) → whole 1010 ∷ more ≡ whole 1030 ∷ less → ⊥
+unfolding ofInt units round odd size climb span
+apart more less e = let z : _≡_ {A = ℕ} 505 515 = cc in omega arith
 
 -- the ends of the ranges and what lies beyond them; a place is given by its three numbers
 abbrev pub at : Float → Float → Float → Ground
@@ -107,33 +108,3 @@ edges = record {
   plus-zero = refl;
   minus-zero = refl;
 }
-
--- two numbers of sheet A's first two places
-whole-apart : (more : List Float) (e : whole 1010 ∷ more ≡ whole 1030 ∷ more) → ⊥
-unfolding ofInt units round odd size climb span
-whole-apart more e = let z : _≡_ {A = ℕ} 505 515 = cc in omega arith
-
-whole-moved : (more less : List Float) (e : whole 1010 ∷ more ≡ whole 0 ∷ less) → ⊥
-unfolding ofInt units round odd size climb span
-whole-moved more less e = let z : _≡_ {A = ℕ} 0 1 = cc in omega arith
-
--- what a library gives and leaves
-pub record Library : Type 0 where
-  pub gives : ℕ → List ℕ → ℕ → Ground → List Float → Outcome
-  pub leaves : ℕ → List ℕ → ℕ → Ground → List Float → List Float
-
-module _ (L : Library) (meets : (n : ℕ) (T : List ℕ) (p : ℕ) (g : Ground) (old : List Float) → Centres n T p g old (L .gives n T p g old) (L .leaves n T p g old)) where
-  pub not-nothing-written : ((n : ℕ) (T : List ℕ) (p : ℕ) (g : Ground) (old : List Float) → L .leaves n T p g old ≡ old) → ⊥
-  not-nothing-written same = whole-moved _ _ (sym (on-A .node-1) ∙ sym (meets 2 tableA 1 place lent .leaves) ∙ same 2 tableA 1 place lent)
-
-  pub not-all-refused : ((n : ℕ) (T : List ℕ) (p : ℕ) (g : Ground) (old : List Float) → answers (L .gives n T p g old) ≡ false) → ⊥
-  not-all-refused refuses =
-      let e = ap answers (meets 2 tableA 1 place lent .gives ∙ on-A .answered) in
-      let f = refuses 2 tableA 1 place lent in
-      let z : true ≡ false = sym e ∙ f in
-      true≢false z
-
-  pub not-one-place : ((n : ℕ) (T : List ℕ) (p q : ℕ) (g : Ground) (old : List Float) → L .leaves n T p g old ≡ L .leaves n T q g old) → ⊥
-  not-one-place same =
-      whole-apart _
-      (sym (on-A .node-1) ∙ sym (meets 2 tableA 1 place lent .leaves) ∙ same 2 tableA 1 2 place lent ∙ meets 2 tableA 2 place lent .leaves ∙ on-A .node-2)

@@ -1,5 +1,4 @@
 -- The marked cases tied to the outside calls' own statements: every outcome that satisfies a call's statement on these sheets is document 01's number.
-use mathlib.Core.Bool.{true}
 use mathlib.Core.List.{List, [], _∷_}
 use mathlib.Core.Path.{_≡_, refl, ap, _∙_}
 use Prim.Native.Nat.{ℕ, _*_}

@@ -1,19 +1,22 @@
 -- Wrong libraries, as a C caller would meet them, and the statements of the calls that each breaks (demand 2): one that refuses everything, one that names
--- the same node or distance always, one that writes nothing. Sheet A is enough to tell.
-use mathlib.Core.Bool.{true}
-use mathlib.Core.List.{List, [], _∷_}
+-- the same node, distance or place always, one that writes nothing. Sheet A is enough to tell.
+use mathlib.Core.List.{List, []}
 use mathlib.Core.Path.{_≡_, refl, ap, sym, _∙_}
-use Prim.Native.Nat.{ℕ, _+_, _*_, _/_, _%_}
+use Prim.Native.Nat.{ℕ, _*_, _/_, _%_, _<_}
 use native.Mathlib.Omega.{arith}
-use lib.ListN.{getD, length}
+use lib.ListN.{getD}
 use lib.Ieee.{Float}
-use Rattle.base.specs.Tab.{tab, tabFrom}
+use Rattle.base.specs.Tab.{tabFrom}
 use Rattle.answer.specs.Numbers.{numberOf}
+use Rattle.quad.specs.Numbers.{black}
+use Rattle.table.specs.Table.{nodes, type}
 use Rattle.table.specs.SheetA.{rasterA, tableA, fileA}
-use Rattle.neighbour.proofs.OutcomeTheorems.{on-sheet-a}
-use Rattle.sheet.specs.Calls.{Gives, Builds, Decodes, FindsNeighbour, FindsCornerLeaf, FindsDiagonalLeaf, FindsDistances, ReadsFile, WritesFile}
-use Rattle.marked.proofs.Marked.{SheetA, sheet-A}
-use Rattle.marked.proofs.Tied.{given, blank, Tied, tied}
+use Rattle.neighbour.proofs.OnSheetA.{on-sheet-a}
+use Rattle.ground.specs.declared.Ground.{Ground}
+use Rattle.ground.proofs.CentreCall.{place, lent, on-A, moved, apart}
+use Rattle.sheet.specs.Calls.{Builds, Decodes, FindsNeighbour, FindsCornerLeaf, FindsDiagonalLeaf, FindsDistances, ReadsFile, WritesFile, FindsCentre}
+use Rattle.marked.proofs.Marked.{sheet-A}
+use Rattle.marked.proofs.Tied.{given, blank, tied}
 
 -- a call on a node: its numbers, which always meet its statement
 module _ (number : ℕ → List ℕ → ℕ → ℕ → ℕ) (meets : (n : ℕ) (T : List ℕ) (p D : ℕ) → FindsNeighbour n T p D (number n T p D)) where
@@ -50,19 +53,35 @@ module _ (number : ℕ → List ℕ → ℕ → ℕ → ℕ) (meets : (n : ℕ) 
   diagonal-leaf-names m same = omega (arith, beyond, across, same 2 tableA 1 3 (omega (arith, beyond)), same 2 tableA 5 1 (omega (arith, across)))
 
 -- a call that fills a buffer: its numbers and what it leaves
-module _ (after : ℕ → List ℕ → List ℕ → List ℕ) (number : ℕ → List ℕ → List ℕ → ℕ) where
+module _ (number : ℕ → List ℕ → List ℕ → ℕ) (after : ℕ → List ℕ → List ℕ → List ℕ) where
   module _ (meets : (n : ℕ) (T before : List ℕ) → FindsDistances n T before (number n T before) (after n T before)) where
+    -- sheet A, in nine words
+    nine : number 2 tableA (blank 9) ≡ 0
+    unfolding tabFrom
+    nine = meets 2 tableA (blank 9) .number ∙ sheet-A .distances
+
     at-1 : getD (after 2 tableA (blank 9)) 1 0 ≡ 2
     at-1 = tied .i-1 _ _ (meets 2 tableA (blank 9))
+
+    pub distance-answers : ((n : ℕ) (T before : List ℕ) → number n T before % 256 ≡ 0 → ⊥) → ⊥
+    distance-answers refuses = refuses 2 tableA (blank 9) (omega (arith, nine))
+
+    -- it gives every black leaf one distance, wherever it answers
+    pub distance-not-one : (v : ℕ)
+        → ((n : ℕ) (T before : List ℕ) → number n T before % 256 ≡ 0 → (p : ℕ) → p < nodes T → type T p ≡ black → getD (after n T before) p 0 ≡ v) → ⊥
+    distance-not-one v same =
+        let one = same 2 tableA (blank 9) (omega (arith, nine)) in
+        omega (arith, at-1, tied .i-6 _ _ (meets 2 tableA (blank 9)), one 1 (omega arith) refl, one 6 (omega arith) refl)
 
     pub distance-writes : ((n : ℕ) (T before : List ℕ) → after n T before ≡ before) → ⊥
     unfolding tabFrom
     distance-writes idle = omega (arith, at-1, ap (λ (l : List ℕ). getD l 1 0) (idle 2 tableA (blank 9)))
 
-    pub distance-not-one : (v : ℕ) → ((p : ℕ) → getD (after 2 tableA (blank 9)) p 0 ≡ v) → ⊥
-    distance-not-one v same = omega (arith, at-1, tied .i-6 _ _ (meets 2 tableA (blank 9)), same 1, same 6)
-
   module _ (meets : (n : ℕ) (R before : List ℕ) → Builds n R before (number n R before) (after n R before)) where
+    pub build-answers : ((n : ℕ) (R before : List ℕ) → number n R before % 256 ≡ 0 → ⊥) → ⊥
+    unfolding tabFrom
+    build-answers refuses = refuses 2 rasterA (blank 54) (omega (arith, meets 2 rasterA (blank 54) .number ∙ sheet-A .building))
+
     pub build-writes : ((n : ℕ) (R before : List ℕ) → after n R before ≡ before) → ⊥
     unfolding tabFrom
     build-writes idle =
@@ -70,6 +89,10 @@ module _ (after : ℕ → List ℕ → List ℕ → List ℕ) (number : ℕ → 
         omega (arith, ap (λ (l : List ℕ). getD l 1 0) (sym is ∙ idle 2 rasterA (blank 54)))
 
   module _ (meets : (n : ℕ) (T before : List ℕ) → Decodes n T before (number n T before) (after n T before)) where
+    pub decode-answers : ((n : ℕ) (T before : List ℕ) → number n T before % 256 ≡ 0 → ⊥) → ⊥
+    unfolding tabFrom
+    decode-answers refuses = refuses 2 tableA (blank 16) (omega (arith, meets 2 tableA (blank 16) .number ∙ sheet-A .decoding))
+
     pub decode-writes : ((n : ℕ) (T before : List ℕ) → after n T before ≡ before) → ⊥
     unfolding tabFrom
     decode-writes idle =
@@ -77,15 +100,49 @@ module _ (after : ℕ → List ℕ → List ℕ → List ℕ) (number : ℕ → 
         omega (arith, ap (λ (l : List ℕ). getD l 0 0) (sym is ∙ idle 2 tableA (blank 16)))
 
   module _ (meets : (n : ℕ) (T before : List ℕ) → WritesFile n T before (number n T before) (after n T before)) where
+    pub write-answers : ((n : ℕ) (T before : List ℕ) → number n T before % 256 ≡ 0 → ⊥) → ⊥
+    unfolding tabFrom
+    write-answers refuses = refuses 2 tableA (blank 32) (omega (arith, meets 2 tableA (blank 32) .number ∙ sheet-A .writing))
+
     pub write-writes : ((n : ℕ) (T before : List ℕ) → after n T before ≡ before) → ⊥
     unfolding tabFrom
     write-writes idle =
         let is : after 2 tableA (blank 32) ≡ fileA = meets 2 tableA (blank 32) .buffer ∙ sheet-A .written in
         omega (arith, ap (λ (l : List ℕ). getD l 0 0) (sym is ∙ idle 2 tableA (blank 32)))
 
-module _ (after : List ℕ → List ℕ → List ℕ) (number : List ℕ → List ℕ → ℕ) (meets : (s before : List ℕ) → ReadsFile s before (number s before) (after s before)) where
+module _ (number : List ℕ → List ℕ → ℕ) (after : List ℕ → List ℕ → List ℕ) (meets : (s before : List ℕ) → ReadsFile s before (number s before) (after s before)) where
+  pub read-answers : ((s before : List ℕ) → number s before % 256 ≡ 0 → ⊥) → ⊥
+  unfolding tabFrom
+  read-answers refuses = refuses fileA (blank 54) (omega (arith, meets fileA (blank 54) .number ∙ sheet-A .reading))
+
+  -- nothing is no file
+  pub read-not-all : ((s before : List ℕ) → number s before % 256 ≡ 0) → ⊥
+  read-not-all accepts = omega (arith, tied .l _ _ (meets [] []), accepts [] [])
+
   pub read-writes : ((s before : List ℕ) → after s before ≡ before) → ⊥
   unfolding tabFrom
   read-writes idle =
       let is : after fileA (blank 54) ≡ tableA = meets fileA (blank 54) .buffer ∙ sheet-A .read in
       omega (arith, ap (λ (l : List ℕ). getD l 1 0) (sym is ∙ idle fileA (blank 54)))
+
+-- the centre's call: numbers, and slices of numbers of the ground
+module _ (number : ℕ → List ℕ → ℕ → Ground → List Float → ℕ) (after : ℕ → List ℕ → ℕ → Ground → List Float → List Float)
+    (meets : (n : ℕ) (T : List ℕ) (p : ℕ) (g : Ground) (before : List Float) → FindsCentre n T p g before (number n T p g before) (after n T p g before)) where
+  first : number 2 tableA 1 place lent ≡ 0
+  first = meets 2 tableA 1 place lent .number ∙ ap numberOf (on-A .answered)
+
+  second : number 2 tableA 2 place lent ≡ 0
+  second = meets 2 tableA 2 place lent .number ∙ ap numberOf (on-A .answered-2)
+
+  pub centre-answers : ((n : ℕ) (T : List ℕ) (p : ℕ) (g : Ground) (before : List Float) → number n T p g before % 256 ≡ 0 → ⊥) → ⊥
+  centre-answers refuses = refuses 2 tableA 1 place lent (omega (arith, first))
+
+  -- it gives every node one place, wherever it answers
+  pub centre-not-one : ((n : ℕ) (T : List ℕ) (p q : ℕ) (g : Ground) (before : List Float)
+      → number n T p g before % 256 ≡ 0 → number n T q g before % 256 ≡ 0 → after n T p g before ≡ after n T q g before) → ⊥
+  centre-not-one same =
+      let e = same 2 tableA 1 2 place lent (omega (arith, first)) (omega (arith, second)) in
+      apart _ _ (sym (on-A .node-1) ∙ sym (meets 2 tableA 1 place lent .buffer) ∙ e ∙ meets 2 tableA 2 place lent .buffer ∙ on-A .node-2)
+
+  pub centre-writes : ((n : ℕ) (T : List ℕ) (p : ℕ) (g : Ground) (before : List Float) → after n T p g before ≡ before) → ⊥
+  centre-writes idle = moved _ _ (sym (on-A .node-1) ∙ sym (meets 2 tableA 1 place lent .buffer) ∙ idle 2 tableA 1 place lent)

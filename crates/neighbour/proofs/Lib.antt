@@ -6,7 +6,7 @@ pub mod CornerLaws
 pub mod CallLaws
 pub mod SmallestLaws
 pub mod NeighbourLaws
-pub mod OutcomeTheorems
+pub mod OnSheetA
 pub mod BackLaws
 pub mod SideLaws
 pub mod PixelLaws

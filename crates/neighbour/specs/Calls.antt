@@ -1,4 +1,4 @@
--- What each of the three calls owes for any words and numbers: an outcome r meets it. The theorems are about these names, which the contracts cite.
+-- What each of the three calls owes for any words and numbers, as its contract says: an outcome r meets it.
 use mathlib.Core.List.{List}
 use mathlib.Core.Path.{_≡_}
 use Prim.Native.Nat.{ℕ}

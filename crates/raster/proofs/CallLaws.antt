@@ -1,6 +1,6 @@
--- What the statements of the two calls settle: there is no second outcome, a refusal changes nothing, and an answer gives document 01's table or raster.
--- A library that refuses everything and one that writes nothing do not meet them.
-use mathlib.Core.Bool.{true, false, false≢true}
+-- What the statements of the two calls settle: a refusal changes nothing, and an answer gives document 01's table or raster; then building and decoding
+-- undo each other, in any numbering.
+use mathlib.Core.Bool.{true, false}
 use mathlib.Core.List.{List, [], _∷_}
 use mathlib.Core.Path.{_≡_, refl, ap, sym, _∙_}
 use Prim.Native.Nat.{ℕ, suc, _+_, _*_, _^_, _≤_}
@@ -9,17 +9,16 @@ use lib.Dec.{ltb}
 use lib.ListN.{length, getD, take, drop}
 use lib.Seq.{take-at, drop-at}
 use borrow.Author.Tests.{eq-eqb, le-ltb, ltb-false}
-use Rattle.base.specs.Tab.{tabFrom, overlay}
+use Rattle.base.specs.Tab.{overlay}
 use Rattle.answer.specs.declared.Outcome.{Outcome}
 use Rattle.answer.specs.declared.Outcome.the-variants.{Answered, NoRoom}
 use Rattle.answer.specs.Numbers.{valueOf, answers, room}
-use Rattle.quad.specs.Numbers.{topLevel, topColour, none, black}
-use Rattle.quad.specs.Tree.{sizeOf, treeOf}
-use Rattle.quad.specs.Block.{pathOf}
+use Rattle.quad.specs.Numbers.{topLevel, topColour, none}
+use Rattle.quad.specs.Tree.{sizeOf}
 use Rattle.table.specs.Table.{nodes}
-use Rattle.table.specs.Rules.{sizesOf, faultsOf, checkOf, Accepted, lengthOk, faultFrom, faultAt, typeOk, fatherOk, onceOk, sonsOk, wordOk, depthOk, mixedOk, allOf}
-use Rattle.table.specs.Nodes.{treeAt, pixel, holder}
-use Rattle.table.specs.Preorder.{preorder, preorderTable}
+use Rattle.table.specs.Rules.{sizesOf, faultsOf, checkOf, Accepted}
+use Rattle.table.specs.Nodes.{treeAt}
+use Rattle.table.specs.Preorder.{preorderTable}
 use Rattle.table.proofs.CheckLaws.{go-on, answers-unless, sizes-good, check-accepted, accepted-of}
 use Rattle.table.proofs.PreorderLaws.{preorder-length}
 use Rattle.table.proofs.SizeLaws.{tree-size}
@@ -29,13 +28,6 @@ use Rattle.raster.specs.Blocks.{Picture, readableOf}
 use Rattle.raster.proofs.TestLaws.{length-of, readable-picture}
 use Rattle.raster.proofs.BuildLaws.{build-then}
 use Rattle.raster.proofs.RoundTrips.{built-accepted, built-decoded, decoded-tree, decoded-picture, one-raster-one-tree, one-tree-one-raster}
-
--- no second outcome
-pub build-one : (n : ℕ) (R before : List ℕ) (o p : Outcome) (a b : List ℕ) → Builds n R before o a → Builds n R before p b → (o ≡ p) × (a ≡ b)
-build-one n R before o p a b h k = (h .answer ∙ sym (k .answer), h .table ∙ sym (k .table))
-
-pub decode-one : (n : ℕ) (T before : List ℕ) (o p : Outcome) (a b : List ℕ) → Decodes n T before o a → Decodes n T before p b → (o ≡ p) × (a ≡ b)
-decode-one n T before o p a b h k = (h .answer ∙ sym (k .answer), h .raster ∙ sym (k .raster))
 
 -- a refusal changes nothing
 pub build-refused : (n : ℕ) (R before : List ℕ) (o : Outcome) (after : List ℕ) → Builds n R before o after → answers o ≡ false → after ≡ before
@@ -153,53 +145,3 @@ pub decode-any-numbering : (n : ℕ) (T U old kept : List ℕ) (v w : ℕ) (R S 
     → Decodes n T old (Answered v) R → Decodes n U kept (Answered w) S → R ≡ S
 decode-any-numbering n T U old kept v w R S e h k =
     decode-answered n T old v R h .picture ∙ one-tree-one-raster n T U e ∙ sym (decode-answered n U kept w S k .picture)
-
--- one black pixel: it builds, into six words, and decodes again
-abbrev onePixel : List ℕ
-onePixel = black ∷ []
-
-abbrev oneNode : List ℕ
-oneNode = none ∷ none ∷ none ∷ none ∷ none ∷ black ∷ []
-
-abbrev sixWords : List ℕ
-sixWords = 0 ∷ 0 ∷ 0 ∷ 0 ∷ 0 ∷ 0 ∷ []
-
-pixel-builds : buildOf 0 onePixel 6 ≡ Answered 1
-unfolding buildOf rasterTree pixelsFrom treeOf sizeOf
-pixel-builds = refl
-
-pixel-built : builtTable 0 onePixel sixWords ≡ oneNode
-unfolding builtTable buildOf rasterTree pixelsFrom treeOf sizeOf preorder
-pixel-built = refl
-
-node-decodes : decodeOf 0 oneNode 1 ≡ Answered 0
-unfolding decodeOf sizesOf lengthOk faultsOf faultFrom faultAt typeOk fatherOk onceOk sonsOk wordOk depthOk mixedOk allOf
-node-decodes = refl
-
-node-decoded : decodedRaster 0 oneNode (0 ∷ []) ≡ onePixel
-unfolding decodedRaster decodeOf sizesOf lengthOk faultsOf faultFrom faultAt typeOk fatherOk onceOk sonsOk wordOk depthOk mixedOk allOf rasterOf tabFrom pixel holder pathOf
-node-decoded = refl
-
--- a library is what it gives back and what it leaves in the slice that it is lent
-module _ (gives : ℕ → List ℕ → List ℕ → Outcome) (leaves : ℕ → List ℕ → List ℕ → List ℕ) where
-  module _ (meets : (n : ℕ) (R before : List ℕ) → Builds n R before (gives n R before) (leaves n R before)) where
-    pub build-not-refused : ((n : ℕ) (R before : List ℕ) → answers (gives n R before) ≡ false) → ⊥
-    build-not-refused refuses =
-        false≢true (sym (refuses 0 onePixel sixWords) ∙ ap answers (meets 0 onePixel sixWords .answer ∙ pixel-builds))
-
-    pub build-not-idle : ((n : ℕ) (R before : List ℕ) → leaves n R before ≡ before) → ⊥
-    build-not-idle idles =
-        let e : sixWords ≡ oneNode = sym (idles 0 onePixel sixWords) ∙ meets 0 onePixel sixWords .table ∙ pixel-built in
-        let z : _≡_ {A = ℕ} 0 1 = ap (λ (l : List ℕ). getD l 5 0) e in
-        omega arith
-
-  module _ (meets : (n : ℕ) (T before : List ℕ) → Decodes n T before (gives n T before) (leaves n T before)) where
-    pub decode-not-refused : ((n : ℕ) (T before : List ℕ) → answers (gives n T before) ≡ false) → ⊥
-    decode-not-refused refuses =
-        false≢true (sym (refuses 0 oneNode (0 ∷ [])) ∙ ap answers (meets 0 oneNode (0 ∷ []) .answer ∙ node-decodes))
-
-    pub decode-not-idle : ((n : ℕ) (T before : List ℕ) → leaves n T before ≡ before) → ⊥
-    decode-not-idle idles =
-        let e : 0 ∷ [] ≡ onePixel = sym (idles 0 oneNode (0 ∷ [])) ∙ meets 0 oneNode (0 ∷ []) .raster ∙ node-decoded in
-        let z : _≡_ {A = ℕ} 0 1 = ap (λ (l : List ℕ). getD l 0 0) e in
-        omega arith

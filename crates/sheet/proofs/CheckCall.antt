@@ -1,14 +1,11 @@
 -- What the statement of sheet_check settles: code 0 is given exactly to accepted sheets, and neither a library that refuses everything nor one that
 -- accepts everything meets it (demand 2).
-use mathlib.Core.Bool.{Bool, true, false}
 use mathlib.Core.List.{List, []}
-use mathlib.Core.Path.{_≡_, refl, ap, sym, _∙_}
-use Prim.Native.Nat.{ℕ, _+_, _*_, _%_, _<_}
+use mathlib.Core.Path.{_≡_, refl, _∙_}
+use Prim.Native.Nat.{ℕ, _*_, _%_}
 use native.Mathlib.Omega.{arith}
-use lib.Dec.{eqb}
 use borrow.Author.Tests.{eq-eqb}
-use Rattle.answer.specs.declared.Outcome.{Outcome}
-use Rattle.answer.specs.Numbers.{codeOf, valueOf, numberOf}
+use Rattle.answer.specs.Numbers.{codeOf, numberOf}
 use Rattle.answer.proofs.OutcomeLaws.{code-small}
 use Rattle.table.specs.Table.{nodes}
 use Rattle.table.specs.Rules.{Accepted, checkOf, sizesOf, lengthOk, faultsOf, faultFrom, faultAt, typeOk, fatherOk, onceOk, sonsOk, sonOk, wordOk, depthOk, depthTo, allOf, sonAlike, mixedOk}
