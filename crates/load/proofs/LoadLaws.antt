@@ -1,23 +1,26 @@
 -- The programs' read is sheet_read's but for a sheet that is too large; what it loads is an accepted sheet; and it has no second outcome.
-use mathlib.Core.Bool.{Bool, true, false}
+use mathlib.Core.Bool.{Bool, true, false, true≢false}
 use mathlib.Core.List.{List}
 use mathlib.Core.Path.{_≡_, refl, ap, sym, _∙_}
 use Prim.Native.Nat.{ℕ, _*_, _/_, _%_, _≤_, _<_}
 use native.Mathlib.Omega.{arith}
 use lib.Dec.{leb}
-use lib.ListN.{length, getD, take}
+use lib.ListN.{length, getD, take, replicate}
 use lib.Seq.{take-append-seam}
 use borrow.Author.Tests.{le-leb, lt-leb, eq-eqb}
 use Rattle.answer.specs.declared.Outcome.{Outcome}
 use Rattle.answer.specs.declared.Outcome.the-variants.{Answered, TooLarge}
+use Rattle.answer.specs.Numbers.{answers}
 use Rattle.quad.specs.Numbers.{topLevel, none}
+use Rattle.quad.specs.Tree.{sizeOf, sameLeaf}
 use Rattle.base.specs.Tab.{overlay}
 use Rattle.base.proofs.CaseLaws.{cond-case}
 use Rattle.table.specs.Rules.{Accepted}
-use Rattle.table.specs.Preorder.{preorderTable}
+use Rattle.table.specs.Preorder.{preorder, preorderTable}
+use Rattle.table.specs.SheetA.{tableA, fileA}
 use Rattle.table.proofs.PreorderAccepted.{preorder-accepted}
 use Rattle.table.proofs.PreorderLaws.{preorder-length}
-use Rattle.file.specs.File.{mark, sheetMark, readTable}
+use Rattle.file.specs.File.{mark, sheetMark, blockAt, openOf, readOf, readTable}
 use Rattle.file.specs.Calls.{Reads}
 use Rattle.file.proofs.FaultLaws.{Answers, read-answers, read-length}
 use Rattle.file.proofs.OneFile.{opens}
@@ -87,3 +90,23 @@ loaded-accepted s before after r v l e =
 -- no second outcome
 pub one-outcome : (s before : List ℕ) (r q : Outcome) (after final : List ℕ) → Loads s before r after → Loads s before q final → (r ≡ q) × (after ≡ final)
 one-outcome s before r q after final a b = (a .answer ∙ sym (b .answer), a .table ∙ sym (b .table))
+
+-- sheet A is loaded, so neither a read that refuses everything nor one that writes nothing meets the statement (demand 2)
+abbrev zeros : List ℕ
+zeros = replicate 54 0
+
+loads-A : loadOf fileA 54 ≡ Answered 74
+unfolding loadOf tooLarge readOf openOf blockAt sizeOf sameLeaf
+loads-A = refl
+
+loaded-A : loadedTable fileA zeros ≡ tableA
+unfolding loadedTable tooLarge readTable readOf openOf blockAt sizeOf sameLeaf preorder
+loaded-A = refl
+
+module _ (answer : List ℕ → List ℕ → Outcome) (table : List ℕ → List ℕ → List ℕ)
+    (meets : (s before : List ℕ) → Loads s before (answer s before) (table s before)) where
+  pub load-not-refused : ((s before : List ℕ) → answers (answer s before) ≡ false) → ⊥
+  load-not-refused refuses = true≢false (sym (ap answers (meets fileA zeros .answer ∙ loads-A)) ∙ refuses fileA zeros)
+
+  pub load-writes : ((s before : List ℕ) → table s before ≡ before) → ⊥
+  load-writes idle = omega (arith, ap (λ (l : List ℕ). getD l 1 0) (sym (meets fileA zeros .table ∙ loaded-A) ∙ idle fileA zeros))
