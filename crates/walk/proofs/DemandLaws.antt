@@ -7,7 +7,7 @@ use Prim.Native.Nat.{ℕ, zero, suc, _+_, _/_, _^_, _<_}
 use native.Mathlib.Omega.{arith}
 use lib.Dec.{leb, eqb}
 use lib.ListN.{length}
-use borrow.Author.Tests.{leb-true}
+use borrow.Author.Tests.{leb-true, leb-false}
 use Rattle.base.proofs.CaseLaws.{cond-case}
 use Rattle.answer.specs.Numbers.{answers}
 use Rattle.quad.specs.Numbers.{topColour, forkType}
@@ -22,6 +22,7 @@ use Rattle.walk.specs.declared.Answer.the-variants.{Moved, Run, EndRow, 
 use Rattle.walk.specs.Walk.{start, badPlace, spans, half, nextSon, insideOf, outsideOf, stepOf}
 use Rattle.walk.specs.Whole.{Walked, trace, startAt, crossing, rowsWalk, wholeWalk}
 use Rattle.walk.specs.Rows.{RowLeaves, EachRow, leavesIn, rowEnds, stops, tally, Tells, Honest, answersOf, Demanded}
+use Rattle.walk.proofs.PlaceLaws.{neither}
 use Rattle.walk.proofs.PassLaws.{at, gives, trace-step, trace-then, toldAt, standing}
 use Rattle.walk.proofs.WholeLaws.{row-crossed, row-ended, walked-whole, done, trace-answers, same-walk}
 use Rattle.walk.proofs.CountLaws.{row-no-ends, whole-links, whole-runs, whole-ends, whole-stops}
@@ -40,14 +41,16 @@ module _ (T : List ℕ) (p : Place) where
       (λ e. (refl, refl, leb-true _ _ e))
       (λ e. cond-case Fair (not (eqb (type T (p .node)) forkType) || (eqb (p .level) 0 || leb (nodes T) (nextSon T p))) _ _
       (λ e. refl)
-      (λ e. inr (quadrantOf (p .x / half p) (p .y / half p), omega arith, refl)))
+      (λ e.
+      let ok = neither (eqb (p .level) 0) _ (neither (not (eqb (type T (p .node)) forkType)) _ e .1) .1 in
+      (inr (quadrantOf (p .x / half p) (p .y / half p), omega arith, refl), leb-false _ _ ok)))
 
   outside-tells : Fair (outsideOf T p)
   unfolding outsideOf
   outside-tells =
       cond-case Fair (eqb (p .level) (p .n)) _ _
       (λ e. refl)
-      (λ e. cond-case Fair (leb (nodes T) (father T (p .node))) _ _ (λ e. refl) (λ e. inl refl))
+      (λ e. cond-case Fair (leb (nodes T) (father T (p .node))) _ _ (λ e. refl) (λ e. (inl refl, leb-false _ _ e)))
 
   pub step-tells : Fair (stepOf T p)
   unfolding stepOf

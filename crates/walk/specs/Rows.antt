@@ -122,10 +122,10 @@ tally kind (a ∷ more) = kind a + tally kind more
 abbrev pub Linked : List ℕ → ℕ → ℕ → Type 0
 Linked T p q = (q ≡ father T p) ⊎ ((k : ℕ) × (k < 4) × (q ≡ son T p k))
 
--- what an answer tells of the step from p to q: Moved goes along one link to the node that q shows, and nothing else changes the node;
--- a Run has the colour of the leaf where the walk stands
+-- what an answer tells of the step from p to q: Moved goes along one link to the node that q shows, which is one of the table's and so never None, and
+-- nothing else changes the node; a Run has the colour of the leaf where the walk stands
 abbrev pub Tells : List ℕ → Place → Answer → Place → Type 0
-Tells T p Moved q = Linked T (p .node) (q .node)
+Tells T p Moved q = Linked T (p .node) (q .node) × (q .node < nodes T)
 Tells T p (Run c w) q = (q .node ≡ p .node) × (type T (p .node) ≡ c) × (c ≤ topColour)
 Tells T p EndRow q = q .node ≡ p .node
 Tells T p Done q = q .node ≡ p .node
