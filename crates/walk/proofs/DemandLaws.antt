@@ -6,7 +6,7 @@ use mathlib.Core.Path.{_≡_, refl, ap, _∙_}
 use Prim.Native.Nat.{ℕ, zero, suc, _+_, _/_, _^_, _<_}
 use native.Mathlib.Omega.{arith}
 use lib.Dec.{leb, eqb}
-use lib.ListN.{length}
+use lib.ListN.{length, replicate, length-append, length-replicate}
 use borrow.Author.Tests.{leb-true, leb-false}
 use Rattle.base.proofs.CaseLaws.{cond-case}
 use Rattle.answer.specs.Numbers.{answers}
@@ -23,8 +23,8 @@ use Rattle.walk.specs.Walk.{start, badPlace, spans, half, nextSon, insid
 use Rattle.walk.specs.Whole.{Walked, trace, startAt, crossing, rowsWalk, wholeWalk}
 use Rattle.walk.specs.Rows.{RowLeaves, EachRow, leavesIn, rowEnds, stops, tally, Tells, Honest, answersOf, Demanded}
 use Rattle.walk.proofs.PlaceLaws.{neither}
-use Rattle.walk.proofs.PassLaws.{at, gives, trace-step, trace-then, toldAt, standing}
-use Rattle.walk.proofs.WholeLaws.{row-crossed, row-ended, walked-whole, done, trace-answers, same-walk}
+use Rattle.walk.proofs.PassLaws.{at, gives, trace-step, trace-length, trace-then, toldAt, standing}
+use Rattle.walk.proofs.WholeLaws.{row-crossed, row-ended, walked-whole, done, done-for-ever, trace-answers, same-walk}
 use Rattle.walk.proofs.CountLaws.{row-no-ends, whole-links, whole-runs, whole-ends, whole-stops}
 use Rattle.walk.proofs.LeafLaws.{row-leaves}
 use Rattle.walk.proofs.RowLaws.{whole-rows}
@@ -120,6 +120,18 @@ module _ (n : ℕ) (T : List ℕ) (acc : Accepted n T) where
         ended = rw told (whole-ends n T acc);
         unbroken = rw told (whole-stops n T acc);
       }
+
+  -- the walk's steps are first those demanded, then Done with the same place for ever
+  pub demanded-then-done : (told : List Stepped) × Demanded n T told
+      × ((k : ℕ) → trace (length told + k) T (start n) ≡ told ++ replicate k (gives Done (startAt n (2 ^ n))))
+  demanded-then-done = (
+    _,
+    demand-met,
+    λ k.
+        let j : length (trace (length (wholeWalk n T)) T (start n)) + k ≡ length (wholeWalk n T ++ replicate k Done) =
+        rw (trace-length, length-append, length-replicate) in
+        rw j (trace-then (walked-whole n T acc) (replicate k Done) ∙ rw (length-replicate, done-for-ever n T acc k)),
+  )
 
   -- and there is no other walk from the start place to the first Done
   pub walk-exact : (us : List Answer) (q : Place) → Walked T (start n) us q → tally stops us ≡ 0 → stepOf T q .answer ≡ Done → us ≡ wholeWalk n T
