@@ -139,7 +139,7 @@ Honest T p (s ∷ more) = Tells T p (s .answer) (s .place) × Honest T (s .place
 abbrev pub answersOf : List Stepped → List Answer
 answersOf told = map (λ s. s .answer) told
 
--- H, the sum of the sides of all leaves
+-- H, the sum of the sides of all leaves: added up over the tree, and the same over the table's own leaves (`sides-summed`, proofs/CountLaws)
 abbrev pub sides : ℕ → List ℕ → ℕ
 sides n T = sidesOf n (treeAt T n 0)
 
