@@ -113,6 +113,14 @@ stops EndRow = 0
 stops Done = 1
 stops (Refused c v) = 1
 
+-- Done alone
+abbrev pub dones : Answer → ℕ
+dones Moved = 0
+dones (Run c w) = 0
+dones EndRow = 0
+dones Done = 1
+dones (Refused c v) = 0
+
 -- how many of the answers are of a kind
 unfoldable pub tally : (Answer → ℕ) → List Answer → ℕ
 tally kind [] = 0
