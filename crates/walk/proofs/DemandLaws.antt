@@ -1,4 +1,5 @@
--- Demand 3 is met, for every n and any numbering: the steps from the start place to the first Done are as demanded, and no other walk comes from there.
+-- Demand 3 is met, for every n and any numbering: the steps from the start place to the first Done are as demanded, then it is Done for ever, and no other
+-- walk comes from there.
 use mathlib.Core.Bool.{not, _||_}
 use mathlib.Core.List.{List, [], _∷_, _++_, append-nil, append-assoc}
 use mathlib.Core.Logic.{inl, inr}
