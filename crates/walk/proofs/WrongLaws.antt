@@ -65,7 +65,7 @@ unfolding Honest
 later T p [] vs t = (p, t)
 later T p (u ∷ us) vs t = later T (u .place) us vs (t .1)
 
--- each step shows a node of the table, from one on
+-- from a node of the table each step shows one
 shown : (T : List ℕ) (p q : Place) (a : Answer) → p .node < nodes T → Tells T p a q → q .node < nodes T
 shown T p q Moved h t = t .1
 shown T p q (Run c w) h t = omega arith
