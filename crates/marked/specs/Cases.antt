@@ -17,7 +17,7 @@ use Rattle.distance.specs.Distance.{distanceAt, plainOutside}
 use Rattle.walk.specs.declared.Answer.{Answer}
 use Rattle.walk.specs.Walk.{start}
 use Rattle.walk.specs.Whole.{trace}
-use Rattle.walk.specs.Rows.{moves, stops, tally, answersOf}
+use Rattle.walk.specs.Rows.{moves, stops, dones, tally, answersOf}
 use Rattle.table.specs.SheetA.{tableA, rasterJ, tableK}
 
 -- of the first k answers of a walk over a sheet of level n, how many are of a kind
@@ -42,10 +42,10 @@ allHold (c ∷ more) = eqb (c .gives) (c .wants) && allHold more
 
 unfoldable pub cases : List Case
 cases =
-    -- (a) H is 10 and the walk gives 38 answers before Done; the program's 24 links
+    -- (a) H is 10 and the walk gives 38 answers before Done: none of the first 38 is Done or refused, the next is Done; the program's 24 links
     is (sidesOf 2 (treeAt tableA 2 0)) 10
     ∷ is (firstAnswers stops 38 2 tableA) 0
-    ∷ is (firstAnswers stops 39 2 tableA) 1
+    ∷ is (firstAnswers dones 39 2 tableA) 1
     ∷ is (firstAnswers moves 38 2 tableA) 24
     -- (b) E of node 1 is node 2, a fork
     ∷ is (numberOf (neighbourOf 2 tableA 1 1)) (256 * 2)
@@ -64,11 +64,11 @@ cases =
     -- (j) rows 1110, 1110, 1111, 1111 give the NW block 4, the SE block 2
     ∷ is (distanceAt plainOutside 2 tableJ 1) 4
     ∷ is (distanceAt plainOutside 2 tableJ 8) 2
-    -- (k) one black pixel, n = 0: N = 1, no links (a run and a row's end alone), the distance's mark
+    -- (k) one black pixel, n = 0: N = 1, no links (a run and a row's end alone, then Done), the distance's mark
     ∷ is (numberOf (buildOf 0 (black ∷ []) 6)) (256 * 1)
     ∷ is (numberOf (checkOf 0 tableK)) (256 * 1)
     ∷ is (firstAnswers stops 2 0 tableK) 0
-    ∷ is (firstAnswers stops 3 0 tableK) 1
+    ∷ is (firstAnswers dones 3 0 tableK) 1
     ∷ is (firstAnswers moves 3 0 tableK) 0
     ∷ is (distanceAt plainOutside 0 tableK 0) none
     -- (l) an empty file is 13 at 0

@@ -1,22 +1,24 @@
--- An accepted table has exactly as many nodes as its tree. Add up the sizes of all nodes' trees: each is 1 and the sizes of its sons', and every node
--- but the root is the son of one father, so the sum is N and the sum of all sizes but the root's.
+-- What a tree adds up over its nodes, for each leaf a weight by its level and colour and for each fork another, an accepted table adds up over all its own
+-- nodes (`tree-sum`); so it has exactly as many nodes as its tree. Add up what all nodes' trees hold: each holds its node's weight and what its sons' hold,
+-- and every node but the root is the son of one father, so the sum is that of all weights and of what all trees but the root's hold.
 use mathlib.Core.Bool.{Bool, true, false, cond, true≢false}
 use mathlib.Core.List.{List}
 use mathlib.Core.Logic.{⊎-elim}
 use mathlib.Core.Path.{_≡_, refl, ap, sym, _∙_}
-use Prim.Native.Nat.{ℕ, zero, suc, _+_, _-_, _≤_, _<_}
+use Prim.Native.Nat.{ℕ, suc, _+_, _-_, _<_}
 use native.Mathlib.Nat.{eq-zero-or-pos}
 use native.Mathlib.Omega.{arith}
 use lib.Dec.{eqb}
 use borrow.Author.Tests.{eq-eqb, ne-eqb, eqb-true, eqb-false}
 use Rattle.base.specs.Tab.{sum}
 use Rattle.base.proofs.BoolLaws.{by-bool}
+use Rattle.base.proofs.CaseLaws.{cond-case}
 use Rattle.base.proofs.SumLaws.{sum-same, sum-add, sum-zeros, sum-ones, sum-swap, sum-one, sum-past}
 use Rattle.quad.specs.Numbers.{none}
-use Rattle.quad.specs.Tree.{sizeOf}
-use Rattle.table.specs.Table.{nodes, father, son, isFork}
-use Rattle.table.specs.Rules.{one, depthTo, Accepted}
-use Rattle.table.specs.Nodes.{treeAt}
+use Rattle.quad.specs.Tree.{Tree, leaf, fork, sizeOf}
+use Rattle.table.specs.Table.{nodes, father, son, type, isFork}
+use Rattle.table.specs.Rules.{one, Accepted}
+use Rattle.table.specs.Nodes.{levelOf, treeAt}
 use Rattle.table.proofs.RuleLaws.{depth-root}
 use Rattle.table.proofs.AcceptedLaws.{tree-leaf, tree-fork, root-father, father-below, father-fork, named-once, sons-of, depth-son, fork-deep}
 
@@ -36,10 +38,6 @@ four-at false false true true v e = absurd (omega arith)
 four-at false false true false v e = omega arith
 four-at false false false true v e = omega arith
 four-at false false false false v e = absurd (omega arith)
-
-fork-size : (T : List ℕ) (l k p : ℕ) → k ≡ suc l → isFork T p ≡ true → sizeOf (treeAt T k p)
-    ≡ 1 + (sizeOf (treeAt T l (son T p 0)) + (sizeOf (treeAt T l (son T p 1)) + (sizeOf (treeAt T l (son T p 2)) + sizeOf (treeAt T l (son T p 3)))))
-fork-size T l k p e f = rw (e, tree-fork T l p f) (unfold sizeOf in refl)
 
 module _ (n : ℕ) (T : List ℕ) (acc : Accepted n T) where
   N : ℕ
@@ -94,9 +92,9 @@ module _ (n : ℕ) (T : List ℕ) (acc : Accepted n T) where
           o 3 (omega arith),
         )
 
-    leaf-sum : (p : ℕ) → p < N → isFork T p ≡ false → sum (below p) N ≡ 0
+    no-sons : (p : ℕ) → p < N → isFork T p ≡ false → sum (below p) N ≡ 0
     unfolding below N
-    leaf-sum p lt f =
+    no-sons p lt f =
         sum-same (below p) (λ s. 0) N
         (λ s ls. rw (ne-eqb (father T s) p (λ e.
         let pos = father-in s ls (omega arith) in
@@ -125,32 +123,54 @@ module _ (n : ℕ) (T : List ℕ) (acc : Accepted n T) where
         sum-same g (λ s. at (eqb 0 s) (g s) + counted s) N (λ s ls. sym (once s ls))
         ∙ omega (arith, sum-add (λ s. at (eqb 0 s) (g s)) counted N, sum-one g 0 N (acc .sized .some), sum-swap below N N)
 
-  -- the size of the tree of node p, and its sum
-  size : ℕ → ℕ
-  size p = sizeOf (treeAt T (n - depthTo T n p) p)
+  -- F is added up over a tree's nodes: a leaf's is w of its level and colour, a fork's is v and that of its four sons
+  module _
+      (F : ℕ → Tree → ℕ)
+      (w : ℕ → ℕ → ℕ)
+      (v : ℕ)
+      (leaves : (l c : ℕ) → F l (leaf c) ≡ w l c)
+      (forks : (l : ℕ) (a b c d : Tree) → F (suc l) (fork a b c d) ≡ v + (F l a + (F l b + (F l c + F l d)))) where
+    -- F of the tree of node p, and what p itself adds to it
+    held : ℕ → ℕ
+    held p = F (levelOf n T p) (treeAt T (levelOf n T p) p)
 
-  size-is : (p : ℕ) → p < N → size p ≡ 1 + sum (below size p) N
-  unfolding size N
-  size-is p lt =
-      ⊎-elim
-      (λ (f : isFork T p ≡ true).
-      let l : ℕ = n - depthTo T n p - 1 in
-      let e : n - depthTo T n p ≡ suc l = omega (arith, fork-deep n T acc p lt f) in
-      let at-son : (q : ℕ) → q < 4 → size (son T p q) ≡ sizeOf (treeAt T l (son T p q)) =
-      λ q q4. let d = depth-son n T acc p q lt f q4 in let k : n - depthTo T n (son T p q) ≡ l = omega arith in rw k in
-      let w = sons-sum size p lt f in
-      let big = fork-size T l (n - depthTo T n p) p e f in
-      omega (arith, big, w, at-son 0 (omega arith), at-son 1 (omega arith), at-son 2 (omega arith), at-son 3 (omega arith)))
-      (λ (f : isFork T p ≡ false).
-      let w = leaf-sum size p lt f in
-      rw (tree-leaf T (n - depthTo T n p) p f, w) (unfold sizeOf in refl))
-      (by-bool (isFork T p))
+    own : ℕ → ℕ
+    own p = cond (isFork T p) v (w (levelOf n T p) (type T p))
+
+    held-fork : (l k p : ℕ) → k ≡ suc l → isFork T p ≡ true → F k (treeAt T k p)
+        ≡ v + (F l (treeAt T l (son T p 0)) + (F l (treeAt T l (son T p 1)) + (F l (treeAt T l (son T p 2)) + F l (treeAt T l (son T p 3)))))
+    held-fork l k p e f = rw (e, tree-fork T l p f) (forks l _ _ _ _)
+
+    held-is : (p : ℕ) → p < N → held p ≡ own p + sum (below held p) N
+    unfolding held own N
+    held-is p lt =
+        ⊎-elim
+        (λ (f : isFork T p ≡ true).
+        let l : ℕ = levelOf n T p - 1 in
+        let e : levelOf n T p ≡ suc l = omega (arith, fork-deep n T acc p lt f) in
+        let at-son : (q : ℕ) → q < 4 → held (son T p q) ≡ F l (treeAt T l (son T p q)) =
+        λ q q4. let d = depth-son n T acc p q lt f q4 in let k : levelOf n T (son T p q) ≡ l = omega arith in rw k in
+        let s = sons-sum held p lt f in
+        let big = held-fork l (levelOf n T p) p e f in
+        rw f (omega (arith, big, s, at-son 0 (omega arith), at-son 1 (omega arith), at-son 2 (omega arith), at-son 3 (omega arith))))
+        (λ (f : isFork T p ≡ false).
+        let s = no-sons held p lt f in
+        rw (tree-leaf T (levelOf n T p) p f, f, s) (omega (arith, leaves (levelOf n T p) (type T p))))
+        (by-bool (isFork T p))
+
+    -- the tree's is the sum over the table's nodes
+    pub tree-sum : F n (treeAt T n 0) ≡ sum (λ p. cond (isFork T p) v (w (levelOf n T p) (type T p))) (nodes T)
+    unfolding held own N
+    tree-sum =
+        let e : levelOf n T 0 ≡ n = omega (arith, depth-root T n) in
+        let top : held 0 ≡ F n (treeAt T n 0) = rw e in
+        let all = sum-same held (λ p. own p + sum (below held p) N) N held-is in
+        omega (arith, top, all, sum-add own (λ p. sum (below held p) N) N, all-once held)
 
   -- as many nodes as the tree has
   pub tree-size : sizeOf (treeAt T n 0) ≡ nodes T
-  unfolding size N
+  unfolding sizeOf
   tree-size =
-      let e : n - depthTo T n 0 ≡ n = omega (arith, depth-root T n) in
-      let top : size 0 ≡ sizeOf (treeAt T n 0) = rw e in
-      let all = sum-same size (λ p. 1 + sum (below size p) N) N size-is in
-      omega (arith, top, all, sum-add (λ p. 1) (λ p. sum (below size p) N) N, sum-ones N, all-once size)
+      tree-sum (λ l t. sizeOf t) (λ l c. 1) 1 (λ l c. refl) (λ l a b c d. refl)
+      ∙ sum-same (λ p. cond (isFork T p) 1 1) (λ p. 1) (nodes T) (λ p lt. cond-case (λ (k : ℕ). k ≡ 1) (isFork T p) 1 1 (λ e. refl) (λ e. refl))
+      ∙ sum-ones (nodes T)

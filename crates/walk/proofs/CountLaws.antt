@@ -1,16 +1,21 @@
 -- How many answers of each kind: a row of k runs has 4k - 4 links, by induction on the level, and the runs of a block's rows add up to the sides of its
 -- leaves, its northern rows to those of the two northern sons and its southern rows to those of the southern ones.
+use mathlib.Core.Bool.{cond}
 use mathlib.Core.List.{List, [], _∷_, _++_}
 use mathlib.Core.Path.{_≡_, refl, ap, sym, _∙_}
 use Prim.Native.Nat.{ℕ, zero, suc, _+_, _-_, _*_, _/_, _^_, _<_}
 use native.Mathlib.Nat.{pow-succ', add-zero, zero-mul, zero-add}
 use native.Mathlib.Omega.{arith}
 use lib.Pow.{high}
+use Rattle.base.specs.Tab.{sum}
+use Rattle.base.proofs.SumLaws.{sum-same, sum-add, sum-ones}
 use Rattle.quad.specs.Block.{quadrantOf}
 use Rattle.quad.specs.Tree.{Tree, leaf, fork, colour, sonOf, Within, sidesOf}
+use Rattle.table.specs.Table.{nodes, isFork}
 use Rattle.table.specs.Rules.{Accepted}
-use Rattle.table.specs.Nodes.{treeAt}
+use Rattle.table.specs.Nodes.{treeAt, sideOf}
 use Rattle.table.proofs.PictureLaws.{sheet-sound}
+use Rattle.table.proofs.SizeLaws.{tree-sum}
 use Rattle.walk.specs.declared.Answer.{Answer}
 use Rattle.walk.specs.declared.Answer.the-variants.{Moved, Run, EndRow}
 use Rattle.walk.specs.Whole.{through, crossing, rowsWalk, wholeWalk}
@@ -18,42 +23,18 @@ use Rattle.walk.specs.Rows.{moves, runs, rowEnds, stops, tally, sides}
 use Rattle.walk.proofs.NumberLaws.{column-son}
 use Rattle.walk.proofs.AlongLaws.{crossing-leaf, crossing-fork}
 
--- a sum over the k numbers from i on
-unfoldable sum : (ℕ → ℕ) → ℕ → ℕ → ℕ
-sum f zero i = 0
-sum f (suc k) i = f i + sum f k (i + 1)
-
-sum-add : (f g : ℕ → ℕ) (k i : ℕ) → sum (λ y. f y + g y) k i ≡ sum f k i + sum g k i
+-- a sum in two parts, and its first term
+sum-split : (f : ℕ → ℕ) (k m : ℕ) → sum f (k + m) ≡ sum f k + sum (λ j. f (k + j)) m
 unfolding sum
-sum-add f g zero i = refl
-sum-add f g (suc k) i = omega (arith, sum-add f g k (i + 1))
+sum-split f k zero = rw (add-zero k) (omega arith)
+sum-split f k (suc m) =
+    let e : k + suc m ≡ suc (k + m) = omega arith in
+    rw (e, sum) (omega (arith, sum-split f k m))
 
-sum-one : (f : ℕ → ℕ) (k i : ℕ) → ((y : ℕ) → f y ≡ 1) → sum f k i ≡ k
+sum-first : (f : ℕ → ℕ) (k : ℕ) → sum f (suc k) ≡ f 0 + sum (λ j. f (suc j)) k
 unfolding sum
-sum-one f zero i h = refl
-sum-one f (suc k) i h = omega (arith, h i, sum-one f k (i + 1) h)
-
-sum-split : (f : ℕ → ℕ) (k m i : ℕ) → sum f (k + m) i ≡ sum f k i + sum f m (i + k)
-unfolding sum
-sum-split f zero m i =
-    let a : 0 + m ≡ m = omega arith in
-    let b : i + 0 ≡ i = omega arith in
-    rw (a, b) (omega arith)
-sum-split f (suc k) m i =
-    let a : suc k + m ≡ suc (k + m) = omega arith in
-    let b : i + suc k ≡ i + 1 + k = omega arith in
-    rw (a, b) (omega (arith, sum-split f k m (i + 1)))
-
-sum-same : (f g : ℕ → ℕ) (k i : ℕ) → ((j : ℕ) → j < k → f (i + j) ≡ g (i + j)) → sum f k i ≡ sum g k i
-unfolding sum
-sum-same f g zero i h = refl
-sum-same f g (suc k) i h =
-    let e : f i ≡ g i = ap f (sym (add-zero i)) ∙ h 0 (omega arith) ∙ ap g (add-zero i) in
-    let r : sum f k (i + 1) ≡ sum g k (i + 1) =
-    sum-same f g k (i + 1) (λ j lt.
-    let a : i + 1 + j ≡ i + suc j = omega arith in
-    rw a (h (suc j) (omega arith))) in
-    omega arith
+sum-first f zero = refl
+sum-first f (suc k) = omega (arith, sum-first f k)
 
 -- counting in parts
 module _ (kind : Answer → ℕ) where
@@ -96,31 +77,33 @@ row-no-ends = row-none rowEnds refl (λ c w. refl)
 row-no-stops : (l : ℕ) (t : Tree) (y : ℕ) → tally stops (crossing l t y) ≡ 0
 row-no-stops = row-none stops refl (λ c w. refl)
 
--- the runs in row y of a block
+-- the runs in row y of a block, and in the k rows from row y on
 abbrev across : ℕ → Tree → ℕ → ℕ
 across l t y = tally runs (crossing l t y)
 
+abbrev acrossRows : ℕ → Tree → ℕ → ℕ → ℕ
+acrossRows l t k y = sum (λ j. across l t (y + j)) k
+
 -- the northern rows, i = 0, and the southern ones, i = 1, of a fork's block in row Y of blocks: what the two sons there have
-half-rows : (l : ℕ) (a b c d : Tree) (Y i : ℕ) → i < 2 → sum (across (suc l) (fork a b c d)) (2 ^ l) ((2 * Y + i) * 2 ^ l)
-    ≡ sum (across l (sonOf (fork a b c d) (2 * i))) (2 ^ l) ((2 * Y + i) * 2 ^ l) + sum (across l (sonOf (fork a b c d) (1 + 2 * i))) (2 ^ l) ((2 * Y + i) * 2 ^ l)
+half-rows : (l : ℕ) (a b c d : Tree) (Y i : ℕ) → i < 2 → acrossRows (suc l) (fork a b c d) (2 ^ l) ((2 * Y + i) * 2 ^ l)
+    ≡ acrossRows l (sonOf (fork a b c d) (2 * i)) (2 ^ l) ((2 * Y + i) * 2 ^ l) + acrossRows l (sonOf (fork a b c d) (1 + 2 * i)) (2 ^ l) ((2 * Y + i) * 2 ^ l)
 half-rows l a b c d Y i h =
-    let t = fork a b c d in
-    let west : ℕ → ℕ = across l (sonOf (fork a b c d) (2 * i)) in
-    let east : ℕ → ℕ = across l (sonOf (fork a b c d) (1 + 2 * i)) in
-    sum-same (across (suc l) (fork a b c d)) (λ y. west y + east y) (2 ^ l) ((2 * Y + i) * 2 ^ l)
+    let west : ℕ → ℕ = λ j. across l (sonOf (fork a b c d) (2 * i)) ((2 * Y + i) * 2 ^ l + j) in
+    let east : ℕ → ℕ = λ j. across l (sonOf (fork a b c d) (1 + 2 * i)) ((2 * Y + i) * 2 ^ l + j) in
+    sum-same _ (λ j. west j + east j) (2 ^ l)
     (λ j lt.
     let e : ((2 * Y + i) * 2 ^ l + j) / 2 ^ l ≡ 2 * Y + i = high (2 * Y + i) l lt in
     let w : quadrantOf 0 (2 * Y + i) ≡ 2 * i = omega arith in
     let s : quadrantOf 1 (2 * Y + i) ≡ 1 + 2 * i = omega arith in
     rw (e, w, s) at (tally-fork runs l a b c d ((2 * Y + i) * 2 ^ l + j)) ∙ omega arith)
-    ∙ sum-add west east (2 ^ l) ((2 * Y + i) * 2 ^ l)
+    ∙ sum-add west east (2 ^ l)
 
-runs-sides : (l : ℕ) (t : Tree) (Y : ℕ) → Within l t → sum (across l t) (2 ^ l) (Y * 2 ^ l) ≡ sidesOf l t
+runs-sides : (l : ℕ) (t : Tree) (Y : ℕ) → Within l t → acrossRows l t (2 ^ l) (Y * 2 ^ l) ≡ sidesOf l t
 unfolding sidesOf Within sonOf
-runs-sides l (leaf c) Y w = sum-one (across l (leaf c)) (2 ^ l) (Y * 2 ^ l) (λ y. tally-leaf runs l c y)
+runs-sides l (leaf c) Y w = sum-same _ (λ j. 1) (2 ^ l) (λ j lt. tally-leaf runs l c (Y * 2 ^ l + j)) ∙ sum-ones (2 ^ l)
 runs-sides zero (fork a b c d) Y w = absurd w
 runs-sides (suc l) (fork a b c d) Y w =
-    let all : ℕ → ℕ → ℕ = sum (across (suc l) (fork a b c d)) in
+    let t : Tree = fork a b c d in
     let two : 2 ^ suc l ≡ 2 ^ l + 2 ^ l = omega (arith, pow-succ' 2 l) in
     let from : Y * 2 ^ suc l ≡ (2 * Y + 0) * 2 ^ l = omega (arith, column-son Y 0 l) in
     let middle : (2 * Y + 0) * 2 ^ l + 2 ^ l ≡ (2 * Y + 1) * 2 ^ l = omega (arith, column-son Y 0 l, column-son Y 1 l) in
@@ -130,10 +113,12 @@ runs-sides (suc l) (fork a b c d) Y w =
     let ne = runs-sides l b (2 * Y + 0) (w .1) in
     let sw = runs-sides l c (2 * Y + 1) (w .2) in
     let se = runs-sides l d (2 * Y + 1) (w .3) in
-    ap (λ (k : ℕ). all k (Y * 2 ^ suc l)) two
-    ∙ ap (λ (i : ℕ). all (2 ^ l + 2 ^ l) i) from
-    ∙ sum-split (across (suc l) (fork a b c d)) (2 ^ l) (2 ^ l) ((2 * Y + 0) * 2 ^ l)
-    ∙ omega (arith, ap (λ (i : ℕ). all (2 ^ l) i) middle)
+    let later : sum (λ j. across (suc l) t ((2 * Y + 0) * 2 ^ l + (2 ^ l + j))) (2 ^ l) ≡ acrossRows (suc l) t (2 ^ l) ((2 * Y + 1) * 2 ^ l) =
+    sum-same _ _ (2 ^ l) (λ j lt. ap (across (suc l) t) (omega arith)) in
+    ap (λ (k : ℕ). acrossRows (suc l) t k (Y * 2 ^ suc l)) two
+    ∙ ap (λ (i : ℕ). acrossRows (suc l) t (2 ^ l + 2 ^ l) i) from
+    ∙ sum-split (λ j. across (suc l) t ((2 * Y + 0) * 2 ^ l + j)) (2 ^ l) (2 ^ l)
+    ∙ omega (arith, later, north, south)
 
 -- the answers of k rows from row y on
 module _ (n : ℕ) (t : Tree) where
@@ -141,10 +126,12 @@ module _ (n : ℕ) (t : Tree) where
   unfolding rowsWalk tally
   tally-rows kind k y = tally-append kind (crossing n t y) (EndRow ∷ rowsWalk n t k (y + 1))
 
-  rows-runs : (k y : ℕ) → tally runs (rowsWalk n t k y) ≡ sum (across n t) k y
-  unfolding sum
-  rows-runs zero y = unfold rowsWalk tally in refl
-  rows-runs (suc k) y = omega (arith, tally-rows runs k y, rows-runs k (y + 1))
+  rows-runs : (k y : ℕ) → tally runs (rowsWalk n t k y) ≡ acrossRows n t k y
+  rows-runs zero y = unfold rowsWalk tally sum in refl
+  rows-runs (suc k) y =
+      let first = ap (across n t) (add-zero y) in
+      let others : sum (λ j. across n t (y + suc j)) k ≡ acrossRows n t k (y + 1) = sum-same _ _ k (λ j lt. ap (across n t) (omega arith)) in
+      omega (arith, tally-rows runs k y, rows-runs k (y + 1), sum-first (λ j. across n t (y + j)) k, first, others)
 
   -- the links of the rows add up
   pub rows-links : (k y : ℕ) → tally moves (rowsWalk n t k y) + 4 * k ≡ 4 * tally runs (rowsWalk n t k y)
@@ -161,6 +148,11 @@ module _ (n : ℕ) (t : Tree) where
 
 -- the whole walk's counts
 module _ (n : ℕ) (T : List ℕ) (acc : Accepted n T) where
+  -- H is the sum of the sides of all the table's leaves
+  pub sides-summed : sides n T ≡ sum (λ p. cond (isFork T p) 0 (sideOf n T p)) (nodes T)
+  unfolding sidesOf
+  sides-summed = tree-sum n T acc sidesOf (λ l c. 2 ^ l) 0 (λ l c. refl) (λ l a b c d. sym (zero-add _))
+
   pub whole-runs : tally runs (wholeWalk n T) ≡ sides n T
   whole-runs =
       let z : 0 * 2 ^ n ≡ 0 = zero-mul (2 ^ n) in

@@ -1,4 +1,5 @@
--- Demand 3 is met, for every n and any numbering: the steps from the start place to the first Done are as demanded, and no other walk comes from there.
+-- Demand 3 is met, for every n and any numbering: the steps from the start place to the first Done are as demanded, then it is Done for ever, and no other
+-- walk comes from there.
 use mathlib.Core.Bool.{not, _||_}
 use mathlib.Core.List.{List, [], _∷_, _++_, append-nil, append-assoc}
 use mathlib.Core.Logic.{inl, inr}
@@ -6,8 +7,8 @@ use mathlib.Core.Path.{_≡_, refl, ap, _∙_}
 use Prim.Native.Nat.{ℕ, zero, suc, _+_, _/_, _^_, _<_}
 use native.Mathlib.Omega.{arith}
 use lib.Dec.{leb, eqb}
-use lib.ListN.{length}
-use borrow.Author.Tests.{leb-true}
+use lib.ListN.{length, replicate, length-append, length-replicate}
+use borrow.Author.Tests.{leb-true, leb-false}
 use Rattle.base.proofs.CaseLaws.{cond-case}
 use Rattle.answer.specs.Numbers.{answers}
 use Rattle.quad.specs.Numbers.{topColour, forkType}
@@ -22,8 +23,9 @@ use Rattle.walk.specs.declared.Answer.the-variants.{Moved, Run, EndRow, 
 use Rattle.walk.specs.Walk.{start, badPlace, spans, half, nextSon, insideOf, outsideOf, stepOf}
 use Rattle.walk.specs.Whole.{Walked, trace, startAt, crossing, rowsWalk, wholeWalk}
 use Rattle.walk.specs.Rows.{RowLeaves, EachRow, leavesIn, rowEnds, stops, tally, Tells, Honest, answersOf, Demanded}
-use Rattle.walk.proofs.PassLaws.{at, gives, trace-step, trace-then, toldAt, standing}
-use Rattle.walk.proofs.WholeLaws.{row-crossed, row-ended, walked-whole, done, trace-answers, same-walk}
+use Rattle.walk.proofs.PlaceLaws.{neither}
+use Rattle.walk.proofs.PassLaws.{at, gives, trace-step, trace-length, trace-then, toldAt, standing}
+use Rattle.walk.proofs.WholeLaws.{row-crossed, row-ended, walked-whole, done, done-for-ever, trace-answers, same-walk}
 use Rattle.walk.proofs.CountLaws.{row-no-ends, whole-links, whole-runs, whole-ends, whole-stops}
 use Rattle.walk.proofs.LeafLaws.{row-leaves}
 use Rattle.walk.proofs.RowLaws.{whole-rows}
@@ -40,14 +42,16 @@ module _ (T : List ℕ) (p : Place) where
       (λ e. (refl, refl, leb-true _ _ e))
       (λ e. cond-case Fair (not (eqb (type T (p .node)) forkType) || (eqb (p .level) 0 || leb (nodes T) (nextSon T p))) _ _
       (λ e. refl)
-      (λ e. inr (quadrantOf (p .x / half p) (p .y / half p), omega arith, refl)))
+      (λ e.
+      let ok = neither (eqb (p .level) 0) _ (neither (not (eqb (type T (p .node)) forkType)) _ e .1) .1 in
+      (inr (quadrantOf (p .x / half p) (p .y / half p), omega arith, refl), leb-false _ _ ok)))
 
   outside-tells : Fair (outsideOf T p)
   unfolding outsideOf
   outside-tells =
       cond-case Fair (eqb (p .level) (p .n)) _ _
       (λ e. refl)
-      (λ e. cond-case Fair (leb (nodes T) (father T (p .node))) _ _ (λ e. refl) (λ e. inl refl))
+      (λ e. cond-case Fair (leb (nodes T) (father T (p .node))) _ _ (λ e. refl) (λ e. (inl refl, leb-false _ _ e)))
 
   pub step-tells : Fair (stepOf T p)
   unfolding stepOf
@@ -117,6 +121,18 @@ module _ (n : ℕ) (T : List ℕ) (acc : Accepted n T) where
         ended = rw told (whole-ends n T acc);
         unbroken = rw told (whole-stops n T acc);
       }
+
+  -- the walk's steps are first those demanded, then Done with the same place for ever
+  pub demanded-then-done : (told : List Stepped) × Demanded n T told
+      × ((k : ℕ) → trace (length told + k) T (start n) ≡ told ++ replicate k (gives Done (startAt n (2 ^ n))))
+  demanded-then-done = (
+    _,
+    demand-met,
+    λ k.
+        let j : length (trace (length (wholeWalk n T)) T (start n)) + k ≡ length (wholeWalk n T ++ replicate k Done) =
+        rw (trace-length, length-append, length-replicate) in
+        rw j (trace-then (walked-whole n T acc) (replicate k Done) ∙ rw (length-replicate, done-for-ever n T acc k)),
+  )
 
   -- and there is no other walk from the start place to the first Done
   pub walk-exact : (us : List Answer) (q : Place) → Walked T (start n) us q → tally stops us ≡ 0 → stepOf T q .answer ≡ Done → us ≡ wholeWalk n T

@@ -1,7 +1,7 @@
 -- A walk by its answers and by the nodes where it tells runs: one step, and one walk after another.
 use mathlib.Core.List.{List, [], _∷_, _++_, append-nil, append-assoc}
-use mathlib.Core.Path.{_≡_, refl, sym}
-use Prim.Native.Nat.{ℕ, suc}
+use mathlib.Core.Path.{_≡_, refl, ap, sym}
+use Prim.Native.Nat.{ℕ, zero, suc}
 use lib.ListN.{length}
 use Rattle.walk.specs.declared.Place.{Place}
 use Rattle.walk.specs.declared.Stepped.{Stepped}
@@ -19,6 +19,11 @@ gives a q = record { place = q; answer = a }
 pub trace-step : (T : List ℕ) (p q : Place) (a : Answer) (k : ℕ) → stepOf T p ≡ gives a q → trace (suc k) T p ≡ gives a q ∷ trace k T q
 unfolding trace
 trace-step T p q a k e = rw e
+
+pub trace-length : (k : ℕ) (T : List ℕ) (p : Place) → length (trace k T p) ≡ k
+unfolding trace
+trace-length zero T p = refl
+trace-length (suc k) T p = ap suc (trace-length k T (stepOf T p .place))
 
 -- one walk after another, and its steps
 pub then : {T : List ℕ} {p q r : Place} {us vs : List Answer} → Walked T p us q → Walked T q vs r → Walked T p (us ++ vs) r

@@ -15,7 +15,7 @@ use Rattle.walk.specs.Good.{Good}
 use Rattle.walk.proofs.NumberLaws.{same-test, side-le}
 
 -- an 'or' that fails, fails in both
-neither : (a b : Bool) → a || b ≡ false → (a ≡ false) × (b ≡ false)
+pub neither : (a b : Bool) → a || b ≡ false → (a ≡ false) × (b ≡ false)
 neither false b e = (refl, e)
 neither true b e = absurd (true≢false e)
 

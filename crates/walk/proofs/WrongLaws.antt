@@ -1,12 +1,13 @@
--- Walks that demand 3 rules out: one that gives all its runs at once, whatever it does before and after, and one whose links are of another number.
+-- Walks that demand 3 rules out: one that gives all its runs at once, whatever it does before and after, one whose links are of another number, and one
+-- that passes through None or any other number that is no node's.
 use mathlib.Core.Bool.{true}
 use mathlib.Core.List.{List, [], _∷_, _++_, append-nil, List·Memᴰ·not-nil, List·Memᴰ·append-cases, List·Memᴰ·eq-of-singleton, Memᴰ·append-left, Memᴰ·append-right}
 use mathlib.Core.Logic.{_⊎_, inl, inr, ⊎-elim}
 use mathlib.Core.Path.{_≡_, refl, ap, sym, _∙_}
-use Prim.Native.Nat.{ℕ, _-_, _*_, _^_}
+use Prim.Native.Nat.{ℕ, _-_, _*_, _^_, _≤_, _<_}
 use native.Mathlib.Omega.{arith}
 use lib.Pow.{pow-pos}
-use Rattle.table.specs.Table.{isFork}
+use Rattle.table.specs.Table.{nodes, isFork}
 use Rattle.table.specs.Rules.{Accepted}
 use Rattle.table.specs.Nodes.{leftOf}
 use Rattle.walk.specs.declared.Place.{Place}
@@ -64,6 +65,20 @@ unfolding Honest
 later T p [] vs t = (p, t)
 later T p (u ∷ us) vs t = later T (u .place) us vs (t .1)
 
+-- from a node of the table each step shows one
+shown : (T : List ℕ) (p q : Place) (a : Answer) → p .node < nodes T → Tells T p a q → q .node < nodes T
+shown T p q Moved h t = t .1
+shown T p q (Run c w) h t = omega arith
+shown T p q EndRow h t = omega arith
+shown T p q Done h t = omega arith
+shown T p q (Refused c v) h t = omega arith
+
+shown-after : (T : List ℕ) (p : Place) (us : List Stepped) (s : Stepped) (vs : List Stepped) → p .node < nodes T → Honest T p (us ++ (s ∷ vs))
+    → s .place .node < nodes T
+unfolding Honest
+shown-after T p [] s vs h t = shown T p (s .place) (s .answer) h (t .0)
+shown-after T p (u ∷ us) s vs h t = shown-after T (u .place) us s vs (shown T p (u .place) (u .answer) h (t .0)) (t .1)
+
 -- a node of the first row is one where a run was told
 in-row : (row : List ℕ) (us : List Stepped) (r : List ℕ) (rs : List (List ℕ)) (q : ℕ) → In q r → leavesIn row us ≡ r ∷ rs → In q row ⊎ In q (standing us)
 unfolding standing
@@ -104,6 +119,9 @@ module _ (n : ℕ) (T : List ℕ) (acc : Accepted n T) where
       let a = h (two .0) (rw e at (two .2)) in
       let b = h (two .1) (rw e at (two .3)) in
       omega (arith, two .4, ap (leftOf n T) (a ∙ sym b))
+
+  pub stray-fails : (before : List Stepped) (s : Stepped) (after : List Stepped) → nodes T ≤ s .place .node → Demanded n T (before ++ (s ∷ after)) → ⊥
+  stray-fails before s after h d = omega (arith, shown-after T (start n) before s after (acc .sized .some) (d .honest))
 
   pub at-once-fails : isFork T 0 ≡ true → (before burst after : List Stepped)
       → tally runs (answersOf before) ≡ 0 → tally moves (answersOf burst) ≡ 0 → tally runs (answersOf after) ≡ 0

@@ -113,6 +113,14 @@ stops EndRow = 0
 stops Done = 1
 stops (Refused c v) = 1
 
+-- Done alone
+abbrev pub dones : Answer → ℕ
+dones Moved = 0
+dones (Run c w) = 0
+dones EndRow = 0
+dones Done = 1
+dones (Refused c v) = 0
+
 -- how many of the answers are of a kind
 unfoldable pub tally : (Answer → ℕ) → List Answer → ℕ
 tally kind [] = 0
@@ -122,10 +130,10 @@ tally kind (a ∷ more) = kind a + tally kind more
 abbrev pub Linked : List ℕ → ℕ → ℕ → Type 0
 Linked T p q = (q ≡ father T p) ⊎ ((k : ℕ) × (k < 4) × (q ≡ son T p k))
 
--- what an answer tells of the step from p to q: Moved goes along one link to the node that q shows, and nothing else changes the node;
--- a Run has the colour of the leaf where the walk stands
+-- what an answer tells of the step from p to q: Moved goes along one link to the node that q shows, which is one of the table's and so never None, and
+-- nothing else changes the node; a Run has the colour of the leaf where the walk stands
 abbrev pub Tells : List ℕ → Place → Answer → Place → Type 0
-Tells T p Moved q = Linked T (p .node) (q .node)
+Tells T p Moved q = Linked T (p .node) (q .node) × (q .node < nodes T)
 Tells T p (Run c w) q = (q .node ≡ p .node) × (type T (p .node) ≡ c) × (c ≤ topColour)
 Tells T p EndRow q = q .node ≡ p .node
 Tells T p Done q = q .node ≡ p .node
@@ -139,7 +147,7 @@ Honest T p (s ∷ more) = Tells T p (s .answer) (s .place) × Honest T (s .place
 abbrev pub answersOf : List Stepped → List Answer
 answersOf told = map (λ s. s .answer) told
 
--- H, the sum of the sides of all leaves
+-- H, the sum of the sides of all leaves: added up over the tree, and the same over the table's own leaves (`sides-summed`, proofs/CountLaws)
 abbrev pub sides : ℕ → List ℕ → ℕ
 sides n T = sidesOf n (treeAt T n 0)
 

@@ -1,5 +1,5 @@
 -- A walk of many steps, and what a walk over a whole sheet gives, answer by answer: row after row, each row the root's block crossed from left to
--- right, then its end (document 003, the second algorithm). Specs/Rows says in document 01's words what these answers must be.
+-- right, then its end (document 003, the second algorithm). In document 01's words specs/Rows says what these answers must be.
 use mathlib.Core.List.{List, [], _∷_, _++_}
 use mathlib.Core.Path.{_≡_}
 use Prim.Native.Nat.{ℕ, zero, suc, _+_, _-_, _/_, _^_}
