@@ -1,6 +1,6 @@
 pub mod SearchLaws
 pub mod StepLaws
-pub mod TurnLaws
+pub mod ClimbLaws
 pub mod FoundLaws
 pub mod CornerLaws
 pub mod CallLaws

@@ -2,8 +2,9 @@
 -- Inner definitions: no outside call's statement cites them.
 use mathlib.Core.Bool.{cond}
 use mathlib.Core.List.{List, [], _∷_}
+use mathlib.Core.Logic.{_⊎_}
 use mathlib.Core.Path.{_≡_}
-use Prim.Native.Nat.{ℕ, zero, suc, _+_, _-_, _≤_, _<_}
+use Prim.Native.Nat.{ℕ, zero, suc, _+_, _-_, _/_, _%_, _^_, _≤_, _<_}
 use lib.Dec.{ltb, eqb}
 use lib.ListN.{length}
 use Rattle.answer.specs.declared.Outcome.{Outcome}
@@ -15,6 +16,7 @@ use Rattle.quad.specs.Direction.{adjOf, reflectOf, opquadOf, commonSideOf}
 use Rattle.table.specs.Table.{nodes, son, isFork}
 use Rattle.table.specs.Rules.{depthTo, Accepted}
 use Rattle.table.specs.Nodes.{pathTo, holder, levelOf}
+use Rattle.neighbour.specs.declared.Climb.{Climb}
 use Rattle.neighbour.specs.declared.Found.{Found}
 use Rattle.neighbour.specs.declared.Found.the-variants.{At, Off}
 use Rattle.neighbour.specs.Neighbour.{beside}
@@ -66,11 +68,6 @@ unfoldable pub foundIn : ℕ → List ℕ → ℕ → Where → Found
 foundIn n T level off = Off
 foundIn n T level (block ρ) = At (holder T ρ) (level + (length ρ - depthTo T n (holder T ρ)))
 
--- from what the search above found, down to quadrant q: the level falls with the link, and a leaf stays
-unfoldable pub downTo : List ℕ → ℕ → Found → Found
-downTo T q Off = Off
-downTo T q (At m l) = cond (isFork T m) (At (son T m q) (l - 1)) (At m l)
-
 -- what the search asks of its caller
 pub record Sought (n : ℕ) (T : List ℕ) (p level D : ℕ) : Type 0 where
   pub accepted : Accepted n T
@@ -78,10 +75,33 @@ pub record Sought (n : ℕ) (T : List ℕ) (p level D : ℕ) : Type 0 where
   pub low : level + depthTo T n p ≤ n
   pub way : D ≤ stay
 
--- what a step down asks of what was found: a node, and above level 0 if it is a fork
-unfoldable pub Steps : List ℕ → Found → Type 0
-Steps T Off = Unit {0}
-Steps T (At m l) = (m < nodes T) × (0 < l)
+-- k moves down from a block, a quadrant each: in base four, the next one lowest
+unfoldable pub inward : ℕ → ℕ → Where → Where
+inward zero moves w = w
+inward (suc k) moves w = inward k (moves / 4) (inner (moves % 4) w)
+
+-- a climb from p, in direction D: what is left to go from its node, and then its moves down, lead where D leads from p
+pub record Climbed (n : ℕ) (T : List ℕ) (p level D : ℕ) (c : Climb) : Type 0 where
+  pub node : c .node < nodes T
+  pub low : level ≤ c .level
+  pub high : c .level + depthTo T n (c .node) ≡ level + depthTo T n p
+  pub way : c .direction ≤ stay
+  pub few : c .moves < 4 ^ (c .level - level)
+  pub same : moved D (pathTo T n p) ≡ inward (c .level - level) (c .moves) (moved (c .direction) (pathTo T n (c .node)))
+
+-- it has ended: nothing is left to go, or nothing lies above
+abbrev pub Ended : Climb → Type 0
+Ended c = (c .direction ≡ stay) ⊎ (c .node ≡ 0)
+
+-- what the descent asks of its caller
+pub record Descends (n : ℕ) (T : List ℕ) (c : Climb) (level : ℕ) : Type 0 where
+  pub accepted : Accepted n T
+  pub node : c .node < nodes T
+  pub low : level ≤ c .level
+
+-- the block that its moves lead to
+abbrev pub backFrom : ℕ → List ℕ → Climb → ℕ → Where
+backFrom n T c level = inward (c .level - level) (c .moves) (block (pathTo T n (c .node)))
 
 -- one step of the descent to a corner: a fork's son in that quadrant, and a leaf itself
 abbrev pub stepTo : List ℕ → ℕ → ℕ → ℕ

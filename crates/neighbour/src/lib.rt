@@ -9,7 +9,7 @@ ghost use Rattle.quad.specs.Direction.{commonSideOf};
 ghost use Rattle.table.specs.Table.{nodes};
 ghost use Rattle.table.specs.Rules.{Accepted};
 ghost use Rattle.table.specs.Nodes.{pathTo, levelOf};
-ghost use Rattle.neighbour.specs.Search.{stay, onwardOf, mirrorOf, moved, foundIn, downTo, Sought, Steps, neighbourFound, outcomeOf, cornerUnder, Cornered, Small};
+ghost use Rattle.neighbour.specs.Search.{stay, onwardOf, mirrorOf, moved, foundIn, Sought, Climbed, Ended, Descends, backFrom, neighbourFound, outcomeOf, cornerUnder, Cornered, Small};
 ghost use Rattle.neighbour.specs.Neighbour.{leafBeyond};
 ghost use Rattle.neighbour.specs.Calls.{Neighbours, CornerLeaves, DiagonalLeaves};
 
@@ -62,21 +62,64 @@ fn mirror(direction: usize, quadrant: usize) -> usize
     quad::opquad(quadrant)
 }
 
-// From a fork that was found down to one of its sons; a leaf stays.
-fn down(table: &[u32], found: Found, quadrant: usize) -> Found
-    requires { ⌜ Steps (now table) found × (quadrant < 4) ⌝ }
-    ensures { λ r. ⌜ r ≡ downTo (now (table .entry)) quadrant found ⌝ }
+// Where a climb stands: an ancestor and its level, the direction in which the block lies from there, and the moves back down to it, a quadrant each: in base
+// four, the next one lowest.
+struct Climb {
+    node: usize,
+    level: u32,
+    direction: usize,
+    moves: usize,
+}
+
+// Up from p, a father link and a level at a time, until the way leads no further than the node itself, or off the sheet.
+fn ascend(n: u32, table: &[u32], p: usize, level: u32, direction: usize) -> Climb
+    requires { ⌜ Sought n (now table) p level direction ⌝ }
+    ensures { λ r. ⌜ Climbed n (now (table .entry)) p level direction r × Ended r ⌝ }
 {
-    let Found::At { node, level } = found else {
-        return found;
-    };
-    if word_at(table, node, 5) != quad::FORK {
-        return found;
+    let mut node = p;
+    let mut above = level;
+    let mut way = direction;
+    let mut moves = 0;
+    while way != STAY {
+        if node == 0 {
+            return Climb {
+                node,
+                level: above,
+                direction: way,
+                moves,
+            };
+        }
+        let quadrant = son_type(table, node);
+        moves = 4 * moves + mirror(way, quadrant);
+        way = onward(way, quadrant);
+        node = word_at(table, node, 0);
+        above += 1;
     }
-    Found::At {
-        node: word_at(table, node, 1 + quadrant),
-        level: level - 1,
+    Climb {
+        node,
+        level: above,
+        direction: way,
+        moves,
     }
+}
+
+// Back down from where a climb ended, a son link and a level at a time, to that level or the leaf in which the block lies.
+fn descend(n: u32, table: &[u32], from: Climb, level: u32) -> Found
+    requires { ⌜ Descends n (now table) from level ⌝ }
+    ensures { λ r. ⌜ r ≡ foundIn n (now (table .entry)) level (backFrom n (now (table .entry)) from level) ⌝ }
+{
+    let mut node = from.node;
+    let mut its = from.level;
+    let mut moves = from.moves;
+    while level < its {
+        if word_at(table, node, 5) != quad::FORK {
+            return Found::At { node, level: its };
+        }
+        node = word_at(table, node, 1 + moves % 4);
+        moves = moves / 4;
+        its -= 1;
+    }
+    Found::At { node, level: its }
 }
 
 // The node that holds the block of p's size in that direction of p, with the level counted from p's `level` on: up one link and down one, one level each.
@@ -84,18 +127,11 @@ fn seek(n: u32, table: &[u32], p: usize, level: u32, direction: usize) -> Found
     requires { ⌜ Sought n (now table) p level direction ⌝ }
     ensures { λ r. ⌜ r ≡ foundIn n (now (table .entry)) level (moved direction (pathTo (now (table .entry)) n p)) ⌝ }
 {
-    if direction == STAY {
-        return Found::At { node: p, level };
-    }
-    if p == 0 {
+    let top = ascend(n, table, p, level, direction);
+    if top.direction != STAY {
         return Found::Off;
     }
-    let father = word_at(table, p, 0);
-    let quadrant = son_type(table, p);
-    let way = onward(direction, quadrant);
-    let son = mirror(direction, quadrant);
-    let above = seek(n, table, father, level + 1, way);
-    down(table, above, son)
+    descend(n, table, top, level)
 }
 
 // The neighbour of p and the neighbour's level, from p and p's level.

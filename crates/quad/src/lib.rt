@@ -24,12 +24,12 @@ const ADJ: [[bool; 4]; 4] = [
     [true, false, true, false],
 ];
 
-const REFLECT: [[usize; 4]; 4] = [[2, 3, 0, 1], [1, 0, 3, 2], [2, 3, 0, 1], [1, 0, 3, 2]];
+const REFLECT: [[u8; 4]; 4] = [[2, 3, 0, 1], [1, 0, 3, 2], [2, 3, 0, 1], [1, 0, 3, 2]];
 
-const OPQUAD: [usize; 4] = [3, 2, 1, 0];
+const OPQUAD: [u8; 4] = [3, 2, 1, 0];
 
 // By two quadrants. 4, which is no side, stands where document 000 leaves it undefined.
-const COMMONSIDE: [[usize; 4]; 4] = [[4, 0, 3, 4], [0, 4, 4, 1], [3, 4, 4, 2], [4, 1, 2, 4]];
+const COMMONSIDE: [[u8; 4]; 4] = [[4, 0, 3, 4], [0, 4, 4, 1], [3, 4, 4, 2], [4, 1, 2, 4]];
 
 // Whether the quadrant touches that side of its father's block.
 pub fn adj(side: usize, quadrant: usize) -> bool
@@ -44,7 +44,7 @@ pub fn reflect(side: usize, quadrant: usize) -> usize
     requires { ⌜ (side < 4) × (quadrant < 4) ⌝ }
     ensures { λ r. ⌜ r ≡ reflectOf side quadrant ⌝ }
 {
-    REFLECT[side][quadrant]
+    REFLECT[side][quadrant] as usize
 }
 
 // The quadrant opposite.
@@ -52,7 +52,7 @@ pub fn opquad(quadrant: usize) -> usize
     requires { ⌜ quadrant < 4 ⌝ }
     ensures { λ r. ⌜ r ≡ opquadOf quadrant ⌝ }
 {
-    OPQUAD[quadrant]
+    OPQUAD[quadrant] as usize
 }
 
 // The side of their father's block that two quadrants share; 4 where they share none.
@@ -60,5 +60,5 @@ pub fn common_side(first: usize, second: usize) -> usize
     requires { ⌜ (first < 4) × (second < 4) ⌝ }
     ensures { λ r. ⌜ r ≡ commonSideOf first second ⌝ }
 {
-    COMMONSIDE[first][second]
+    COMMONSIDE[first][second] as usize
 }
