@@ -14,10 +14,10 @@ use Rattle.table.specs.Rules.{depthTo, Accepted}
 use Rattle.table.specs.Nodes.{sonType, pathTo, holder}
 use Rattle.table.proofs.AcceptedLaws.{father-below, sons-of, sonType-lt, depth-up, depth-son}
 use Rattle.table.proofs.NodeLaws.{path-root, holder-fork, holder-leaf}
-use Rattle.table.proofs.HolderLaws.{path-up, path-son, own-path, own-depth}
+use Rattle.table.proofs.HolderLaws.{path-up, own-path, own-depth}
 use Rattle.neighbour.specs.declared.Climb.{Climb}
 use Rattle.neighbour.specs.declared.Found.the-variants.{At, Off}
-use Rattle.neighbour.specs.Search.{stay, onwardOf, mirrorOf, Where, off, block, inner, moved, foundIn, Sought, inward, Climbed, Descends, backFrom}
+use Rattle.neighbour.specs.Search.{stay, onwardOf, mirrorOf, Where, off, block, inner, moved, foundIn, Sought, inward, Climbed, backFrom}
 use Rattle.neighbour.proofs.SearchLaws.{moved-stay, steers}
 
 abbrev pub climbAt : ℕ → ℕ → ℕ → ℕ → Climb
