@@ -2,7 +2,7 @@
 ghost use Prim.Native.Nat.{_<_};
 
 // A word that names no node.
-const NONE: u32 = 4294967295;
+pub const NONE: u32 = 4294967295;
 
 fn wide(x: u32) -> u64 {
     x as u64
@@ -122,7 +122,7 @@ pub fn raster(held: &[u8], side: usize) {
     }
 }
 
-// A real number's whole part, with `+` behind it where there is more; `?` where it is below 0 or above every u64.
+// A real number's whole part, with `+` behind it where there is more; `?` where it is -1 or less, above every u64, or no number.
 fn real(x: f64) {
     space();
     if x > -1.0 {

@@ -1,10 +1,9 @@
 // Sheet A of document 01, in preorder numbers and in others: every question about a node, its file, and its blocks' centres.
 use crate::pictures;
 use crate::say;
+use crate::say::NONE;
 ghost use mathlib.Core.Path.{_≡_};
 ghost use lib.ListN.{length};
-
-const NONE: u32 = 4294967295;
 
 // A node to a line: father, NW, NE, SW, SE, type.
 const PREORDER: [[u32; 6]; 9] = [
