@@ -122,10 +122,28 @@ END
     same "the two ponds do not touch" "$work/printed" "$work/wanted"
 }
 
+# ---- distances
+
+distances() { run distances; }
+
+# The archive job on two sheets of tests/rows, the ponds and a round lake; what it prints is stored in tests/archive.
+archive() {
+    cp "$here/tests/rows/sheet_a.sheet" "$here/tests/rows/one_black_pixel.sheet" "$work"
+    awk 'BEGIN { print "P1 32 32"; for (i = 0; i < 1024; i++) print ((i % 32 - 13) ^ 2 + (int(i / 32) - 17) ^ 2 < 170) }' |
+        sheet >"$work/round_lake.sheet"
+    for wanted in "$here"/tests/archive/*.txt; do
+        name=$(basename "$wanted" .txt)
+        distances <"$work/$name.sheet" >"$work/printed"
+        same "distances of $name" "$wanted" "$work/printed"
+    done
+    refuses "distances of an empty file" "distances: sheet_read refused, code 13, value 0" distances </dev/null
+}
+
 pbm_there_and_back
 pbm_largest
 pbm_forms
 pbm_refusals
 ponds
+archive
 echo "$passed passed, $failed failed"
 [ "$failed" -eq 0 ] && [ "$passed" -gt 0 ]
