@@ -49,14 +49,6 @@ fn larger(a: u32, b: u32) -> u32
     a
 }
 
-// The side of a block, in pixels.
-fn side(level: u32) -> u32
-    requires { ⌜ level ≤ topLevel ⌝ }
-    ensures { λ r. ⌜ r ≡ 2 ^ level ⌝ }
-{
-    1 << level
-}
-
 // How much farther than the nearer half of a block a half of it lies: its side, or nothing.
 fn farther_by(step: u32, half: usize, side: u32) -> u32
     ensures { λ r. ⌜ r ≡ fartherBy step half side ⌝ }
@@ -150,7 +142,7 @@ fn seek_in(
     requires { ⌜ Spot (now table) (level + 1) p a b × (isFork (now table) p ≡ true) × (q < 4) ⌝ }
     ensures { λ r. ⌜ r ≡ min best (offsetIn (now (table .entry)) east south level p a b q) ⌝ }
 {
-    let half = side(level);
+    let half = quad::side(level);
     let across = a + farther_by(east, q % 2, half);
     let down = b + farther_by(south, q / 2, half);
     let bound = larger(across, down);
@@ -202,7 +194,7 @@ fn around(n: u32, table: &[u32], p: usize, level: u32) -> u32
     requires { ⌜ Inner n (now table) p level ⌝ }
     ensures { λ r. ⌜ r ≡ offsetAround n (now (table .entry)) p stay ⌝ }
 {
-    let mut best = side(level) - 1;
+    let mut best = quad::side(level) - 1;
     let mut direction = 0;
     while direction < 8 {
         if best == 0 {
@@ -238,7 +230,7 @@ fn distance(n: u32, table: &[u32], p: usize) -> u32
         return MARK;
     }
     let level = n - table::depth_to(table, n, p);
-    to_edge(side(level), around(n, table, p, level))
+    to_edge(quad::side(level), around(n, table, p, level))
 }
 
 // Writes the distance of every node.

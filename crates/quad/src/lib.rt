@@ -1,6 +1,7 @@
 // Quadtrees: what a block and a direction are, and document 000's four tables, read by direction and quadrant number.
 ghost use mathlib.Core.Path.{_≡_};
 ghost use Prim.Native.Nat.{_<_, _≤_, _^_};
+ghost use Rattle.quad.specs.Numbers.{topLevel};
 ghost use Rattle.quad.specs.Direction.{adjOf, reflectOf, opquadOf, commonSideOf};
 
 // The highest level of a sheet, and the most words of a table.
@@ -30,6 +31,14 @@ const OPQUAD: [usize; 4] = [3, 2, 1, 0];
 
 // By two quadrants. 4, which is no side, stands where document 000 leaves it undefined.
 const COMMONSIDE: [[usize; 4]; 4] = [[4, 0, 3, 4], [0, 4, 4, 1], [3, 4, 4, 2], [4, 1, 2, 4]];
+
+// The side of a block, in pixels.
+pub fn side(level: u32) -> u32
+    requires { ⌜ level ≤ topLevel ⌝ }
+    ensures { λ r. ⌜ r ≡ 2 ^ level ⌝ }
+{
+    1 << level
+}
 
 // Whether the quadrant touches that side of its father's block.
 pub fn adj(side: usize, quadrant: usize) -> bool

@@ -26,20 +26,12 @@ pub struct Quarters {
     pub se: Measured,
 }
 
-// The side of a sheet.
-fn side(n: u32) -> usize
-    requires { ⌜ n ≤ topLevel ⌝ }
-    ensures { λ r. ⌜ r ≡ 2 ^ n ⌝ }
-{
-    1 << n
-}
-
 // The pixel in column x and row y.
 fn pixel_at(raster: &[u8], n: u32, x: usize, y: usize) -> u32
     requires { ⌜ Picture n (now raster) × OnSheet n 0 x y ⌝ }
     ensures { λ r. ⌜ r ≡ pictureOf n (now (raster .entry)) x y ⌝ }
 {
-    let across = side(n);
+    let across = quad::side(n) as usize;
     raster[y * across + x] as u32
 }
 
@@ -236,7 +228,7 @@ fn raster_length(n: u32, bytes: usize) -> Outcome
     requires { ⌜ n ≤ topLevel ⌝ }
     ensures { λ r. ⌜ r ≡ rasterLength n bytes ⌝ }
 {
-    let across = side(n);
+    let across = quad::side(n) as usize;
     if bytes != across * across {
         return Outcome::WrongLength { which: 1 };
     }
@@ -309,8 +301,8 @@ fn fill_block(raster: &mut [u8], n: u32, level: u32, x: usize, y: usize, colour:
     requires { ⌜ (n ≤ topLevel) × OnSheet n level x y × (length (now raster) ≡ 4 ^ n) ⌝ }
     ensures { λ _. ⌜ Painted n (inBlock level x y) (λ i j. colour) (now (raster .entry)) (now (raster .exit)) ⌝ }
 {
-    let across = side(n);
-    let width = side(level);
+    let across = quad::side(n) as usize;
+    let width = quad::side(level) as usize;
     let left = x * width;
     let top = y * width;
     let mut j = 0;
@@ -325,7 +317,7 @@ fn fill_pixel(raster: &mut [u8], n: u32, x: usize, y: usize, colour: u8)
     requires { ⌜ (n ≤ topLevel) × OnSheet n 0 x y × (length (now raster) ≡ 4 ^ n) ⌝ }
     ensures { λ _. ⌜ Painted n (inBlock 0 x y) (λ i j. colour) (now (raster .entry)) (now (raster .exit)) ⌝ }
 {
-    let across = side(n);
+    let across = quad::side(n) as usize;
     raster[y * across + x] = colour;
 }
 

@@ -32,7 +32,7 @@ use Rattle.distance.proofs.farther_by.Reads as farther-by-reads
 use Rattle.distance.proofs.larger.Reads as larger-reads
 use Rattle.distance.proofs.near_quarter.Reads as near-quarter-reads
 use Rattle.distance.proofs.next_quarter.Reads as next-quarter-reads
-use Rattle.distance.proofs.side.Reads as side-reads
+use Rattle.quad.proofs.side.Reads as side-reads
 use Rattle.table.proofs.word_at.Reads as word-at-reads
 use Rattle.distance.proofs.+seek+seek_in.{statement}
 use Rattle.distance.proofs.+seek+seek_in.Tie.{close}
