@@ -1,7 +1,7 @@
 -- The search turn by turn: nothing under a node is nearer than its near edges, and the four quarters, taken in any order, are the fork.
 use mathlib.Core.Bool.{Bool, true, false}
 use mathlib.Core.List.{List}
-use mathlib.Core.Logic.{_⊎_, ⊎-elim}
+use mathlib.Core.Logic.{⊎-elim}
 use mathlib.Core.Path.{_≡_, refl, ap, sym, _∙_}
 use Prim.Native.Nat.{ℕ, zero, suc, _+_, _-_, _*_, _/_, _%_, _^_, _≤_, _<_, min, max}
 use native.Mathlib.Nat.{pow-succ', le-trans, le-antisymm, le-min, min-le-left, min-le-right, min-eq-left, min-eq-right, max-le, le-max-left, le-max-right}

@@ -8,7 +8,6 @@ use lib.ListN.{length}
 use Rattle.answer.specs.declared.Outcome.{Outcome}
 use Rattle.answer.specs.declared.Outcome.the-variants.{Answered, NoBlock}
 use Rattle.answer.specs.Numbers.{answers, valueOf}
-use Rattle.quad.specs.Numbers.{none}
 use Rattle.quad.specs.Block.{pathOf, column, row}
 use Rattle.quad.specs.Direction.{eastStep, southStep, stays}
 use Rattle.table.specs.Table.{nodes, isFork}

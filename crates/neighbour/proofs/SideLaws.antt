@@ -6,7 +6,7 @@ use mathlib.Core.Path.{_≡_, refl, ap, sym, _∙_}
 use Prim.Native.Nat.{ℕ, zero, suc, _+_, _-_, _*_, _/_, _%_, _^_, _≤_, _<_}
 use native.Mathlib.Nat.{add-mul, div-div-eq-div-mul, div-lt-iff-lt-mul, div-add-mod', mod-lt, div-eq-of-lt-le}
 use native.Mathlib.Omega.{arith}
-use lib.ListN.{length, drop}
+use lib.ListN.{drop}
 use lib.Pow.{pow-pos, pow-lt, pow-add}
 use Rattle.base.proofs.BoolLaws.{lt-or-ge}
 use Rattle.answer.specs.declared.Outcome.the-variants.{Answered}

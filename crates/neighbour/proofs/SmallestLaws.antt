@@ -15,7 +15,7 @@ use Rattle.base.proofs.BoolLaws.{by-bool}
 use Rattle.quad.specs.Block.{pathOf, column, row, Quadrants}
 use Rattle.quad.proofs.PathLaws.{path-length, path-quadrants, path-column, path-row, path-back}
 use Rattle.quad.proofs.UpperLaws.{column-drop, row-drop, path-drop}
-use Rattle.table.specs.Table.{nodes, isFork}
+use Rattle.table.specs.Table.{isFork}
 use Rattle.table.specs.Rules.{depthTo, Accepted}
 use Rattle.table.specs.Nodes.{pathTo, holder}
 use Rattle.table.proofs.AcceptedLaws.{depth-le, depth-son}

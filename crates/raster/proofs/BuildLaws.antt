@@ -13,6 +13,7 @@ use Rattle.base.proofs.BoolLaws.{on, off}
 use Rattle.answer.specs.declared.Outcome.{Outcome}
 use Rattle.answer.specs.declared.Outcome.the-variants.{Answered, BadLevel, NoRoom}
 use Rattle.answer.specs.Numbers.{answers, andThen, unless, room}
+use Rattle.answer.proofs.OutcomeLaws.{then-then}
 use Rattle.quad.specs.Numbers.{topLevel, none}
 use Rattle.quad.specs.Tree.{Tree, sizeOf, treeOf}
 use Rattle.table.specs.Preorder.{preorderTable}
@@ -25,14 +26,6 @@ use Rattle.raster.specs.Writing.{lateWords, Ready, Put}
 use Rattle.raster.proofs.BlockLaws.{block-coloured}
 use Rattle.raster.proofs.WritingLaws.{of-nodes, of-kind, whole-part, room-of}
 use Rattle.raster.proofs.TestLaws.{readable-picture}
-
--- refusals may be taken together
-then-then : (a b c : Outcome) → andThen (andThen a b) c ≡ andThen a (andThen b c)
-then-then a b c = go (answers a) refl
-  where
-    go : (u : Bool) → answers a ≡ u → andThen (andThen a b) c ≡ andThen a (andThen b c)
-    go true q = rw q
-    go false q = rw (q, q)
 
 -- the whole sheet is a block
 pub sheet-on : (n : ℕ) → OnSheet n n 0 0

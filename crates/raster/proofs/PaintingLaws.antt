@@ -11,7 +11,7 @@ use lib.ListN.{length, getD, set, length-set}
 use lib.Pow.{pow-pos, split, high}
 use lib.Seq.{getD-set-same, getD-set-other}
 use borrow.Author.Tests.{eq-eqb, ne-eqb, eqb-true, eqb-false, lt-ltb, le-leb, ltb-true, leb-true}
-use Rattle.base.proofs.BoolLaws.{and-left, and-right, or-second, by-bool, lt-or-ge}
+use Rattle.base.proofs.BoolLaws.{and-left, and-right, and-both, and-false, or-true, or-second, same-tests, by-bool, lt-or-ge}
 use Rattle.quad.specs.Numbers.{forkType}
 use Rattle.quad.specs.Block.{quadrantOf}
 use Rattle.quad.specs.Tree.{sonOf}
@@ -34,23 +34,6 @@ same-row y t s x left lt lo hi =
     ⊎-elim (λ (q : t ≡ y). sym q) (λ (l : t < y). absurd (omega (arith, suc-mul t s, mul-le-mul-right s l))) (eq-or-lt-of-le g))
     (lt-or-ge y t)
 
-or-true : (b : Bool) → b || true ≡ true
-or-true true = refl
-or-true false = refl
-
-and-false : (b : Bool) → b && false ≡ false
-and-false true = refl
-and-false false = refl
-
--- two tests that hold together are the same
-same-test : (a b : Bool) → (a ≡ true → b ≡ true) → (b ≡ true → a ≡ true) → a ≡ b
-same-test true b f g = sym (f refl)
-same-test false true f g = g refl
-same-test false false f g = refl
-
-and-both : (a b : Bool) → a ≡ true → b ≡ true → a && b ≡ true
-and-both a b e f = rw (e, f)
-
 within-in : (a w k : ℕ) → within a w k ≡ true → (a ≤ k) × (k < a + w)
 unfolding within
 within-in a w k e = (leb-true a k (and-left (leb a k) (ltb k (a + w)) e), ltb-true k (a + w) (and-right (leb a k) (ltb k (a + w)) e))
@@ -61,11 +44,11 @@ within-of a w k le lt = and-both _ _ (le-leb a k le) (lt-ltb k (a + w) lt)
 
 -- none, and one more
 within-none : (a k : ℕ) → within a 0 k ≡ false
-within-none a k = same-test _ _ (λ e. absurd (omega (arith, within-in a 0 k e))) (λ e. absurd (false≢true e))
+within-none a k = same-tests _ _ (λ e. absurd (omega (arith, within-in a 0 k e))) (λ e. absurd (false≢true e))
 
 within-more : (a w k : ℕ) → within a (w + 1) k ≡ eqb k (a + w) || within a w k
 within-more a w k =
-    same-test _ _
+    same-tests _ _
     (λ e.
     let h : (a ≤ k) × (k < a + (w + 1)) = within-in a (w + 1) k e in
     ⊎-elim
@@ -96,7 +79,7 @@ filled-more a i c U W lt f = record { size = length-set W (a + i) c ∙ f .size;
 -- the numbers of a block of level l
 span : (l X x : ℕ) → within (X * 2 ^ l) (2 ^ l) x ≡ eqb (x / 2 ^ l) X
 span l X x =
-    same-test _ _
+    same-tests _ _
     (λ e.
     let h : (X * 2 ^ l ≤ x) × (x < X * 2 ^ l + 2 ^ l) = within-in (X * 2 ^ l) (2 ^ l) x e in
     let d : X * 2 ^ l + (x - X * 2 ^ l) ≡ x = omega arith in
@@ -110,7 +93,7 @@ span l X x =
 -- the bytes of a row of a block, by column and row: s is the sheet's side
 row-hit : (l X s t x y : ℕ) → X * 2 ^ l + 2 ^ l ≤ s → x < s → within (t * s + X * 2 ^ l) (2 ^ l) (y * s + x) ≡ eqb (x / 2 ^ l) X && eqb y t
 row-hit l X s t x y fits lt =
-    same-test _ _
+    same-tests _ _
     (λ e.
     let h : (t * s + X * 2 ^ l ≤ y * s + x) × (y * s + x < t * s + X * 2 ^ l + 2 ^ l) = within-in _ _ _ e in
     let q : y ≡ t = same-row y t s x (X * 2 ^ l) lt (h .0) (omega arith) in
@@ -162,7 +145,7 @@ painted-pixel n x y c U o e =
 -- a block, quarter by quarter
 half-test : (b X : ℕ) → eqb (b / 2) X ≡ eqb b (2 * X) || eqb b (2 * X + 1)
 half-test b X =
-    same-test _ _
+    same-tests _ _
     (λ e.
     let h : b / 2 ≡ X = eqb-true (b / 2) X e in
     ⊎-elim

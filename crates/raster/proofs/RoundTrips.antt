@@ -12,14 +12,14 @@ use Rattle.base.proofs.BoolLaws.{lt-or-ge}
 use Rattle.quad.specs.Numbers.{topColour}
 use Rattle.quad.specs.Tree.{Tree, leaf, fork, sonOf, colour, shade, Within, Coloured, Shows}
 use Rattle.quad.proofs.PathLaws.{shade-top, shade-leaf}
-use Rattle.quad.proofs.TreeLaws.{within-zero, within-son}
+use Rattle.quad.proofs.TreeLaws.{within-zero, within-son, coloured-son}
 use Rattle.quad.proofs.PictureLaws.{tree-within, tree-reduced, built, same-picture, pixel-lt}
 use Rattle.table.specs.Rules.{Accepted}
 use Rattle.table.specs.Nodes.{treeAt, pixel}
 use Rattle.table.specs.Preorder.{preorderTable}
 use Rattle.table.proofs.AcceptedLaws.{Sound}
 use Rattle.table.proofs.PictureLaws.{pixel-shade, sheet-tree, sheet-sound}
-use Rattle.table.proofs.PreorderAccepted.{coloured-son, preorder-tree, preorder-accepted}
+use Rattle.table.proofs.PreorderAccepted.{preorder-tree, preorder-accepted}
 use Rattle.raster.specs.Raster.{pictureOf, rasterOf, rasterTree}
 use Rattle.raster.specs.Blocks.{Picture}
 use Rattle.raster.proofs.BlockLaws.{four-pow, block-coloured}

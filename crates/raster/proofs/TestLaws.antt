@@ -14,9 +14,8 @@ use Rattle.base.proofs.BoolLaws.{on}
 use Rattle.answer.specs.declared.Outcome.{Outcome}
 use Rattle.answer.specs.declared.Outcome.the-variants.{Answered, BadLevel, WrongLength, BadPixel}
 use Rattle.answer.specs.Numbers.{answers, unless}
-use Rattle.answer.proofs.OutcomeLaws.{then-stop, then-go}
+use Rattle.answer.proofs.OutcomeLaws.{then-stop, then-go, both-answer, answers-unless}
 use Rattle.quad.specs.Numbers.{topLevel, topColour}
-use Rattle.table.proofs.CheckLaws.{go-on, answers-unless}
 use Rattle.raster.specs.Raster.{rasterLength, pixelsFrom}
 use Rattle.raster.specs.Blocks.{Picture, readableOf}
 use Rattle.raster.proofs.BlockLaws.{four-pow}
@@ -82,8 +81,8 @@ module _ (n : ℕ) (R : List ℕ) where
   pub readable-picture : answers (readableOf n R) ≡ true → Picture n R
   unfolding readableOf
   readable-picture e =
-      let g = go-on (unless (ltb topLevel n) (BadLevel 0)) _ e in
-      let h = go-on (rasterLength n (length R)) (pixelsFrom R 0) (g .1) in
+      let g = both-answer (unless (ltb topLevel n) (BadLevel 0)) _ e in
+      let h = both-answer (rasterLength n (length R)) (pixelsFrom R 0) (g .1) in
       record {
         top = ltb-false topLevel n (answers-unless (ltb topLevel n) (BadLevel 0) refl (g .0));
         whole = length-of n (length R) (h .0);

@@ -8,7 +8,7 @@ ghost use Rattle.quad.specs.Numbers.{topLevel};
 ghost use Rattle.quad.specs.Tree.{treeOf};
 ghost use Rattle.raster.specs.Raster.{pictureOf, rasterLength, pixelsFrom};
 ghost use Rattle.raster.specs.Calls.{Builds, Decodes};
-ghost use Rattle.raster.specs.Blocks.{Picture, readableOf, OnSheet, Few, likeKinds, joinedOf, measureOf, quartersOf};
+ghost use Rattle.raster.specs.Blocks.{Picture, readableOf, OnSheet, Few, joinedOf, measureOf, quartersOf};
 ghost use Rattle.raster.specs.Painting.{Filled, Painted, inBlock, coloursAt, Paintable};
 ghost use Rattle.raster.specs.Writing.{lateWords, ForkRoom, forkPut, Ready, Put};
 
@@ -46,28 +46,17 @@ fn leaf_at(raster: &[u8], n: u32, x: usize, y: usize) -> Measured
     }
 }
 
-// Whether four kinds are those of four like leaves.
-fn alike(nw: u32, ne: u32, sw: u32, se: u32) -> bool
-    ensures { λ r. ⌜ r ≡ likeKinds nw ne sw se ⌝ }
-{
-    if nw == quad::FORK as u32 {
-        return false;
-    }
-    if nw != ne {
-        return false;
-    }
-    if nw != sw {
-        return false;
-    }
-    nw == se
-}
-
 // What four quarters come to: one of them where they are like leaves, else a fork over them.
 fn joined(nw: Measured, ne: Measured, sw: Measured, se: Measured) -> Measured
     requires { ⌜ Few nw × Few ne × Few sw × Few se ⌝ }
     ensures { λ r. ⌜ r ≡ joinedOf nw ne sw se ⌝ }
 {
-    if alike(nw.kind, ne.kind, sw.kind, se.kind) {
+    if quad::like_leaves(
+        nw.kind as usize,
+        ne.kind as usize,
+        sw.kind as usize,
+        se.kind as usize,
+    ) {
         return nw;
     }
     Measured {

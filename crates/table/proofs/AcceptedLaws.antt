@@ -1,21 +1,20 @@
 -- The laws of an accepted table, in any numbering: fathers stand below their sons, each node but the root is exactly one son of its father, depth is
 -- at most n, and the tree of a node has no needless fork. No crate above looks at the six rules again.
-use mathlib.Core.Bool.{Bool, true, false, not, _&&_, _||_, false≢true}
+use mathlib.Core.Bool.{Bool, true, false, not, false≢true}
 use mathlib.Core.List.{List}
 use mathlib.Core.Logic.{⊎-elim}
 use mathlib.Core.Path.{_≡_, refl, ap, sym, _∙_}
-use Prim.Native.Nat.{ℕ, zero, suc, _+_, _-_, _*_, _≤_, _<_}
+use Prim.Native.Nat.{ℕ, zero, suc, _+_, _≤_, _<_}
 use native.Mathlib.Nat.{eq-zero-or-pos}
 use native.Mathlib.Omega.{arith}
 use lib.Dec.{leb, eqb}
-use lib.ListN.{length}
 use borrow.Author.Tests.{eq-eqb, ne-eqb, eqb-true, ltb-true, leb-true, le-leb}
 use Rattle.base.proofs.BoolLaws.{by-bool, or-first, or-second}
 use Rattle.quad.specs.Numbers.{topColour, forkType, none}
 use Rattle.quad.specs.Tree.{Tree, leaf, fork, colour, Within, Reduced, Coloured, alike}
 use Rattle.quad.proofs.TreeLaws.{by-quadrant, alike-leaves}
 use Rattle.table.specs.Table.{nodes, father, son, type, isFork}
-use Rattle.table.specs.Links.{SonIn, SonsIn}
+use Rattle.table.specs.Links.{SonsIn}
 use Rattle.table.specs.Rules.{depthTo, typeOk, fatherOk, timesNamed, onceOk, depthOk, allOf, sonAlike, mixedOk, Accepted}
 use Rattle.table.specs.Nodes.{sonType, treeAt}
 use Rattle.table.proofs.RuleLaws.{depth-none, depth-root, depth-step, sons-in, sons-none, Passed, passed}

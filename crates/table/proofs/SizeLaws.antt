@@ -4,7 +4,7 @@ use mathlib.Core.Bool.{Bool, true, false, cond, true≢false}
 use mathlib.Core.List.{List}
 use mathlib.Core.Logic.{⊎-elim}
 use mathlib.Core.Path.{_≡_, refl, ap, sym, _∙_}
-use Prim.Native.Nat.{ℕ, zero, suc, _+_, _-_, _≤_, _<_}
+use Prim.Native.Nat.{ℕ, suc, _+_, _-_, _<_}
 use native.Mathlib.Nat.{eq-zero-or-pos}
 use native.Mathlib.Omega.{arith}
 use lib.Dec.{eqb}
@@ -37,9 +37,9 @@ four-at false false true false v e = omega arith
 four-at false false false true v e = omega arith
 four-at false false false false v e = absurd (omega arith)
 
-fork-size : (T : List ℕ) (l k p : ℕ) → k ≡ suc l → isFork T p ≡ true → sizeOf (treeAt T k p)
+size-of-fork : (T : List ℕ) (l k p : ℕ) → k ≡ suc l → isFork T p ≡ true → sizeOf (treeAt T k p)
     ≡ 1 + (sizeOf (treeAt T l (son T p 0)) + (sizeOf (treeAt T l (son T p 1)) + (sizeOf (treeAt T l (son T p 2)) + sizeOf (treeAt T l (son T p 3)))))
-fork-size T l k p e f = rw (e, tree-fork T l p f) (unfold sizeOf in refl)
+size-of-fork T l k p e f = rw (e, tree-fork T l p f) (unfold sizeOf in refl)
 
 module _ (n : ℕ) (T : List ℕ) (acc : Accepted n T) where
   N : ℕ
@@ -139,7 +139,7 @@ module _ (n : ℕ) (T : List ℕ) (acc : Accepted n T) where
       let at-son : (q : ℕ) → q < 4 → size (son T p q) ≡ sizeOf (treeAt T l (son T p q)) =
       λ q q4. let d = depth-son n T acc p q lt f q4 in let k : n - depthTo T n (son T p q) ≡ l = omega arith in rw k in
       let w = sons-sum size p lt f in
-      let big = fork-size T l (n - depthTo T n p) p e f in
+      let big = size-of-fork T l (n - depthTo T n p) p e f in
       omega (arith, big, w, at-son 0 (omega arith), at-son 1 (omega arith), at-son 2 (omega arith), at-son 3 (omega arith)))
       (λ (f : isFork T p ≡ false).
       let w = leaf-sum size p lt f in
