@@ -10,11 +10,11 @@ ghost use Prim.Native.Nat.{_+_, _*_, _^_, _<_, _≤_, min, max};
 ghost use Rattle.quad.specs.Numbers.{topLevel};
 ghost use Rattle.quad.specs.Direction.{eastStep, southStep};
 ghost use Rattle.table.specs.Table.{nodes, isFork};
-ghost use Rattle.table.specs.Rules.{Accepted};
+ghost use Rattle.table.specs.Rules.{Accepted, AtLevel};
 ghost use Rattle.neighbour.specs.Search.{stay};
 ghost use Rattle.distance.specs.Calls.{Distances};
 ghost use Rattle.distance.specs.Distance.{plainOutside, distanceAt, distancesOf};
-ghost use Rattle.distance.specs.Around.{offsetBeside, offsetAround, Leaf, Inner};
+ghost use Rattle.distance.specs.Around.{offsetBeside, offsetAround, Inner};
 ghost use Rattle.distance.specs.Search.{fartherBy, nearHalf, nearQuarter, acrossFirst, nextQuarter, offsetUnder, offsetIn, Spot};
 
 // The mark where no pixel is white.
@@ -162,7 +162,7 @@ fn seek_in(
 
 // The least of best and the offsets of the white pixels in the neighbour of leaf p in a direction. Off the sheet nothing is white.
 fn beside(n: u32, table: &[u32], p: usize, level: u32, direction: usize, best: u32) -> u32
-    requires { ⌜ Leaf n (now table) p level × (direction < stay) ⌝ }
+    requires { ⌜ AtLevel n (now table) p level × (direction < stay) ⌝ }
     ensures { λ r. ⌜ r ≡ min best (offsetBeside n (now (table .entry)) p direction) ⌝ }
 {
     let found = neighbour::find(n, table, p, level, direction);

@@ -3,12 +3,13 @@ use mathlib.Core.Bool.{Bool, true, false, cond}
 use mathlib.Core.List.{List}
 use mathlib.Core.Path.{_≡_, refl, ap, sym, _∙_}
 use Prim.Native.Nat.{ℕ, zero, suc, _+_, _-_, _*_, _^_, _≤_, _<_}
-use native.Mathlib.Nat.{pow-succ', one-le-pow}
+use native.Mathlib.Nat.{one-le-pow}
 use native.Mathlib.Omega.{arith}
 use lib.Dec.{leb, eqb}
 use lib.ListN.{length, getD}
 use borrow.Author.Tests.{ne-eqb}
 use Rattle.base.proofs.CaseLaws.{cond-case, cond-map}
+use Rattle.base.proofs.PowLaws.{pow-less}
 use Rattle.answer.specs.declared.Outcome.{Outcome}
 use Rattle.answer.specs.declared.Outcome.the-variants.{TooDeep, NeedlessFork}
 use Rattle.answer.specs.Numbers.{answers}
@@ -96,9 +97,7 @@ module _ (s : List ℕ) (l at : ℕ) (r : Block) (is : r ≡ recordOf s at) wher
 
   pub four-reach : (i k : ℕ) → Reaches l at → r ≡ Read i k → (l ≡ 0 → ⊥) → FourReach (l - 1) i
   four-reach i k h e nz =
-      let le : l ≡ suc (l - 1) = omega arith in
-      let p : 4 ^ l ≡ 4 * 4 ^ (l - 1) = ap (λ (j : ℕ). 4 ^ j) le ∙ pow-succ' 4 (l - 1) in
-      omega (arith, record-next s at i k (sym is ∙ e))
+      omega (arith, pow-less 4 l (omega arith), record-next s at i k (sym is ∙ e))
 
 -- a block that was read, as the first pass tells it
 pub record Found (s : List ℕ) (l at i k : ℕ) : Type 0 where

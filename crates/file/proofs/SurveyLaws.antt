@@ -3,7 +3,6 @@ use mathlib.Core.Bool.{Bool, true, false, not, cond, false≢true}
 use mathlib.Core.List.{List}
 use mathlib.Core.Path.{_≡_, refl, ap, sym, _∙_}
 use Prim.Native.Nat.{ℕ, _+_, _≤_}
-use native.Mathlib.Nat.{pow-le-pow-right}
 use native.Mathlib.Omega.{arith}
 use lib.Dec.{leb, ltb, eqb}
 use lib.ListN.{length, getD}
@@ -15,6 +14,7 @@ use Rattle.answer.specs.declared.Outcome.the-variants.{Answered}
 use Rattle.answer.specs.Numbers.{valueOf, answers}
 use Rattle.quad.specs.Numbers.{topLevel}
 use Rattle.quad.specs.Tree.{Tree, sizeOf}
+use Rattle.quad.proofs.TreeLaws.{pixels-top}
 use Rattle.file.specs.declared.Block.{Block}
 use Rattle.file.specs.declared.Block.the-variants.{Read, Bad}
 use Rattle.file.specs.declared.Contents.{Contents}
@@ -101,7 +101,7 @@ module _ (s : List ℕ) (h : Outcome) (u : Bool) (e : h ≡ headerOf s) (a : u �
     opens = open-by s ∙ rw (answered, ← its-level)
 
     pub block-asks : Reaches level 5
-    block-asks = omega (arith, header .level, its-level, pow-le-pow-right {n = 4} (omega arith) {i = level} {j = topLevel} (omega (arith, header .level, its-level)))
+    block-asks = omega (arith, header .level, its-level, pixels-top level (omega (arith, header .level, its-level)))
 
     pub close-long : 5 ≤ length s
     close-long = header .long

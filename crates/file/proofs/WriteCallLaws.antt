@@ -18,7 +18,7 @@ use Rattle.table.specs.Table.{nodes}
 use Rattle.table.specs.Rules.{checkOf, Accepted}
 use Rattle.table.specs.Nodes.{treeAt}
 use Rattle.table.proofs.CheckLaws.{check-accepted, accepted-call}
-use Rattle.table.proofs.RuleLaws.{depth-root}
+use Rattle.table.proofs.AcceptedLaws.{root-at}
 use Rattle.table.proofs.SizeLaws.{tree-size}
 use Rattle.file.specs.File.{mark, sheetMark, records, fileOf, writeOf, writtenFile}
 use Rattle.file.specs.Calls.{Writes}
@@ -66,9 +66,7 @@ module _ (n : ℕ) (T old : List ℕ) (s : Outcome) (u : Bool) (e : s ≡ checkO
         pub root-ok : Writable T n 0 5 (length w₀)
         root-ok = record {
           n = n;
-          accepted = acc;
-          node = acc .sized .some;
-          level = omega (arith, depth-root T n);
+          place = root-at acc;
           room = omega (arith, same, size);
         }
 

@@ -13,7 +13,7 @@ use Rattle.quad.specs.Tree.{Tree, leaf, fork, sizeOf, typesOf}
 use Rattle.quad.proofs.TreeLaws.{size-pos, types-length}
 use Rattle.table.specs.Table.{son, type, isFork}
 use Rattle.table.specs.Nodes.{treeAt}
-use Rattle.table.proofs.AcceptedLaws.{tree-leaf, tree-fork, sons-of, fork-deep, depth-son, type-byte}
+use Rattle.table.proofs.AcceptedLaws.{tree-leaf, tree-fork, type-byte, fork-above, son-at}
 use Rattle.file.specs.File.{mark, nodeMark, records}
 use Rattle.file.specs.Writing.{Writable, Wrote}
 
@@ -61,7 +61,7 @@ module _ (T : List ℕ) (l p at : ℕ) (w : List ℕ) (ok : Writable T l p at (l
 
   module _ (k : ℕ) (e : k ≡ type T p) where
     pub kind-byte : k < 256
-    kind-byte = omega (arith, type-byte (ok .n) T (ok .accepted) p (ok .node))
+    kind-byte = omega (arith, type-byte (ok .n) T (ok .place .accepted) p (ok .place .node))
 
     module _ (w₀ : List ℕ) (h₀ : w₀ ≡ sets w at (mark ∷ nodeMark ∷ k ∷ [])) where
       same : length w₀ ≡ length w
@@ -78,7 +78,7 @@ module _ (T : List ℕ) (l p at : ℕ) (w : List ℕ) (ok : Writable T l p at (l
 
         -- the level falls
         pub deep : 0 < l
-        deep = omega (arith, ok .level, fork-deep (ok .n) T (ok .accepted) p (ok .node) is-fork)
+        deep = fork-above (ok .place) is-fork
 
         pub lower : (m : ℕ) → l ≡ m → l - 1 < m
         lower m q = omega (arith, deep)
@@ -99,9 +99,7 @@ module _ (T : List ℕ) (l p at : ℕ) (w : List ℕ) (ok : Writable T l p at (l
         unfolding son-tree
         son-ok q i bytes q4 room = record {
           n = ok .n;
-          accepted = ok .accepted;
-          node = sons-of (ok .n) T (ok .accepted) p (ok .node) is-fork q q4 .below;
-          level = omega (arith, deep, ok .level, depth-son (ok .n) T (ok .accepted) p q (ok .node) is-fork q4);
+          place = son-at (ok .place) is-fork q q4;
           room = room;
         }
 

@@ -161,6 +161,9 @@ size-le zero (fork a b c d) h = absurd h
 size-le (suc l) (fork a b c d) h =
     omega (arith, pow-succ' 4 l, size-le l a (h .0), size-le l b (h .1), size-le l c (h .2), size-le l d (h .3))
 
--- so a sheet's table fits
+-- so a sheet's table fits: at the top level there are most pixels
+pub pixels-top : (n : ℕ) → n ≤ topLevel → 4 ^ n ≤ 4 ^ topLevel
+pixels-top n top = pow-le-pow-right {n = 4} (omega arith) {i = n} {j = topLevel} top
+
 pub size-fits : (l : ℕ) (t : Tree) → l ≤ topLevel → Within l t → 6 * sizeOf t ≤ maxWords
-size-fits l t top h = omega (arith, size-le l t h, pow-le-pow-right {n = 4} (omega arith) {i = l} {j = topLevel} top)
+size-fits l t top h = omega (arith, size-le l t h, pixels-top l top)

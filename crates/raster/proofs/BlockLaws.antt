@@ -2,31 +2,22 @@
 use mathlib.Core.Bool.{Bool, true, false, cond, false≢true}
 use mathlib.Core.List.{List}
 use mathlib.Core.Path.{_≡_, refl, ap, sym, _∙_}
-use Prim.Native.Nat.{ℕ, zero, suc, _+_, _-_, _*_, _^_, _≤_, _<_}
-use native.Mathlib.Nat.{suc-mul, mul-le-mul-right, pow-succ', pow-le-pow-right}
+use Prim.Native.Nat.{ℕ, zero, suc, _+_, _-_, _*_, _/_, _^_, _≤_, _<_}
+use native.Mathlib.Nat.{div-lt-iff-lt-mul, suc-mul, mul-le-mul-right, pow-succ', pow-le-pow-right}
 use native.Mathlib.Omega.{arith}
 use lib.Arith.{digits-lt}
-use lib.Pow.{pow-add}
+use lib.Pow.{pow-pos, pow-add}
 use borrow.Author.Tests.{eq-eqb}
 use Rattle.base.proofs.CaseLaws.{cond-case}
+use Rattle.base.proofs.PowLaws.{four-pow}
 use Rattle.quad.specs.Numbers.{topLevel, forkType}
 use Rattle.quad.specs.Tree.{Tree, fork, colour, alike, likeTypes, Coloured, sizeOf, join, treeOf}
-use Rattle.quad.proofs.TreeLaws.{alike-types, size-fits}
+use Rattle.quad.proofs.TreeLaws.{alike-types, pixels-top, size-fits}
 use Rattle.quad.proofs.PictureLaws.{tree-within, tree-coloured}
 use Rattle.raster.specs.declared.Measured.{Measured}
 use Rattle.raster.specs.declared.Quarters.{Quarters}
 use Rattle.raster.specs.Raster.{pictureOf}
 use Rattle.raster.specs.Blocks.{Picture, OnSheet, Few, measureOf, joinedOf, quartersOf}
-
--- 4 ^ n is the square of the side
-pub four-pow : (n : ℕ) → 4 ^ n ≡ 2 ^ n * 2 ^ n
-four-pow n = go n ∙ pow-add 2 n n
-  where
-    go : (k : ℕ) → 4 ^ k ≡ 2 ^ (k + k)
-    go zero = refl
-    go (suc k) =
-        let e : suc k + suc k ≡ suc (suc (k + k)) = omega arith in
-        rw e (omega (arith, pow-succ' 4 k, pow-succ' 2 (k + k), pow-succ' 2 (suc (k + k)), go k))
 
 -- a quarter of a block
 pub on-son : {n l x y : ℕ} → OnSheet n l x y → 0 < l → (u v : ℕ) → u ≤ 2 * x + 1 → v ≤ 2 * y + 1 → OnSheet n (l - 1) u v
@@ -40,7 +31,10 @@ on-small {n} {l} top o =
     let p : 2 ^ (n - l) ≤ 2 ^ topLevel = pow-le-pow-right (omega arith) {i = n - l} {j = topLevel} (omega arith) in
     (omega (arith, o), omega (arith, o))
 
--- a pixel's place
+-- a pixel's place, and a place's row
+pub row-of-place : (n i : ℕ) → i < 4 ^ n → i / 2 ^ n < 2 ^ n
+row-of-place n i lt = div-lt-iff-lt-mul {k = 2 ^ n} {x = i} {y = 2 ^ n} (pow-pos n) .1 (rw (four-pow n) at lt)
+
 pub digits-four : (n x y : ℕ) → x < 2 ^ n → y < 2 ^ n → y * 2 ^ n + x < 4 ^ n
 digits-four n x y hx hy = rw (four-pow n) (digits-lt hy hx)
 
@@ -52,7 +46,7 @@ place-lt {n} {x} {y} o =
     digits-four n x y hx hy
 
 pub place-fits : {n x y : ℕ} → n ≤ topLevel → OnSheet n 0 x y → y * 2 ^ n + x < 4 ^ topLevel
-place-fits {n} top o = omega (arith, place-lt o, pow-le-pow-right {n = 4} (omega arith) {i = n} {j = topLevel} top)
+place-fits {n} top o = omega (arith, place-lt o, pixels-top n top)
 
 -- four measures join as four trees do
 pub join-measure : (A B C D : Tree) → Coloured A → joinedOf (measureOf A) (measureOf B) (measureOf C) (measureOf D) ≡ measureOf (join A B C D)
@@ -110,7 +104,7 @@ joined-fork a b c d w e k = go (likeTypes (a .kind) (b .kind) (c .kind) (d .kind
     go false q = ap (λ (m : Measured). m .nodes) (rw q at e)
 
 pub square-fits : (n s : ℕ) → n ≤ topLevel → s ≡ 2 ^ n → s * s ≤ 4 ^ topLevel
-square-fits n s top e = rw (e, ← four-pow n) (pow-le-pow-right {n = 4} (omega arith) {i = n} {j = topLevel} top)
+square-fits n s top e = rw (e, ← four-pow n) (pixels-top n top)
 
 -- a block ends where the sheet does, or before; and so do its rows
 pub block-fits : {n l x y : ℕ} → OnSheet n l x y → (x * 2 ^ l + 2 ^ l ≤ 2 ^ n) × (y * 2 ^ l + 2 ^ l ≤ 2 ^ n)
@@ -132,7 +126,7 @@ row-place {n} {l} {x} {y} top o j lt =
     let fit = block-fits o in
     let t : ℕ = y * 2 ^ l + j in
     let below : t < 2 ^ n = omega arith in
-    (rw (four-pow n) (omega (arith, suc-mul t (2 ^ n), mul-le-mul-right (2 ^ n) below)), pow-le-pow-right {n = 4} (omega arith) {i = n} {j = topLevel} top)
+    (rw (four-pow n) (omega (arith, suc-mul t (2 ^ n), mul-le-mul-right (2 ^ n) below)), pixels-top n top)
 
 -- the four quarters, one by one
 pub record Parts (f : ℕ → ℕ → ℕ) (l x y : ℕ) (q : Quarters) : Type 0 where

@@ -17,9 +17,8 @@ use Rattle.quad.specs.Block.{quadrantOf}
 use Rattle.quad.specs.Tree.{sonOf}
 use Rattle.quad.proofs.PathLaws.{half-last, shade-top, shade-leaf}
 use Rattle.table.specs.Table.{son, type, isFork}
-use Rattle.table.specs.Rules.{depthTo}
 use Rattle.table.specs.Nodes.{treeAt}
-use Rattle.table.proofs.AcceptedLaws.{tree-leaf, sons-of, fork-deep, depth-son}
+use Rattle.table.proofs.AcceptedLaws.{tree-leaf, fork-above, son-at}
 use Rattle.table.proofs.PictureLaws.{tree-son as table-son}
 use Rattle.raster.proofs.BlockLaws.{on-son, block-fits, place-lt}
 use Rattle.raster.specs.Blocks.{OnSheet}
@@ -247,20 +246,8 @@ painted-fork T l p X Y n U₀ U₁ U₂ U₃ U₄ pos f a b c d =
     let e : l ≡ suc (l - 1) = omega arith in
     rw e (painted-four T (l - 1) p X Y n U₀ U₁ U₂ U₃ U₄ f a b c d)
 
--- a fork is above level 0, and each son may be painted in its quarter
-module _ {n : ℕ} {T : List ℕ} {p l x y bytes : ℕ} (h : Paintable n T p l x y bytes) (f : isFork T p ≡ true) where
-  pub fork-above : 0 < l
-  fork-above = omega (arith, h .level, fork-deep n T (h .accepted) p (h .node) f)
-
-  pub paintable-son : (q s u v : ℕ) → q < 4 → s ≡ son T p q → u ≤ 2 * x + 1 → v ≤ 2 * y + 1 → Paintable n T s (l - 1) u v bytes
-  paintable-son q s u v lt e hu hv =
-      let pos = fork-above in
-      let lev = h .level in
-      let d : l - 1 + depthTo T n (son T p q) ≡ n = omega (arith, depth-son n T (h .accepted) p q (h .node) f lt) in
-      rw e (record {
-        accepted = h .accepted;
-        node = sons-of n T (h .accepted) p (h .node) f q lt .below;
-        level = d;
-        block = on-son (h .block) pos u v hu hv;
-        whole = h .whole;
-      })
+-- each son of a fork may be painted in its quarter
+pub paintable-son : {n : ℕ} {T : List ℕ} {p l x y bytes : ℕ} → Paintable n T p l x y bytes → isFork T p ≡ true → (q s u v : ℕ) → q < 4 → s ≡ son T p q
+    → u ≤ 2 * x + 1 → v ≤ 2 * y + 1 → Paintable n T s (l - 1) u v bytes
+paintable-son h f q s u v lt e hu hv =
+    rw e (record { place = son-at (h .place) f q lt; block = on-son (h .block) (fork-above (h .place) f) u v hu hv; whole = h .whole })

@@ -2,14 +2,14 @@
 use mathlib.Core.List.{List}
 use mathlib.Core.Path.{_≡_, sym, _∙_}
 use Prim.Native.Nat.{ℕ, _+_, _*_, _/_, _%_, _^_, _<_}
-use native.Mathlib.Nat.{zero-add, mod-lt, div-lt-iff-lt-mul}
+use native.Mathlib.Nat.{zero-add, mod-lt}
 use lib.ListN.{length}
 use lib.Pow.{pow-pos, split, high, low}
 use lib.Seq.{ext-getD}
 use Rattle.base.proofs.TabLaws.{tab-length, tab-at}
 use Rattle.table.specs.Nodes.{pixel}
 use Rattle.raster.specs.Raster.{pictureOf, rasterOf}
-use Rattle.raster.proofs.BlockLaws.{four-pow, digits-four}
+use Rattle.raster.proofs.BlockLaws.{row-of-place, digits-four}
 
 module _ (n : ℕ) where
   pub raster-size : (T : List ℕ) → length (rasterOf n T) ≡ 4 ^ n
@@ -26,5 +26,5 @@ module _ (n : ℕ) where
       → ((x y : ℕ) → x < 2 ^ n → y < 2 ^ n → pictureOf n R x y ≡ pictureOf n S x y) → R ≡ S
   same-raster R S lr ls h =
       ext-getD 0 R S (lr ∙ sym ls) (λ i lt.
-      let y : i / 2 ^ n < 2 ^ n = div-lt-iff-lt-mul {k = 2 ^ n} {x = i} {y = 2 ^ n} (pow-pos n) .1 (rw (lr, four-pow n) at lt) in
+      let y : i / 2 ^ n < 2 ^ n = row-of-place n i (rw lr at lt) in
       rw (split i n) at (h (i % 2 ^ n) (i / 2 ^ n) (mod-lt i (pow-pos n)) y))

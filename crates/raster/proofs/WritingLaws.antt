@@ -2,14 +2,14 @@
 use mathlib.Core.Bool.{Bool, true, false}
 use mathlib.Core.List.{List, [], _∷_}
 use mathlib.Core.Path.{_≡_, refl, ap, sym, _∙_}
-use Prim.Native.Nat.{ℕ, suc, _+_, _-_, _*_, _^_, _≤_, _<_}
-use native.Mathlib.Nat.{pow-succ'}
+use Prim.Native.Nat.{ℕ, _+_, _-_, _*_, _^_, _≤_, _<_}
 use native.Mathlib.Omega.{arith}
 use lib.Dec.{eqb}
 use lib.ListN.{length}
 use lib.Seq.{sets}
 use borrow.Author.Tests.{eq-eqb, ne-eqb}
 use Rattle.base.proofs.CaseLaws.{cond-case}
+use Rattle.base.proofs.PowLaws.{pow-less}
 use Rattle.base.proofs.SetsLaws.{sets-apart}
 use Rattle.quad.specs.Numbers.{topLevel, forkType, none}
 use Rattle.quad.specs.Tree.{Tree, leaf, fork, sonOf, colour, alike, join, Within, Coloured, sizeOf, treeOf}
@@ -211,8 +211,7 @@ module _ (A B C D : Tree) (p words : ℕ) where
       → 3 * sonNode p (fork A B C D) q + 4 * 4 ^ (l - 1) ≤ 4 * 4 ^ topLevel
   unfolding sonNode sonOf
   few-son l z wa wb wc top =
-      let s : l ≡ suc (l - 1) = omega arith in
-      let w : 4 ^ l ≡ 4 * 4 ^ (l - 1) = ap (λ (k : ℕ). 4 ^ k) s ∙ pow-succ' 4 (l - 1) in
+      let w = pow-less 4 l (omega arith) in
       let za = size-le (l - 1) A wa in
       let zb = size-le (l - 1) B wb in
       let zc = size-le (l - 1) C wc in
