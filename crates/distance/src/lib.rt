@@ -18,7 +18,7 @@ ghost use Rattle.distance.specs.Around.{offsetBeside, offsetAround, Inne
 ghost use Rattle.distance.specs.Search.{fartherBy, nearHalf, nearQuarter, acrossFirst, nextQuarter, offsetUnder, offsetIn, Spot};
 
 // The mark where no pixel is white.
-const MARK: u32 = 4294967295;
+const MARK: u32 = quad::NONE as u32;
 
 // One more than the step that a direction takes to the east, and to the south.
 const EAST: [u32; 8] = [1, 2, 1, 0, 0, 2, 0, 2];

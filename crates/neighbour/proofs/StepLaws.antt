@@ -8,7 +8,7 @@ use Rattle.quad.specs.Numbers.{forkType, none}
 use Rattle.table.specs.Table.{nodes, son, type}
 use Rattle.neighbour.specs.declared.Found.{Found}
 use Rattle.neighbour.specs.declared.Found.the-variants.{At, Off}
-use Rattle.neighbour.specs.Search.{outcomeOf, downTo, Steps, Small}
+use Rattle.neighbour.specs.Search.{outcomeOf, downTo, StepsDown, Small}
 
 -- a step down, by what was found
 module _ (T : List ℕ) (q : ℕ) (found : Found) where
@@ -24,8 +24,8 @@ module _ (T : List ℕ) (q : ℕ) (found : Found) where
   unfolding downTo
   down-fork m l k s e t f es = rw (e, downTo, ← t, eq-eqb k forkType f, es)
 
-pub steps-at : (T : List ℕ) (found : Found) (m l : ℕ) → Steps T found → found ≡ At m l → (m < nodes T) × (0 < l)
-unfolding Steps
+pub steps-at : (T : List ℕ) (found : Found) (m l : ℕ) → StepsDown T found → found ≡ At m l → (m < nodes T) × (0 < l)
+unfolding StepsDown
 steps-at T found m l h e = rw e at h
 
 -- what was found as an outcome

@@ -16,7 +16,7 @@ use Rattle.table.proofs.AcceptedLaws.{father-below, sonType-lt, depth-up, depth
 use Rattle.table.proofs.NodeLaws.{path-root, holder-fork, holder-leaf}
 use Rattle.table.proofs.HolderLaws.{held, path-up, path-quadrants, own-path, own-depth}
 use Rattle.neighbour.specs.declared.Found.the-variants.{At, Off}
-use Rattle.neighbour.specs.Search.{stay, onwardOf, mirrorOf, Where, off, block, inner, moved, foundIn, downTo, Sought, Steps}
+use Rattle.neighbour.specs.Search.{stay, onwardOf, mirrorOf, Where, off, block, inner, moved, foundIn, downTo, Sought, StepsDown}
 use Rattle.neighbour.proofs.SearchLaws.{moved-stay, MovedTo, moved-to, steers}
 
 -- one turn, in the code's own values: f the father, q the quadrant, m the onward direction, s the mirrored quadrant
@@ -26,7 +26,7 @@ pub record Turn (n : ℕ) (T : List ℕ) (p level D f q m s : ℕ) : Type 0 wher
   pub quadrant : q < 4
   pub son : s < 4
   pub next : Sought n T f (level + 1) m
-  pub steps : Steps T (foundIn n T (level + 1) (moved m (pathTo T n f)))
+  pub steps : StepsDown T (foundIn n T (level + 1) (moved m (pathTo T n f)))
   pub gives : downTo T s (foundIn n T (level + 1) (moved m (pathTo T n f))) ≡ foundIn n T level (moved D (pathTo T n p))
 
 module _ (n : ℕ) (T : List ℕ) (acc : Accepted n T) where
@@ -65,8 +65,8 @@ module _ (n : ℕ) (T : List ℕ) (acc : Accepted n T) where
   down-at level s D π off s4 m = unfold downTo foundIn in refl
   down-at level s D π (block ρ) s4 m = down-block level s ρ (m .quadrants) s4
 
-  steps-in : (level D : ℕ) (π : List ℕ) (w : Where) → MovedTo D π w → Steps T (foundIn n T (level + 1) w)
-  unfolding MovedTo Steps foundIn
+  steps-in : (level D : ℕ) (π : List ℕ) (w : Where) → MovedTo D π w → StepsDown T (foundIn n T (level + 1) w)
+  unfolding MovedTo StepsDown foundIn
   steps-in level D π off m = tt
   steps-in level D π (block ρ) m = (held n T acc ρ (m .quadrants) .below, omega arith)
 

@@ -79,9 +79,9 @@ pub record Sought (n : ℕ) (T : List ℕ) (p level D : ℕ) : Type 0 where
   pub way : D ≤ stay
 
 -- what a step down asks of what was found: a node, and above level 0 if it is a fork
-unfoldable pub Steps : List ℕ → Found → Type 0
-Steps T Off = Unit {0}
-Steps T (At m l) = (m < nodes T) × (0 < l)
+unfoldable pub StepsDown : List ℕ → Found → Type 0
+StepsDown T Off = Unit {0}
+StepsDown T (At m l) = (m < nodes T) × (0 < l)
 
 -- one step of the descent to a corner: a fork's son in that quadrant, and a leaf itself
 abbrev pub stepTo : List ℕ → ℕ → ℕ → ℕ

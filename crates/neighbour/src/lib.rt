@@ -9,7 +9,7 @@ ghost use Rattle.quad.specs.Direction.{commonSideOf};
 ghost use Rattle.table.specs.Table.{nodes};
 ghost use Rattle.table.specs.Rules.{Accepted};
 ghost use Rattle.table.specs.Nodes.{pathTo, levelOf};
-ghost use Rattle.neighbour.specs.Search.{stay, onwardOf, mirrorOf, moved, foundIn, downTo, Sought, Steps, neighbourFound, outcomeOf, cornerUnder, Cornered, Small};
+ghost use Rattle.neighbour.specs.Search.{stay, onwardOf, mirrorOf, moved, foundIn, downTo, Sought, StepsDown, neighbourFound, outcomeOf, cornerUnder, Cornered, Small};
 ghost use Rattle.neighbour.specs.Neighbour.{leafBeyond};
 ghost use Rattle.neighbour.specs.Calls.{Neighbours, CornerLeaves, DiagonalLeaves};
 
@@ -64,7 +64,7 @@ fn mirror(direction: usize, quadrant: usize) -> usize
 
 // From a fork that was found down to one of its sons; a leaf stays.
 fn down(table: &[u32], found: Found, quadrant: usize) -> Found
-    requires { ⌜ Steps (now table) found × (quadrant < 4) ⌝ }
+    requires { ⌜ StepsDown (now table) found × (quadrant < 4) ⌝ }
     ensures { λ r. ⌜ r ≡ downTo (now (table .entry)) quadrant found ⌝ }
 {
     let Found::At { node, level } = found else {
