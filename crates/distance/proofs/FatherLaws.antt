@@ -14,7 +14,7 @@ use Rattle.table.specs.Table.{nodes, father, type, isFork}
 use Rattle.table.specs.Rules.{Accepted}
 use Rattle.table.specs.Nodes.{sonType, pathTo, holder, pixel, treeAt, levelOf}
 use Rattle.table.proofs.AcceptedLaws.{tree-sound, tree-fork, father-below, father-fork, sonType-lt, depth-up, depth-le}
-use Rattle.table.proofs.HolderLaws.{path-up, path-quadrants, own-path}
+use Rattle.table.proofs.HolderLaws.{path-up, own-quadrants, own-path}
 use Rattle.table.proofs.BlockPixels.{pixel-block}
 use Rattle.neighbour.specs.Search.{stay}
 use Rattle.distance.proofs.NearestLaws.{White}
@@ -63,7 +63,7 @@ module _ (n : ℕ) (T : List ℕ) (acc : Accepted n T) (p : ℕ) (lt : p < nodes
       let x : ℕ = h .x in
       let y : ℕ = h .y in
       let π = pathTo T n above in
-      let quadrants = path-quadrants n T acc above above-lt in
+      let quadrants = own-quadrants n T acc above above-lt in
       let size : suc level + length π ≡ n = omega (arith, above-level, level-depth n T acc above above-lt) in
       let here : holder T (pathOf (length π) (x / 2 ^ suc level) (y / 2 ^ suc level)) ≡ above =
       rw (h .column, h .row, path-back π quadrants) (own-path n T acc above above-lt) in

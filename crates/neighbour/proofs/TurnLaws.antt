@@ -14,7 +14,7 @@ use Rattle.table.specs.Rules.{depthTo, Accepted}
 use Rattle.table.specs.Nodes.{sonType, pathTo, holder}
 use Rattle.table.proofs.AcceptedLaws.{father-below, sonType-lt, depth-up, depth-son}
 use Rattle.table.proofs.NodeLaws.{path-root, holder-fork, holder-leaf}
-use Rattle.table.proofs.HolderLaws.{held, path-up, path-quadrants, own-path, own-depth}
+use Rattle.table.proofs.HolderLaws.{held, path-up, own-quadrants, own-path, own-depth}
 use Rattle.neighbour.specs.declared.Found.the-variants.{At, Off}
 use Rattle.neighbour.specs.Search.{stay, onwardOf, mirrorOf, Where, off, block, inner, moved, foundIn, downTo, Sought, StepsDown}
 use Rattle.neighbour.proofs.SearchLaws.{moved-stay, MovedTo, moved-to, steers}
@@ -80,7 +80,7 @@ module _ (n : ℕ) (T : List ℕ) (acc : Accepted n T) where
       let lt : f < nodes T = omega (arith, z .node) in
       let way : m ≤ stay = rw em (st .way) in
       let s4 : s < 4 = rw es (st .small) in
-      let h = moved-to m (pathTo T n f) way (path-quadrants n T acc f lt) in
+      let h = moved-to m (pathTo T n f) way (own-quadrants n T acc f lt) in
       let up : moved D (pathTo T n p) ≡ inner s (moved m (pathTo T n f)) = rw (es, em, eq, ef) (rise p D (z .node) pos) in
       let d : depthTo T n p ≡ suc (depthTo T n f) = rw ef (depth-up n T acc p (z .node) pos) in
       record {

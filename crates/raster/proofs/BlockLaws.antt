@@ -6,10 +6,10 @@ use Prim.Native.Nat.{ℕ, zero, suc, _+_, _-_, _*_, _/_, _^_, _≤_, _<_}
 use native.Mathlib.Nat.{div-lt-iff-lt-mul, suc-mul, mul-le-mul-right, pow-succ', pow-le-pow-right}
 use native.Mathlib.Omega.{arith}
 use lib.Arith.{digits-lt}
-use lib.Pow.{pow-pos, pow-add}
+use lib.Pow.{pow-pos}
 use borrow.Author.Tests.{eq-eqb}
 use Rattle.base.proofs.CaseLaws.{cond-case}
-use Rattle.base.proofs.PowLaws.{four-pow}
+use Rattle.base.proofs.PowLaws.{pow-product, four-pow}
 use Rattle.quad.specs.Numbers.{topLevel, forkType}
 use Rattle.quad.specs.Tree.{Tree, fork, colour, alike, likeTypes, Coloured, sizeOf, join, treeOf}
 use Rattle.quad.proofs.TreeLaws.{alike-types, pixels-top, size-fits}
@@ -111,7 +111,7 @@ pub block-fits : {n l x y : ℕ} → OnSheet n l x y → (x * 2 ^ l + 2 ^ l ≤ 
 block-fits {n} {l} {x} {y} o =
     let low = o .low in
     let s : n - l + l ≡ n = omega arith in
-    let e : 2 ^ n ≡ 2 ^ (n - l) * 2 ^ l = ap (λ (k : ℕ). 2 ^ k) (sym s) ∙ pow-add 2 (n - l) l in
+    let e = pow-product (n - l) l n s in
     (omega (arith, suc-mul x (2 ^ l), mul-le-mul-right (2 ^ l) (o .across)), omega (arith, suc-mul y (2 ^ l), mul-le-mul-right (2 ^ l) (o .down)))
 
 pub corner-small : {n l x y : ℕ} → n ≤ topLevel → OnSheet n l x y → (x * 2 ^ l + 2 ^ l ≤ 2 ^ topLevel) × (y * 2 ^ l + 2 ^ l ≤ 2 ^ topLevel)

@@ -16,8 +16,8 @@ use Rattle.table.specs.Nodes.{levelOf, sonType, pathTo}
 use Rattle.table.specs.Blocks.{blockOf}
 use Rattle.table.proofs.RuleLaws.{depth-root}
 use Rattle.table.proofs.AcceptedLaws.{father-below, sonType-lt, depth-le, depth-up}
-use Rattle.table.proofs.NodeLaws.{path-root, real-quadrants, path-of}
-use Rattle.table.proofs.HolderLaws.{path-up}
+use Rattle.table.proofs.NodeLaws.{path-root}
+use Rattle.table.proofs.HolderLaws.{path-up, own-quadrants, own-depth}
 
 -- from p as far as q: `unit` is 2 to the number of links passed, c and r are column and row of p's block within q's, and l is n less the links passed
 pub record Climbed (n : ℕ) (T : List ℕ) (p q unit c r l : ℕ) : Type 0 where
@@ -34,10 +34,10 @@ digit c u b x = omega (arith, mul-add u b (2 * x), mul-comm b u, mul-assoc u 2 x
 module _ (n : ℕ) (T : List ℕ) (acc : Accepted n T) where
   -- a node's block lies on the sheet
   pub column-below : (p : ℕ) → p < nodes T → column (pathTo T n p) < 2 ^ depthTo T n p
-  column-below p lt = let a = path-of n T acc p lt in rw (a .size) at (column-lt (pathTo T n p) (real-quadrants T (pathTo T n p) (a .real)))
+  column-below p lt = rw (own-depth n T acc p lt) at (column-lt (pathTo T n p) (own-quadrants n T acc p lt))
 
   pub row-below : (p : ℕ) → p < nodes T → row (pathTo T n p) < 2 ^ depthTo T n p
-  row-below p lt = let a = path-of n T acc p lt in rw (a .size) at (row-lt (pathTo T n p) (real-quadrants T (pathTo T n p) (a .real)))
+  row-below p lt = rw (own-depth n T acc p lt) at (row-lt (pathTo T n p) (own-quadrants n T acc p lt))
 
   -- so many blocks of a node's size lie across the sheet
   across-top : (p : ℕ) → 2 ^ depthTo T n p ≤ 2 ^ topLevel
