@@ -6,8 +6,8 @@ use Prim.Native.Nat.{ℕ, _+_, _-_, _*_, _/_, _^_, _≤_, _<_}
 use native.Mathlib.Nat.{mul-assoc, add-mul, mul-le-mul-right, le-of-mul-le-mul-right, div-mul-le-self, div-lt-iff-lt-mul, div-eq-of-lt-le}
 use native.Mathlib.Omega.{arith}
 use lib.Pow.{pow-pos, pow-lt}
-use Rattle.base.proofs.PowLaws.{pow-product}
 use Rattle.base.proofs.BoolLaws.{lt-or-ge}
+use Rattle.base.proofs.PowLaws.{pow-product}
 use Rattle.quad.specs.Block.{column, row}
 use Rattle.table.specs.Table.{nodes}
 use Rattle.table.specs.Rules.{depthTo}
