@@ -1,12 +1,12 @@
--- Refusals in their order, as a call goes through them: a test that a call made, then the next. `thens` closes the returns.
-use mathlib.Core.Bool.{Bool, true, false, not, cond}
-use mathlib.Core.Path.{_≡_, refl, ap, sym, _∙_}
+-- Refusals in their order, as a call goes through them: a test that a call made, then the next. `thens` closes the returns. And what an answer says of the tests.
+use mathlib.Core.Bool.{Bool, true, false, not, false≢true}
+use mathlib.Core.Path.{_≡_, refl, sym, _∙_}
 use Prim.Native.Nat.{_<_}
 use native.Mathlib.Omega.{arith}
 use Rattle.base.proofs.BoolLaws.{on, off}
 use Rattle.answer.specs.declared.Outcome.{Outcome}
 use Rattle.answer.specs.declared.Outcome.the-variants.{Answered, BadLevel, WrongLength, BadNode, TooDeep, NeedlessFork, NoNode, BadDirection, BadPixel, NoRoom, BadPlace, OutOfRange, BadByte, Absent, BadCount, TooLarge, NoBlock}
-use Rattle.answer.specs.Numbers.{codeOf, answers, andThen}
+use Rattle.answer.specs.Numbers.{codeOf, answers, andThen, unless}
 
 module _ (o s next : Outcome) (u : Bool) (e : s ≡ o) (a : u ≡ answers s) where
   pub then-stop : not u ≡ true → s ≡ andThen o next
@@ -16,6 +16,26 @@ module _ (o s next : Outcome) (u : Bool) (e : s ≡ o) (a : u ≡ answers s) whe
   then-go r h f = rw (← e, on u (answers s) a h) f
 
 pub ruleset thens = (then-stop, then-go)
+
+-- refusals may be taken together
+pub then-then : (a b c : Outcome) → andThen (andThen a b) c ≡ andThen a (andThen b c)
+then-then a b c = go (answers a) refl
+  where
+    go : (u : Bool) → answers a ≡ u → andThen (andThen a b) c ≡ andThen a (andThen b c)
+    go true q = rw q
+    go false q = rw (q, q)
+
+-- both answered where one followed by the other does; and a test that answers was passed
+pub both-answer : (o next : Outcome) → answers (andThen o next) ≡ true → (answers o ≡ true) × (answers next ≡ true)
+both-answer o next e = go (answers o) refl
+  where
+    go : (b : Bool) → answers o ≡ b → (answers o ≡ true) × (answers next ≡ true)
+    go true q = (q, rw q at e)
+    go false q = absurd (false≢true (sym q ∙ rw q at e))
+
+pub answers-unless : (b : Bool) (o : Outcome) → answers o ≡ false → answers (unless b o) ≡ true → b ≡ false
+answers-unless true o f e = absurd (false≢true (sym f ∙ e))
+answers-unless false o f e = refl
 
 -- a code is below 256, so code and value are read off the number
 pub code-small : (o : Outcome) → codeOf o < 256

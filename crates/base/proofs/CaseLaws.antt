@@ -38,6 +38,13 @@ module _ {A : Type 0} where
   pub at-call-false : (t u : Bool) (r x y : A) → u ≡ t → u ≡ false → r ≡ y → r ≡ cond t x y
   at-call-false t u r x y e h f = at-false t r x y (sym e ∙ h) f
 
+  -- the number tested is what a call gave
+  pub at-call-eq : (a b k : ℕ) (r x y : A) → a ≡ k → a ≡ b → r ≡ x → r ≡ cond (eqb k b) x y
+  at-call-eq a b k r x y e h f = at-eq k b r x y (sym e ∙ h) f
+
+  pub at-call-ne : (a b k : ℕ) (r x y : A) → a ≡ k → (a ≡ b → ⊥) → r ≡ y → r ≡ cond (eqb k b) x y
+  at-call-ne a b k r x y e h f = at-ne k b r x y (λ q. h (e ∙ q)) f
+
   -- the code tests `!u`, u being what a call gave
   pub at-call-not : (t u : Bool) (r x y : A) → u ≡ t → not u ≡ true → r ≡ y → r ≡ cond t x y
   at-call-not t u r x y e h f = at-false t r x y (off u t e h) f
@@ -50,4 +57,18 @@ module _ {A : Type 0} where
   cond-case P true x y f g = f refl
   cond-case P false x y f g = g refl
 
-pub ruleset cases = (at-lt, at-ge, at-le, at-gt, at-eq, at-ne, at-true, at-false, at-call-true, at-call-false, at-call-not, at-call-not-not)
+  -- a choice between one thing and itself
+  pub cond-same : (t : Bool) (x : A) → cond t x x ≡ x
+  cond-same true x = refl
+  cond-same false x = refl
+
+-- a function of a choice is the choice of its values
+pub cond-map : {A B : Type 0} (f : A → B) (t : Bool) (x y : A) (x' y' : B) → f x ≡ x' → f y ≡ y' → f (cond t x y) ≡ cond t x' y'
+cond-map f true x y x' y' p q = p
+cond-map f false x y x' y' p q = q
+
+pub cond-map-case : {A B : Type 0} (f : A → B) (t : Bool) (x y : A) (x' y' : B) → (t ≡ true → f x ≡ x') → (t ≡ false → f y ≡ y') → f (cond t x y) ≡ cond t x' y'
+cond-map-case f true x y x' y' p q = p refl
+cond-map-case f false x y x' y' p q = q refl
+
+pub ruleset cases = (at-lt, at-ge, at-le, at-gt, at-eq, at-ne, at-true, at-false, at-call-true, at-call-false, at-call-eq, at-call-ne, at-call-not, at-call-not-not)

@@ -1,20 +1,14 @@
 -- A buffer that is filled with a function's values from its start on: one value more, and at last all of them.
-use mathlib.Core.List.{List, [], _∷_, _++_}
+use mathlib.Core.List.{List, []}
 use mathlib.Core.Path.{_≡_, refl, ap, sym, _∙_}
-use Prim.Native.Nat.{ℕ, zero, suc, _+_, _≤_, _<_}
-use native.Mathlib.Nat.{add-zero, zero-add}
+use Prim.Native.Nat.{ℕ, _+_, _≤_, _<_}
+use native.Mathlib.Nat.{zero-add}
 use native.Mathlib.Numerals.{add-one}
 use native.Mathlib.Omega.{arith}
 use lib.ListN.{length, take, set}
 use lib.Seq.{take-suc-set, take-all}
 use Rattle.base.specs.Tab.{tab, tabFrom}
-
-tab-last : (f : ℕ → ℕ) (k i : ℕ) → tabFrom f (suc k) i ≡ tabFrom f k i ++ (f (i + k) ∷ [])
-unfolding tabFrom
-tab-last f zero i = rw (add-zero i)
-tab-last f (suc k) i =
-    let e : i + 1 + k ≡ i + suc k = omega arith in
-    ap (λ (r : List ℕ). f i ∷ r) (tab-last f k (i + 1) ∙ rw e)
+use Rattle.base.proofs.TabLaws.{tab-last}
 
 module _ (f : ℕ → ℕ) where
   pub filled-none : [] ≡ tab f 0

@@ -3,4 +3,7 @@ pub mod BoolLaws
 pub mod CaseLaws
 pub mod FillLaws
 pub mod LeastLaws
+pub mod PowLaws
+pub mod SetsLaws
 pub mod SumLaws
+pub mod TabLaws

@@ -16,16 +16,16 @@ use Rattle.quad.specs.Numbers.{white, none, topLevel, forkType}
 use Rattle.quad.specs.Direction.{eastStep, southStep}
 use Rattle.table.specs.Table.{nodes, type, isFork}
 use Rattle.table.specs.Links.{Rising}
-use Rattle.table.specs.Rules.{depthTo, Accepted}
+use Rattle.table.specs.Rules.{depthTo, Accepted, AtLevel}
 use Rattle.table.specs.Nodes.{pixel, levelOf, centreAcross, centreDown}
-use Rattle.table.proofs.AcceptedLaws.{depth-le, father-below}
+use Rattle.table.proofs.AcceptedLaws.{depth-le, father-below, level-top}
 use Rattle.neighbour.specs.declared.Found.{Found}
 use Rattle.neighbour.specs.declared.Found.the-variants.{At, Off}
 use Rattle.neighbour.specs.Search.{stay, neighbourFound}
 use Rattle.neighbour.proofs.FoundLaws.{FoundAt, found-facts}
 use Rattle.distance.specs.Distance.{plainOutside, nearest, distanceAt}
 use Rattle.distance.specs.Search.{offsetUnder, Spot}
-use Rattle.distance.specs.Around.{offsetFound, offsetBeside, offsetAround, Leaf, Inner}
+use Rattle.distance.specs.Around.{offsetFound, offsetBeside, offsetAround, Inner}
 use Rattle.distance.proofs.SearchLaws.{offset-leaf, at-black}
 use Rattle.distance.proofs.LeafLaws.{side-small, father-small, leaf-nearest, root-nearest}
 
@@ -63,7 +63,7 @@ module _ (n : ℕ) (T : List ℕ) (p D : ℕ) (found : Found) (e : found ≡ nei
       beside-black w g =
           beside-at best best (eastStep D) (southStep D) refl refl (at-black T (eastStep D) (southStep D) l m 0 0 best kind t k w g)
 
-    module _ (q : ℕ) (s : Leaf n T p q) (d : D < stay) where
+    module _ (q : ℕ) (s : AtLevel n T p q) (d : D < stay) where
       facts : FoundAt n T p m l
       facts = found-facts n T (s .accepted) p D (s .node) (omega arith) m l (sym e ∙ o)
 
@@ -76,9 +76,7 @@ module _ (n : ℕ) (T : List ℕ) (p D : ℕ) (found : Found) (e : found ≡ nei
           let h : 2 ^ l ≤ 2 ^ topLevel = pow-mono {i = l} {j = topLevel} (omega (arith, facts .level)) in (
             record {
               n = n;
-              accepted = s .accepted;
-              node = facts .below;
-              level = omega (arith, facts .level, depth-le T n m);
+              place = record { accepted = s .accepted; node = facts .below; level = omega (arith, facts .level, depth-le T n m) };
               across = omega arith;
               down = omega arith;
             },
@@ -93,19 +91,13 @@ module _ (n : ℕ) (T : List ℕ) (p l : ℕ) (s : Inner n T p l) where
   small : offsetAround n T p stay ≤ 2 ^ l - 1
   small =
       let g = s .place in
-      let e : 2 ^ l ≡ 2 ^ levelOf n T p = ap (λ (k : ℕ). 2 ^ k) (g .level) in
+      let e : 2 ^ l ≡ 2 ^ levelOf n T p = ap (λ (k : ℕ). 2 ^ k) (omega (arith, g .level)) in
       let h = father-small n T (g .accepted) p (g .node) (s .leaf) (s .dark) (s .has-father) in
       omega arith
 
-  pub inner-level : l ≤ topLevel
-  inner-level =
-      let g = s .place in
-      let top = g .accepted .sized .level in
-      omega (arith, g .level)
-
   pub around-none : (w : ℕ) → w ≡ 2 ^ l → w - 1 ≡ so-far 0
   unfolding least
-  around-none w e = rw e (sym (min-eq-left (omega (arith, pow-mono {i = l} {j = topLevel} inner-level))))
+  around-none w e = rw e (sym (min-eq-left (omega (arith, pow-mono {i = l} {j = topLevel} (level-top (s .place))))))
 
   pub around-more : (best r d : ℕ) → best ≡ so-far d → r ≡ min best (offsetBeside n T p d) → r ≡ so-far (d + 1)
   around-more best r d e h = h ∙ rw (e, least-next none (offsetBeside n T p) d) (omega arith)
@@ -147,7 +139,7 @@ module _ (n : ℕ) (T : List ℕ) (p kind : ℕ) (k : kind ≡ type T p) where
     module _ (z : p ≡ 0 → ⊥) (d : ℕ) (ed : d ≡ depthTo T n p) where
       pub inner-place : Inner n T p (n - d)
       inner-place = record {
-        place = record { accepted = acc; node = lt; level = rw ed };
+        place = record { accepted = acc; node = lt; level = omega (arith, ed, depth-le T n p) };
         has-father = omega arith;
         leaf = f;
         dark = dark;

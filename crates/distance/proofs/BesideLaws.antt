@@ -5,15 +5,16 @@ use mathlib.Core.List.{List}
 use mathlib.Core.Logic.{_⊎_, inl, inr, ⊎-elim}
 use mathlib.Core.Path.{_≡_, refl, ap, sym, _∙_}
 use Prim.Native.Nat.{ℕ, zero, suc, _+_, _-_, _*_, _/_, _^_, _≤_, _<_, max}
-use native.Mathlib.Nat.{zero-add, div-lt-iff-lt-mul, eq-zero-or-pos}
+use native.Mathlib.Nat.{zero-add, eq-zero-or-pos}
 use native.Mathlib.Omega.{arith}
 use lib.Dec.{ltb, eqb}
 use lib.ListN.{length}
-use lib.Pow.{pow-pos, pow-add, shr-lt}
+use lib.Pow.{shr-lt}
 use borrow.Author.Tests.{ltb-true, eqb-true, eq-eqb}
 use Rattle.base.specs.All.{all}
 use Rattle.base.proofs.AllLaws.{all-at}
 use Rattle.base.proofs.BoolLaws.{by-bool, lt-or-ge, and-left, and-right}
+use Rattle.base.proofs.PowLaws.{below-pow}
 use Rattle.answer.specs.declared.Outcome.the-variants.{Answered}
 use Rattle.quad.specs.Numbers.{white, none}
 use Rattle.quad.specs.Block.{pathOf, column, row, Quadrants}
@@ -24,8 +25,7 @@ use Rattle.table.specs.Rules.{Accepted}
 use Rattle.table.specs.Nodes.{pathTo, holder, pixel, levelOf, centreAcross, centreDown}
 use Rattle.table.proofs.AcceptedLaws.{depth-le}
 use Rattle.table.proofs.NodeLaws.{path-root}
-use Rattle.table.proofs.HolderLaws.{held, own-path, own-depth}
-use Rattle.table.proofs.HolderLaws as holders
+use Rattle.table.proofs.HolderLaws.{held, own-quadrants, own-path, own-depth}
 use Rattle.table.proofs.BlockPixels.{pixel-block}
 use Rattle.neighbour.specs.declared.Found.{Found}
 use Rattle.neighbour.specs.declared.Found.the-variants.{At, Off}
@@ -188,8 +188,7 @@ module _ (n : ℕ) (T : List ℕ) (acc : Accepted n T) (p : ℕ) (lt : p < nodes
   pub in-sheet : (x B : ℕ) → x / 2 ^ level ≡ B → B < 2 ^ depth → x < 2 ^ n
   in-sheet x B e h =
       let k : depth + level ≡ n = omega (arith, level-depth) in
-      let w : 2 ^ n ≡ 2 ^ depth * 2 ^ level = ap (λ (j : ℕ). 2 ^ j) (sym k) ∙ pow-add 2 depth level in
-      rw w (div-lt-iff-lt-mul {k = 2 ^ level} {x = x} {y = 2 ^ depth} (pow-pos level) .0 (rw e h))
+      below-pow depth level n x k (rw e h)
 
   pub block-lt : (x : ℕ) → x < 2 ^ n → x / 2 ^ level < 2 ^ depth
   block-lt x h =
@@ -229,7 +228,7 @@ module _ (n : ℕ) (T : List ℕ) (acc : Accepted n T) (p : ℕ) (lt : p < nodes
   pub own-pixel : (i j : ℕ) → isFork T p ≡ false → i / 2 ^ level ≡ X → j / 2 ^ level ≡ Y → pixel n T i j ≡ type T p
   own-pixel i j f ex ey =
       let π = pathTo T n p in
-      let m : there (i / 2 ^ level) (j / 2 ^ level) ≡ p = rw (ex, ey, path-back π (holders.path-quadrants n T acc p lt)) (own-path n T acc p lt) in
+      let m : there (i / 2 ^ level) (j / 2 ^ level) ≡ p = rw (ex, ey, path-back π (own-quadrants n T acc p lt)) (own-path n T acc p lt) in
       pixel-block n level depth T i j level-depth ∙ rw m (hue-leaf T level p i j f)
 
   -- where a pixel of the sheet lies
@@ -254,7 +253,7 @@ module _ (n : ℕ) (T : List ℕ) (acc : Accepted n T) (p : ℕ) (lt : p < nodes
       (step-or-apart X B)
     where
       quadrants : Quadrants (pathTo T n p)
-      quadrants = holders.path-quadrants n T acc p lt
+      quadrants = own-quadrants n T acc p lt
 
       -- the sheet has one block of its own size
       sons-only : (B A : ℕ) → B < 2 ^ depth → A < 2 ^ depth → Apart A B → 0 < p

@@ -1,7 +1,7 @@
 -- A leaf that is not white and has a father has a white pixel in a block beside its own: the father's block has one, since no fork is needless.
 use mathlib.Core.Bool.{false}
 use mathlib.Core.List.{List}
-use mathlib.Core.Logic.{_⊎_, ⊎-elim}
+use mathlib.Core.Logic.{⊎-elim}
 use mathlib.Core.Path.{_≡_, refl, sym, _∙_}
 use Prim.Native.Nat.{ℕ, suc, _+_, _-_, _*_, _/_, _%_, _^_, _<_}
 use native.Mathlib.Omega.{arith}
@@ -14,7 +14,7 @@ use Rattle.table.specs.Table.{nodes, father, type, isFork}
 use Rattle.table.specs.Rules.{Accepted}
 use Rattle.table.specs.Nodes.{sonType, pathTo, holder, pixel, treeAt, levelOf}
 use Rattle.table.proofs.AcceptedLaws.{tree-sound, tree-fork, father-below, father-fork, sonType-lt, depth-up, depth-le}
-use Rattle.table.proofs.HolderLaws.{path-up, path-quadrants, own-path}
+use Rattle.table.proofs.HolderLaws.{path-up, own-quadrants, own-path}
 use Rattle.table.proofs.BlockPixels.{pixel-block}
 use Rattle.neighbour.specs.Search.{stay}
 use Rattle.distance.proofs.NearestLaws.{White}
@@ -63,7 +63,7 @@ module _ (n : ℕ) (T : List ℕ) (acc : Accepted n T) (p : ℕ) (lt : p < nodes
       let x : ℕ = h .x in
       let y : ℕ = h .y in
       let π = pathTo T n above in
-      let quadrants = path-quadrants n T acc above above-lt in
+      let quadrants = own-quadrants n T acc above above-lt in
       let size : suc level + length π ≡ n = omega (arith, above-level, level-depth n T acc above above-lt) in
       let here : holder T (pathOf (length π) (x / 2 ^ suc level) (y / 2 ^ suc level)) ≡ above =
       rw (h .column, h .row, path-back π quadrants) (own-path n T acc above above-lt) in

@@ -2,7 +2,7 @@
 -- column of blocks at most a side, and any other at least three sides. So the pixels of a neighbour are as far as their offsets say.
 use mathlib.Core.Logic.{_⊎_, inl, inr}
 use mathlib.Core.Path.{_≡_, refl, ap, sym, _∙_}
-use Prim.Native.Nat.{ℕ, zero, suc, _+_, _-_, _*_, _/_, _^_, _≤_, _<_, max}
+use Prim.Native.Nat.{ℕ, zero, suc, _+_, _*_, _/_, _^_, _≤_, _<_, max}
 use native.Mathlib.Nat.{add-mul, mul-le-mul-right, mod-lt, div-add-mod', le-trans, le-max-left, le-max-right}
 use native.Mathlib.Omega.{arith}
 use lib.Pow.{pow-pos}

@@ -1,11 +1,10 @@
 -- The search turn by turn: nothing under a node is nearer than its near edges, and the four quarters, taken in any order, are the fork.
 use mathlib.Core.Bool.{Bool, true, false}
 use mathlib.Core.List.{List}
-use mathlib.Core.Logic.{_⊎_, ⊎-elim}
+use mathlib.Core.Logic.{⊎-elim}
 use mathlib.Core.Path.{_≡_, refl, ap, sym, _∙_}
 use Prim.Native.Nat.{ℕ, zero, suc, _+_, _-_, _*_, _/_, _%_, _^_, _≤_, _<_, min, max}
-use native.Mathlib.Nat.{pow-succ', le-trans, le-antisymm, le-min, min-le-left, min-le-right, min-eq-left, min-eq-right, max-le, le-max-left, le-max-right}
-use native.Mathlib.Numerals.{add-one}
+use native.Mathlib.Nat.{le-trans, le-antisymm, le-min, min-le-left, min-le-right, min-eq-left, min-eq-right, max-le, le-max-left, le-max-right}
 use native.Mathlib.Omega.{arith}
 use lib.Dec.{eqb}
 use borrow.Author.Tests.{eq-eqb, ne-eqb, eqb-true, eqb-false}
@@ -13,9 +12,10 @@ use Rattle.base.specs.Tab.{least}
 use Rattle.base.proofs.BoolLaws.{by-bool}
 use Rattle.base.proofs.CaseLaws.{cond-case}
 use Rattle.base.proofs.LeastLaws.{least-le, least-ge}
+use Rattle.base.proofs.PowLaws.{pow-more}
 use Rattle.quad.specs.Numbers.{white, none, topLevel, forkType}
 use Rattle.table.specs.Table.{nodes, son, type, isFork}
-use Rattle.table.proofs.AcceptedLaws.{sons-of, depth-son, fork-deep}
+use Rattle.table.proofs.AcceptedLaws.{fork-above, son-at}
 use Rattle.distance.specs.Search.{nearHalf, fartherBy, nearQuarter, acrossFirst, nextQuarter, leafOffset, offsetUnder, offsetIn, Spot}
 
 -- one half, as the code finds it
@@ -151,30 +151,18 @@ module _ (T : List ℕ) (east south l p a b best : ℕ) where
       let lf : isFork T p ≡ false = ne-eqb (type T p) forkType (λ q. g (k ∙ q)) in
       rw (offset-leaf T east south l p a b lf, ne-eqb (type T p) white (λ q. w (k ∙ q))) (sym (min-eq-left t))
 
--- a fork is above level 0, and its quarters are nodes of the next level
-pub fork-level : {T : List ℕ} {l p a b : ℕ} → Spot T l p a b → isFork T p ≡ true → 0 < l
-fork-level {T} {l} {p} s f = omega (arith, s .level, fork-deep (s .n) T (s .accepted) p (s .node) f)
-
-pub spot-level : {T : List ℕ} {l p a b : ℕ} → Spot T l p a b → l ≤ topLevel
-spot-level s = omega (arith, s .level, s .accepted .sized .level)
-
+-- the quarters of a fork are nodes of the next level
 pub spot-son : {T : List ℕ} {l p a b q : ℕ} (u v : ℕ) → Spot T (l + 1) p a b → isFork T p ≡ true → q < 4 → u ≤ 2 ^ l → v ≤ 2 ^ l → Spot T l (son T p q) (a + u) (b + v)
 spot-son {T} {l} {p} {a} {b} {q} u v s f q4 hu hv =
-    let w : 2 ^ (l + 1) ≡ 2 * 2 ^ l = ap (λ (k : ℕ). 2 ^ k) (add-one l) ∙ pow-succ' 2 l in
-    record {
-      n = s .n;
-      accepted = s .accepted;
-      node = sons-of (s .n) T (s .accepted) p (s .node) f q q4 .below;
-      level = omega (arith, s .level, depth-son (s .n) T (s .accepted) p q (s .node) f q4);
-      across = omega (arith, s .across);
-      down = omega (arith, s .down);
-    }
+    let w = pow-more 2 l in
+    let back : l + 1 - 1 ≡ l = omega arith in
+    record { n = s .n; place = rw back at (son-at (s .place) f q q4); across = omega (arith, s .across); down = omega (arith, s .down) }
 
 -- a fork's four quarters, one after the other
 module _ {T : List ℕ} {l p a b : ℕ} (s : Spot T l p a b) (f : isFork T p ≡ true) where
   pub quarter-asks : (t q : ℕ) → 2 * l ≡ t → q < 4 → (2 * (l - 1) + 1 < t) × (Spot T (l - 1 + 1) p a b × (isFork T p ≡ true) × (q < 4))
   quarter-asks t q e q4 =
-      let pos = fork-level s f in
+      let pos = fork-above (s .place) f in
       let back : l - 1 + 1 ≡ l = omega arith in
       (omega arith, (rw back s, f, q4))
 
@@ -184,7 +172,7 @@ module _ {T : List ℕ} {l p a b : ℕ} (s : Spot T l p a b) (f : isFork T p ≡
       → r₄ ≡ min best (offsetUnder T east south l p a b)
   quarters east south best r₁ r₂ r₃ r₄ q r t eq er e₁ e₂ e₃ e₄ =
       let m : ℕ = l - 1 in
-      let pos = fork-level s f in
+      let pos = fork-above (s .place) f in
       let e : l ≡ suc m = omega arith in
       let all : offsetUnder T east south l p a b ≡ least none (offsetIn T east south m p a b) 4 =
       ap (λ (k : ℕ). offsetUnder T east south k p a b) e ∙ offset-fork T east south m p a b f in
@@ -198,7 +186,7 @@ pub next-lt : {q : ℕ} (east south a b : ℕ) → q ≡ nextQuarter east south 
 next-lt east south a b e = rw e (near-next east south a b .second)
 
 pub son-lt : {T : List ℕ} {l p a b q : ℕ} (m : ℕ) → Spot T l p a b → isFork T p ≡ true → q < 4 → m ≡ son T p q → m < nodes T
-son-lt {T} {l} {p} {a} {b} {q} m s f q4 e = rw e (sons-of (s .n) T (s .accepted) p (s .node) f q q4 .below)
+son-lt {T} {l} {p} {a} {b} {q} m s f q4 e = rw e (son-at (s .place) f q q4 .node)
 
 -- one of them is entered: u and v are how much farther on it lies
 module _ {T : List ℕ} (l : ℕ) {p a b q : ℕ} (east south : ℕ) (s : Spot T (l + 1) p a b) (f : isFork T p ≡ true) (q4 : q < 4)
@@ -206,14 +194,12 @@ module _ {T : List ℕ} (l : ℕ) {p a b q : ℕ} (east south : ℕ) (s : Spot T
   pub room-across : {u : ℕ} (step half : ℕ) → u ≡ fartherBy step half w → a + u ≤ 2 ^ topLevel
   room-across step half e =
       let le = far-le step half w in
-      let d : 2 ^ (l + 1) ≡ 2 * 2 ^ l = ap (λ (k : ℕ). 2 ^ k) (add-one l) ∙ pow-succ' 2 l in
-      omega (arith, s .across)
+      omega (arith, pow-more 2 l, s .across)
 
   pub room-down : {v : ℕ} (step half : ℕ) → v ≡ fartherBy step half w → b + v ≤ 2 ^ topLevel
   room-down step half e =
       let le = far-le step half w in
-      let d : 2 ^ (l + 1) ≡ 2 * 2 ^ l = ap (λ (k : ℕ). 2 ^ k) (add-one l) ∙ pow-succ' 2 l in
-      omega (arith, s .down)
+      omega (arith, pow-more 2 l, s .down)
 
   module _ {u v m : ℕ} (eu : u ≡ fartherBy east (q % 2) w) (ev : v ≡ fartherBy south (q / 2) w) (em : m ≡ son T p q) where
     pub enter-asks : (t kind : ℕ) → 2 * l + 1 ≡ t → kind ≡ type T m → kind ≡ forkType → (2 * l < t) × (Spot T l m (a + u) (b + v) × (isFork T m ≡ true))

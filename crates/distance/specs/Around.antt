@@ -7,9 +7,8 @@ use Prim.Native.Nat.{ℕ, _<_}
 use Rattle.base.specs.Tab.{least}
 use Rattle.quad.specs.Numbers.{white, none}
 use Rattle.quad.specs.Direction.{eastStep, southStep}
-use Rattle.table.specs.Table.{nodes, type, isFork}
-use Rattle.table.specs.Rules.{Accepted}
-use Rattle.table.specs.Nodes.{levelOf}
+use Rattle.table.specs.Table.{type, isFork}
+use Rattle.table.specs.Rules.{AtLevel}
 use Rattle.neighbour.specs.declared.Found.{Found}
 use Rattle.neighbour.specs.declared.Found.the-variants.{At, Off}
 use Rattle.neighbour.specs.Search.{neighbourFound}
@@ -28,15 +27,9 @@ offsetBeside n T p D = offsetFound T D (neighbourFound n T p D)
 abbrev pub offsetAround : ℕ → List ℕ → ℕ → ℕ → ℕ
 offsetAround n T p k = least none (offsetBeside n T p) k
 
--- what the code asks of its caller: p is a node of level l of an accepted table
-pub record Leaf (n : ℕ) (T : List ℕ) (p l : ℕ) : Type 0 where
-  pub accepted : Accepted n T
-  pub node : p < nodes T
-  pub level : l ≡ levelOf n T p
-
--- and p is a leaf that is not white, and has a father
+-- what the code asks of its caller: p, of level l, is a leaf that is not white, and has a father
 pub record Inner (n : ℕ) (T : List ℕ) (p l : ℕ) : Type 0 where
-  pub place : Leaf n T p l
+  pub place : AtLevel n T p l
   pub has-father : 0 < p
   pub leaf : isFork T p ≡ false
   pub dark : type T p ≡ white → ⊥

@@ -3,13 +3,12 @@
 -- that step from the near edge of the neighbour's block; along an axis on which the step stays it is 0.
 use mathlib.Core.Bool.{Bool, true, false, cond}
 use mathlib.Core.List.{List}
-use mathlib.Core.Path.{_≡_}
-use Prim.Native.Nat.{ℕ, zero, suc, _+_, _-_, _*_, _/_, _%_, _^_, _≤_, _<_, max}
+use Prim.Native.Nat.{ℕ, zero, suc, _+_, _-_, _*_, _/_, _%_, _^_, _≤_, max}
 use lib.Dec.{eqb, ltb}
 use Rattle.base.specs.Tab.{least}
 use Rattle.quad.specs.Numbers.{white, none, topLevel}
-use Rattle.table.specs.Table.{nodes, son, type, isFork}
-use Rattle.table.specs.Rules.{depthTo, Accepted}
+use Rattle.table.specs.Table.{son, type, isFork}
+use Rattle.table.specs.Rules.{AtLevel}
 
 -- the half of a block that lies nearer, 0 the first, 1 the second: the second where the step goes back
 abbrev pub nearHalf : ℕ → ℕ
@@ -50,8 +49,6 @@ offsetIn T east south l p a b q = offsetUnder T east south l (son T p q) (a + fa
 -- what the search asks of its caller: p is a node of level l of a table that is accepted at some level, and no offset leaves a sheet
 pub record Spot (T : List ℕ) (l p a b : ℕ) : Type 0 where
   pub n : ℕ
-  pub accepted : Accepted n T
-  pub node : p < nodes T
-  pub level : l + depthTo T n p ≡ n
+  pub place : AtLevel n T p l
   pub across : a + 2 ^ l ≤ 2 ^ topLevel
   pub down : b + 2 ^ l ≤ 2 ^ topLevel

@@ -10,15 +10,15 @@ ghost use Prim.Native.Nat.{_+_, _*_, _^_, _<_, _≤_, min, max};
 ghost use Rattle.quad.specs.Numbers.{topLevel};
 ghost use Rattle.quad.specs.Direction.{eastStep, southStep};
 ghost use Rattle.table.specs.Table.{nodes, isFork};
-ghost use Rattle.table.specs.Rules.{Accepted};
+ghost use Rattle.table.specs.Rules.{Accepted, AtLevel};
 ghost use Rattle.neighbour.specs.Search.{stay};
 ghost use Rattle.distance.specs.Calls.{Distances};
 ghost use Rattle.distance.specs.Distance.{plainOutside, distanceAt, distancesOf};
-ghost use Rattle.distance.specs.Around.{offsetBeside, offsetAround, Leaf, Inner};
+ghost use Rattle.distance.specs.Around.{offsetBeside, offsetAround, Inner};
 ghost use Rattle.distance.specs.Search.{fartherBy, nearHalf, nearQuarter, acrossFirst, nextQuarter, offsetUnder, offsetIn, Spot};
 
 // The mark where no pixel is white.
-const MARK: u32 = 4294967295;
+const MARK: u32 = quad::NONE as u32;
 
 // One more than the step that a direction takes to the east, and to the south.
 const EAST: [u32; 8] = [1, 2, 1, 0, 0, 2, 0, 2];
@@ -47,14 +47,6 @@ fn larger(a: u32, b: u32) -> u32
         return b;
     }
     a
-}
-
-// The side of a block, in pixels.
-fn side(level: u32) -> u32
-    requires { ⌜ level ≤ topLevel ⌝ }
-    ensures { λ r. ⌜ r ≡ 2 ^ level ⌝ }
-{
-    1 << level
 }
 
 // How much farther than the nearer half of a block a half of it lies: its side, or nothing.
@@ -150,7 +142,7 @@ fn seek_in(
     requires { ⌜ Spot (now table) (level + 1) p a b × (isFork (now table) p ≡ true) × (q < 4) ⌝ }
     ensures { λ r. ⌜ r ≡ min best (offsetIn (now (table .entry)) east south level p a b q) ⌝ }
 {
-    let half = side(level);
+    let half = quad::side(level);
     let across = a + farther_by(east, q % 2, half);
     let down = b + farther_by(south, q / 2, half);
     let bound = larger(across, down);
@@ -170,7 +162,7 @@ fn seek_in(
 
 // The least of best and the offsets of the white pixels in the neighbour of leaf p in a direction. Off the sheet nothing is white.
 fn beside(n: u32, table: &[u32], p: usize, level: u32, direction: usize, best: u32) -> u32
-    requires { ⌜ Leaf n (now table) p level × (direction < stay) ⌝ }
+    requires { ⌜ AtLevel n (now table) p level × (direction < stay) ⌝ }
     ensures { λ r. ⌜ r ≡ min best (offsetBeside n (now (table .entry)) p direction) ⌝ }
 {
     let found = neighbour::find(n, table, p, level, direction);
@@ -202,7 +194,7 @@ fn around(n: u32, table: &[u32], p: usize, level: u32) -> u32
     requires { ⌜ Inner n (now table) p level ⌝ }
     ensures { λ r. ⌜ r ≡ offsetAround n (now (table .entry)) p stay ⌝ }
 {
-    let mut best = side(level) - 1;
+    let mut best = quad::side(level) - 1;
     let mut direction = 0;
     while direction < 8 {
         if best == 0 {
@@ -238,7 +230,7 @@ fn distance(n: u32, table: &[u32], p: usize) -> u32
         return MARK;
     }
     let level = n - table::depth_to(table, n, p);
-    to_edge(side(level), around(n, table, p, level))
+    to_edge(quad::side(level), around(n, table, p, level))
 }
 
 // Writes the distance of every node.

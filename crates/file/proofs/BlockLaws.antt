@@ -1,5 +1,5 @@
 -- A block that was read: its bytes spell its tree's types, and the tree is of its level, reduced and coloured; and such bytes are read as that tree.
-use mathlib.Core.Bool.{false}
+use mathlib.Core.Bool.{true, false, cond}
 use mathlib.Core.List.{List}
 use mathlib.Core.Path.{_≡_, refl, ap, _∙_}
 use Prim.Native.Nat.{ℕ, zero, suc, _+_, _*_, _≤_}
@@ -44,8 +44,8 @@ module _ (s : List ℕ) (at : ℕ) (forked : Got) where
       (λ _. faults _)))
       (λ _. faults _))
 
-  pub record-fork : Stands s at forkType → recordAt s at forked ≡ forked
-  record-fork h =
+  record-stands : (k : ℕ) → Stands s at k → isType k ≡ true → recordAt s at forked ≡ cond (eqb k forkType) forked (got (at + 3) (leaf k))
+  record-stands k h ok =
       rw (
         lt-leb (length s) at (omega (arith, h .fits)),
         h .first,
@@ -53,20 +53,14 @@ module _ (s : List ℕ) (at : ℕ) (forked : Got) where
         h .second,
         lt-leb (length s) (at + 2) (omega (arith, h .fits)),
         h .kind,
+        ok,
       )
 
+  pub record-fork : Stands s at forkType → recordAt s at forked ≡ forked
+  record-fork h = record-stands forkType h refl
+
   pub record-leaf : (k : ℕ) → Stands s at k → k ≤ topColour → recordAt s at forked ≡ got (at + 3) (leaf k)
-  record-leaf k h le =
-      rw (
-        lt-leb (length s) at (omega (arith, h .fits)),
-        h .first,
-        lt-leb (length s) (at + 1) (omega (arith, h .fits)),
-        h .second,
-        lt-leb (length s) (at + 2) (omega (arith, h .fits)),
-        h .kind,
-        le-leb k topColour le,
-        ne-eqb k forkType (λ e. omega arith),
-      )
+  record-leaf k h le = record-stands k h (rw (le-leb k topColour le)) ∙ rw (ne-eqb k forkType (λ e. omega arith))
 
 -- what a block that was read from a place is: the place after it and its tree
 pub record Spells (s : List ℕ) (l at i : ℕ) (t : Tree) : Type 0 where

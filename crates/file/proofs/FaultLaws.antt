@@ -2,20 +2,21 @@
 use mathlib.Core.Bool.{Bool, true, false, cond, false≢true}
 use mathlib.Core.List.{List}
 use mathlib.Core.Path.{_≡_, refl, ap, sym, _∙_}
-use Prim.Native.Nat.{ℕ, zero, suc, _+_, _*_, _/_, _≤_}
+use Prim.Native.Nat.{ℕ, zero, suc, _+_, _*_, _≤_}
 use native.Mathlib.Omega.{arith}
 use lib.Dec.{eqb, leb, ltb}
-use lib.ListN.{length, getD, length-append, length-drop}
+use lib.ListN.{length, getD}
 use borrow.Author.Tests.{ltb-false}
 use Rattle.base.proofs.CaseLaws.{cond-case}
+use Rattle.base.proofs.SetsLaws.{overlay-length}
 use Rattle.answer.specs.declared.Outcome.{Outcome}
-use Rattle.answer.specs.declared.Outcome.the-variants.{Answered, BadByte, Absent, TooDeep, NeedlessFork, NoRoom}
-use Rattle.answer.specs.Numbers.{answers, room, andThen}
+use Rattle.answer.specs.declared.Outcome.the-variants.{Answered, BadByte, Absent, NoRoom}
+use Rattle.answer.specs.Numbers.{answers, andThen}
 use Rattle.base.specs.Tab.{overlay}
 use Rattle.quad.specs.Numbers.{topLevel, forkType, none}
 use Rattle.table.specs.Preorder.{preorderTable}
 use Rattle.table.proofs.PreorderLaws.{preorder-length}
-use Rattle.quad.specs.Tree.{Tree, leaf, fork, alike, sizeOf}
+use Rattle.quad.specs.Tree.{Tree, alike, sizeOf}
 use Rattle.file.specs.File.{needed, marked, isType, Got, got, bad, recordAt, onward, fourAt, blockAt, Opened, opened, faulty, closed, openOf, readTo, readOf, tableOf, readTable}
 use Rattle.file.proofs.OpenLaws.{Whole, open-whole}
 
@@ -80,9 +81,9 @@ pub record Answers (s : List ℕ) (words v : ℕ) : Type 0 where
   pub low : level ≤ topLevel
   pub fits : 6 * sizeOf tree ≤ words
 
-pub read-answers : (s : List ℕ) (words v : ℕ) → readOf s words ≡ Answered v → Answers s words v
+pub read-answered : (s : List ℕ) (words v : ℕ) → readOf s words ≡ Answered v → Answers s words v
 unfolding readOf
-read-answers s words v h = go (openOf s) refl (open-told s) h
+read-answered s words v h = go (openOf s) refl (open-told s) h
   where
     sized : (n : ℕ) (t : Tree) (b : Bool) → ltb words (6 * sizeOf t) ≡ b → openOf s ≡ opened n t → andThen (cond b (NoRoom (6 * sizeOf t)) (Answered 0)) (Answered (8 * sizeOf t + n)) ≡ Answered v → Answers s words v
     sized n t true q e h = absurd (let z : _≡_ {A = ℕ} 0 1 = cc in omega arith)
@@ -96,9 +97,6 @@ read-answers s words v h = go (openOf s) refl (open-told s) h
     go (faulty o) e f h = absurd (false≢true (sym f ∙ ap answers h))
 
 -- the table keeps its length
-overlay-length : (new old : List ℕ) → length new ≤ length old → length (overlay new old) ≡ length old
-overlay-length new old h = simp (length-append, length-drop) (omega arith)
-
 pub read-length : (s old : List ℕ) → length (readTable s old) ≡ length old
 unfolding readTable readOf
 read-length s old = go (openOf s) refl (open-told s)

@@ -8,7 +8,7 @@ use lib.ListN.{length, getD}
 use lib.Seq.{sets}
 use Rattle.quad.specs.Numbers.{forkType, none, maxWords}
 use Rattle.quad.specs.Tree.{Tree, leaf, fork, colour, Within, Reduced, Coloured, sizeOf, typesOf}
-use Rattle.quad.proofs.TreeLaws.{size-pos, types-length}
+use Rattle.quad.proofs.TreeLaws.{leaf-by-type, type-le, size-pos, types-length}
 use Rattle.table.proofs.PreorderLaws.{written-leaf, written-fork, written-length}
 use Rattle.file.specs.File.{got, blockAt}
 use Rattle.file.specs.Linking.{placeOf, treeIn, Ready, Linked}
@@ -36,12 +36,6 @@ root-kind : (s : List ℕ) (at : ℕ) (t : Tree) → Spelt s at (typesOf t) → 
 unfolding Spelt typesOf colour
 root-kind s at (leaf k) h = h .0
 root-kind s at (fork _ _ _ _) h = h .0
-
--- a tree whose root has no fork's type is a leaf
-leaf-tree : (t : Tree) → (colour t ≡ forkType → ⊥) → t ≡ leaf (colour t)
-unfolding colour
-leaf-tree (leaf k) h = refl
-leaf-tree (fork _ _ _ _) h = absurd (h refl)
 
 -- a fork of level l that was read at node p's record: its sons were read at theirs
 pub record Forked (s : List ℕ) (l p : ℕ) (t : Tree) : Type 0 where
@@ -87,11 +81,6 @@ module _ (s : List ℕ) where
         se = rw down (read-as l i₃ _ d (omega arith) (pc .1) (w .3) (r .4) (co .3));
       }
 
-colour-le : (t : Tree) → Coloured t → colour t ≤ forkType
-unfolding Coloured colour
-colour-le (leaf k) h = omega arith
-colour-le (fork _ _ _ _) h = omega arith
-
 pub linked-length : {t : Tree} {f p r : ℕ} {before after : List ℕ} → Linked t f p before after r → length after ≡ length before
 linked-length {t} {f} {p} {before = before} {after = after} h = written-length f p t before after (h .words)
 
@@ -118,12 +107,12 @@ module _ (s : List ℕ) (l p : ℕ) (w : List ℕ) (ready : Ready s l p (length 
     kind-is = sym (e ∙ its-root .kind)
 
     pub kind-le : k ≤ forkType
-    kind-le = rw kind-is at (colour-le (ready .tree) (its-spells .sound .coloured))
+    kind-le = rw kind-is at (type-le (ready .tree) (its-spells .sound .coloured))
 
     pub links-leaf : (f : ℕ) (after : List ℕ) → (k ≡ forkType → ⊥) → after ≡ sets w (6 * p) (f ∷ none ∷ none ∷ none ∷ none ∷ k ∷ [])
         → Linked (treeIn (blockAt s l (placeOf p))) f p w after (p + 1)
     links-leaf f after ne h =
-        let lt : ready .tree ≡ leaf k = leaf-tree (ready .tree) (λ q. ne (sym kind-is ∙ q)) ∙ ap leaf kind-is in
+        let lt : ready .tree ≡ leaf k = leaf-by-type (ready .tree) (λ q. ne (sym kind-is ∙ q)) ∙ ap leaf kind-is in
         rw (ready .is, lt) (leaf-linked k p f w after h)
 
     -- a fork: its sons are ready, one after the other

@@ -1,5 +1,4 @@
 -- The read call: what it answers and leaves in the table, by what the first pass told.
-use mathlib.Core.Bool.{Bool, true, false, cond}
 use mathlib.Core.List.{List}
 use mathlib.Core.Path.{_≡_, refl, sym, _∙_}
 use Prim.Native.Nat.{ℕ, _+_, _*_, _≤_, _<_}
@@ -7,6 +6,7 @@ use native.Mathlib.Nat.{zero-add}
 use native.Mathlib.Omega.{arith}
 use lib.ListN.{length}
 use borrow.Author.Tests.{lt-ltb, le-ltb}
+use Rattle.base.proofs.CaseLaws.{cond-same}
 use Rattle.answer.specs.declared.Outcome.{Outcome}
 use Rattle.answer.specs.declared.Outcome.the-variants.{Answered, NoRoom}
 use Rattle.answer.specs.Numbers.{answers}
@@ -22,10 +22,6 @@ use Rattle.file.specs.Reading.{contentsOf}
 use Rattle.file.specs.Linking.{placeOf, treeIn, Ready, Linked}
 use Rattle.file.proofs.OpenLaws.{Whole, open-whole}
 
-either : {A : Type 0} (b : Bool) (x : A) → cond b x x ≡ x
-either true x = refl
-either false x = refl
-
 -- a file that opens, as the first pass tells it
 record Told (s : List ℕ) (n count : ℕ) : Type 0 where
   pub tree : Tree
@@ -34,7 +30,7 @@ record Told (s : List ℕ) (n count : ℕ) : Type 0 where
 
 faulty-reads : (s old : List ℕ) (o : Outcome) → openOf s ≡ faulty o → Reads s old o old
 unfolding readOf readTable
-faulty-reads s old o is = record { answer = rw is; table = rw is (sym (either (answers o) old)) }
+faulty-reads s old o is = record { answer = rw is; table = rw is (sym (cond-same (answers o) old)) }
 
 module _ (s old : List ℕ) (c : Contents) (e : c ≡ contentsOf (openOf s)) where
   pub reads-faulty : (o : Outcome) → c ≡ Faulty o → Reads s old o old

@@ -1,34 +1,26 @@
 -- The first pass, answer by answer: what a record, or the block before it, says of the next, and that no place passes a word.
-use mathlib.Core.Bool.{Bool, true, false, cond, _&&_}
+use mathlib.Core.Bool.{Bool, true, false, cond}
 use mathlib.Core.List.{List}
 use mathlib.Core.Path.{_≡_, refl, ap, sym, _∙_}
 use Prim.Native.Nat.{ℕ, zero, suc, _+_, _-_, _*_, _^_, _≤_, _<_}
-use native.Mathlib.Nat.{pow-succ', one-le-pow}
+use native.Mathlib.Nat.{one-le-pow}
 use native.Mathlib.Omega.{arith}
 use lib.Dec.{leb, eqb}
 use lib.ListN.{length, getD}
 use borrow.Author.Tests.{ne-eqb}
-use Rattle.base.proofs.CaseLaws.{cond-case}
+use Rattle.base.proofs.CaseLaws.{cond-case, cond-map}
+use Rattle.base.proofs.PowLaws.{pow-less}
 use Rattle.answer.specs.declared.Outcome.{Outcome}
 use Rattle.answer.specs.declared.Outcome.the-variants.{TooDeep, NeedlessFork}
 use Rattle.answer.specs.Numbers.{answers}
-use Rattle.quad.specs.Numbers.{topColour, forkType}
-use Rattle.quad.specs.Tree.{Tree, leaf, fork, colour, sameLeaf, alike, Coloured}
-use Rattle.quad.proofs.TreeLaws.{size-le}
+use Rattle.quad.specs.Numbers.{forkType}
+use Rattle.quad.specs.Tree.{Tree, leaf, colour, alike, likeTypes, Coloured}
+use Rattle.quad.proofs.TreeLaws.{size-le, alike-types}
 use Rattle.file.specs.declared.Block.{Block}
 use Rattle.file.specs.declared.Block.the-variants.{Read, Bad}
 use Rattle.file.specs.File.{Got, got, bad, mark, nodeMark, marked, isType, recordAt, fourAt, blockAt}
-use Rattle.file.specs.Reading.{marksOf, recordOf, told, likeKinds, Reaches, FourReach}
+use Rattle.file.specs.Reading.{marksOf, recordOf, told, Reaches, FourReach}
 use Rattle.file.proofs.BlockLaws.{block-spells}
-
--- a function of a choice is the choice of its values
-pub push : {A B : Type 0} (f : A → B) (t : Bool) (x y : A) (x' y' : B) → f x ≡ x' → f y ≡ y' → f (cond t x y) ≡ cond t x' y'
-push f true x y x' y' p q = p
-push f false x y x' y' p q = q
-
-pub push-case : {A B : Type 0} (f : A → B) (t : Bool) (x y : A) (x' y' : B) → (t ≡ true → f x ≡ x') → (t ≡ false → f y ≡ y') → f (cond t x y) ≡ cond t x' y'
-push-case f true x y x' y' p q = p refl
-push-case f false x y x' y' p q = q refl
 
 -- two mark bytes, one tested after the other, are tested as one
 pub marks-by : {A : Type 0} (s : List ℕ) (at second : ℕ) (refuse : Outcome → A) (next : A)
@@ -36,9 +28,9 @@ pub marks-by : {A : Type 0} (s : List ℕ) (at second : ℕ) (refuse : Outcome �
 unfolding marksOf
 marks-by {A} s at second refuse next =
     let f : Outcome → A = λ o. cond (answers o) next (refuse o) in
-    sym (push f (leb (length s) at) _ _ _ _ refl
-    (push f (eqb (getD s at 0) mark) _ _ _ _
-    (push f (leb (length s) (at + 1)) _ _ _ _ refl (push f (eqb (getD s (at + 1) 0) second) _ _ _ _ refl refl))
+    sym (cond-map f (leb (length s) at) _ _ _ _ refl
+    (cond-map f (eqb (getD s at 0) mark) _ _ _ _
+    (cond-map f (leb (length s) (at + 1)) _ _ _ _ refl (cond-map f (eqb (getD s (at + 1) 0) second) _ _ _ _ refl refl))
     refl))
 
 -- what a record gives, a fork's left open
@@ -50,8 +42,8 @@ record-by : (s : List ℕ) (at : ℕ) (forked : Got) → recordAt s at forked �
 unfolding recordOf
 record-by s at forked =
     marks-by s at nodeMark bad _
-    ∙ sym (push (byRecord forked) (answers (marksOf s at nodeMark)) _ _ _ _
-    (push (byRecord forked) (leb (length s) (at + 2)) _ _ _ _ refl (push (byRecord forked) (isType (getD s (at + 2) 0)) _ _ _ _ refl refl)) refl)
+    ∙ sym (cond-map (byRecord forked) (answers (marksOf s at nodeMark)) _ _ _ _
+    (cond-map (byRecord forked) (leb (length s) (at + 2)) _ _ _ _ refl (cond-map (byRecord forked) (isType (getD s (at + 2) 0)) _ _ _ _ refl refl)) refl)
 
 deeper : List ℕ → ℕ → ℕ → Got
 deeper s zero at = bad (TooDeep (at + 2))
@@ -105,9 +97,7 @@ module _ (s : List ℕ) (l at : ℕ) (r : Block) (is : r ≡ recordOf s at) wher
 
   pub four-reach : (i k : ℕ) → Reaches l at → r ≡ Read i k → (l ≡ 0 → ⊥) → FourReach (l - 1) i
   four-reach i k h e nz =
-      let le : l ≡ suc (l - 1) = omega arith in
-      let p : 4 ^ l ≡ 4 * 4 ^ (l - 1) = ap (λ (j : ℕ). 4 ^ j) le ∙ pow-succ' 4 (l - 1) in
-      omega (arith, record-next s at i k (sym is ∙ e))
+      omega (arith, pow-less 4 l (omega arith), record-next s at i k (sym is ∙ e))
 
 -- a block that was read, as the first pass tells it
 pub record Found (s : List ℕ) (l at i k : ℕ) : Type 0 where
@@ -131,22 +121,6 @@ found s l at i k r e f = go (blockAt s l at) refl (sym e ∙ f)
 pub told-bad : (g : Got) (r : Block) (o : Outcome) → r ≡ told g → r ≡ Bad o → g ≡ bad o
 told-bad (got j t) r o e f = absurd (let z : _≡_ {A = ℕ} 0 1 = cc in omega arith)
 told-bad (bad o') r o e f = cc
-
--- two leaves are like where their types are; so four
-and-cond : (a b : Bool) → a && b ≡ cond a b false
-and-cond true b = refl
-and-cond false b = refl
-
-same-kinds : (k : ℕ) (t : Tree) → k ≤ topColour → sameLeaf (leaf k) t ≡ eqb k (colour t)
-unfolding sameLeaf colour
-same-kinds k (leaf c) h = refl
-same-kinds k (fork _ _ _ _) h = sym (ne-eqb k forkType (λ e. omega arith))
-
-alike-kinds : (a b c d : Tree) → Coloured a → alike a b c d ≡ likeKinds (colour a) (colour b) (colour c) (colour d)
-alike-kinds (leaf k) b c d h =
-    let le : k ≤ topColour = unfold Coloured in h in
-    simp (same-kinds k b le, same-kinds k c le, same-kinds k d le, and-cond) (unfold likeKinds colour in rw (ne-eqb k forkType (λ e. omega arith)))
-alike-kinds (fork _ _ _ _) b c d h = unfold likeKinds colour sameLeaf in refl
 
 -- four blocks: the first that is bad decides, and each that was read says where the next one starts
 module _ (s : List ℕ) (l at : ℕ) where
@@ -186,13 +160,13 @@ module _ (s : List ℕ) (l at : ℕ) where
         pub reach-4 : FourReach l at → Reaches l i₃
         reach-4 h = omega (arith, some-block l, nw .near, ne .near, sw .near)
 
-        module _ (r₄ : Block) (e₄ : r₄ ≡ told (blockAt s l i₃)) (i₄ k₄ : ℕ) (g₄ : r₄ ≡ Read i₄ k₄) (u : Bool) (e : u ≡ likeKinds k₁ k₂ k₃ k₄) where
+        module _ (r₄ : Block) (e₄ : r₄ ≡ told (blockAt s l i₃)) (i₄ k₄ : ℕ) (g₄ : r₄ ≡ Read i₄ k₄) (u : Bool) (e : u ≡ likeTypes k₁ k₂ k₃ k₄) where
           se : Found s l i₃ i₄ k₄
           se = found s l i₃ i₄ k₄ r₄ e₄ g₄
 
           likes : alike (nw .tree) (ne .tree) (sw .tree) (se .tree) ≡ u
           likes =
-              alike-kinds (nw .tree) (ne .tree) (sw .tree) (se .tree) (nw .coloured) ∙ rw (nw .kind, ne .kind, sw .kind, se .kind) (sym e)
+              alike-types (nw .tree) (ne .tree) (sw .tree) (se .tree) (nw .coloured) ∙ rw (nw .kind, ne .kind, sw .kind, se .kind) (sym e)
 
           pub four-like : u ≡ true → Bad (NeedlessFork (i₃ + 2)) ≡ told (fourAt (blockAt s l) at)
           four-like h = rw (nw .is, ne .is, sw .is, se .is, likes ∙ h)

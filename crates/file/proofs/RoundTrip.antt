@@ -1,12 +1,13 @@
 -- Reading and writing undo each other, for every level: a written file is read as the preorder table of the same picture, an accepted file is what
 -- writing its table gives, and tables with one picture write one file.
-use mathlib.Core.List.{List, append-nil}
+use mathlib.Core.List.{List}
 use mathlib.Core.Path.{_≡_, ap, sym, _∙_}
 use Prim.Native.Nat.{ℕ, _+_, _*_, _^_, _≤_, _<_}
 use native.Mathlib.Omega.{arith}
-use lib.ListN.{length, drop-of-length-le}
+use lib.ListN.{length}
 use borrow.Author.Tests.{le-ltb}
 use Rattle.base.specs.Tab.{overlay}
+use Rattle.base.proofs.SetsLaws.{overlay-all}
 use Rattle.answer.specs.declared.Outcome.{Outcome}
 use Rattle.answer.specs.declared.Outcome.the-variants.{Answered}
 use Rattle.quad.specs.Numbers.{none}
@@ -24,29 +25,25 @@ use Rattle.file.specs.File.{fileOf, opened, openOf, readOf, readTable, w
 use Rattle.file.specs.Calls.{Reads, Writes}
 use Rattle.file.proofs.OneFile.{Bytes, file-length, file-opens, open-exactly}
 
--- laid over a list of its own length, a list replaces it
-overlay-all : (new old : List ℕ) → length old ≡ length new → overlay new old ≡ new
-overlay-all new old e = rw (drop-of-length-le old {i = length new} (omega arith)) (append-nil new)
-
 -- an accepted table, written where there is room
 module _ (n : ℕ) (T old : List ℕ) (acc : Accepted n T) (room : 5 + 3 * nodes T ≤ length old) where
-  pub write-answers : writeOf n T (length old) ≡ Answered (5 + 3 * nodes T)
+  pub write-value : writeOf n T (length old) ≡ Answered (5 + 3 * nodes T)
   unfolding writeOf
-  write-answers = rw (check-accepted n T acc, le-ltb (length old) (5 + 3 * nodes T) room)
+  write-value = rw (check-accepted n T acc, le-ltb (length old) (5 + 3 * nodes T) room)
 
   pub write-leaves : writtenFile n T old ≡ overlay (fileOf n (treeAt T n 0)) old
   unfolding writtenFile
-  write-leaves = rw write-answers
+  write-leaves = rw write-value
 
 -- a file that opens, read where there is room
 module _ (s old : List ℕ) (n : ℕ) (t : Tree) (e : openOf s ≡ opened n t) (room : 6 * sizeOf t ≤ length old) where
-  pub read-answers : readOf s (length old) ≡ Answered (8 * sizeOf t + n)
+  pub read-value : readOf s (length old) ≡ Answered (8 * sizeOf t + n)
   unfolding readOf
-  read-answers = rw (e, le-ltb (length old) (6 * sizeOf t) room)
+  read-value = rw (e, le-ltb (length old) (6 * sizeOf t) room)
 
   pub read-leaves : readTable s old ≡ overlay (preorderTable t) old
   unfolding readTable
-  read-leaves = rw (read-answers, e)
+  read-leaves = rw (read-value, e)
 
 -- reading what was written, into a table of just its length, gives an accepted table of the same picture: the preorder one
 pub record Again (n : ℕ) (T : List ℕ) (r : Outcome) (U : List ℕ) : Type 0 where
@@ -68,7 +65,7 @@ written-then-read n T before file words U w r acc lb lw writes reads =
     let is : U ≡ preorderTable t =
     reads .table ∙ read-leaves file words n t e (omega arith) ∙ overlay-all (preorderTable t) words (omega (arith, preorder-length none 0 t)) in
     record {
-      answer = reads .answer ∙ read-answers file words n t e (omega arith) ∙ rw size;
+      answer = reads .answer ∙ read-value file words n t e (omega arith) ∙ rw size;
       table = is;
       accepted = rw is (preorder-accepted n t top sound);
       picture =
@@ -86,7 +83,7 @@ read-then-written s words U before file n t r w bytes e lw lb reads writes =
     let count : nodes U ≡ sizeOf t = ap nodes is ∙ preorder-nodes n t (x .level) (x .sound) in
     let tree : treeAt U n 0 ≡ t = ap (λ (W : List ℕ). treeAt W n 0) is ∙ preorder-tree n t (x .level) (x .sound) in
     let long : length s ≡ 5 + 3 * sizeOf t = ap length (x .is) ∙ file-length n t in (
-      writes .answer ∙ write-answers n U before acc (omega arith) ∙ ap Answered (omega arith),
+      writes .answer ∙ write-value n U before acc (omega arith) ∙ ap Answered (omega arith),
       writes .file ∙ write-leaves n U before acc (omega arith) ∙ rw tree (overlay-all (fileOf n t) before (omega (arith, file-length n t))) ∙ sym (x .is),
     )
 

@@ -2,19 +2,19 @@
 use mathlib.Core.Bool.{Bool, true, false, not, cond, false≢true}
 use mathlib.Core.List.{List}
 use mathlib.Core.Path.{_≡_, refl, ap, sym, _∙_}
-use Prim.Native.Nat.{ℕ, _+_, _-_, _≤_}
-use native.Mathlib.Nat.{pow-le-pow-right}
+use Prim.Native.Nat.{ℕ, _+_, _≤_}
 use native.Mathlib.Omega.{arith}
 use lib.Dec.{leb, ltb, eqb}
 use lib.ListN.{length, getD}
-use borrow.Author.Tests.{eq-eqb, ne-eqb, eqb-true, leb-false, ltb-false}
+use borrow.Author.Tests.{eqb-true, leb-false, ltb-false}
 use Rattle.base.proofs.BoolLaws.{on, off}
-use Rattle.base.proofs.CaseLaws.{cond-case}
+use Rattle.base.proofs.CaseLaws.{cond-case, cond-map, cond-map-case}
 use Rattle.answer.specs.declared.Outcome.{Outcome}
 use Rattle.answer.specs.declared.Outcome.the-variants.{Answered}
 use Rattle.answer.specs.Numbers.{valueOf, answers}
 use Rattle.quad.specs.Numbers.{topLevel}
 use Rattle.quad.specs.Tree.{Tree, sizeOf}
+use Rattle.quad.proofs.TreeLaws.{pixels-top}
 use Rattle.file.specs.declared.Block.{Block}
 use Rattle.file.specs.declared.Block.the-variants.{Read, Bad}
 use Rattle.file.specs.declared.Contents.{Contents}
@@ -22,15 +22,7 @@ use Rattle.file.specs.declared.Contents.the-variants.{Faulty}
 use Rattle.file.specs.File.{Opened, faulty, mark, sheetMark, closed, blockAt, openOf}
 use Rattle.file.specs.Reading.{marksOf, told, Reaches, headerOf, countOf, recordsTo, closingOf, contentsOf}
 use Rattle.file.proofs.BlockLaws.{block-spells}
-use Rattle.file.proofs.ReadLaws.{push, push-case, marks-by, found, told-bad}
-
--- a count that a call gave, held against another
-module _ (a b k : ℕ) (r x y : Contents) (e : a ≡ k) where
-  pub count-same : a ≡ b → r ≡ x → r ≡ cond (eqb k b) x y
-  count-same h f = rw (eq-eqb k b (sym e ∙ h)) f
-
-  pub count-other : (a ≡ b → ⊥) → r ≡ y → r ≡ cond (eqb k b) x y
-  count-other h f = rw (ne-eqb k b (λ q. h (e ∙ q))) f
+use Rattle.file.proofs.ReadLaws.{marks-by, found, told-bad}
 
 -- a header that answers
 pub record Header (s : List ℕ) : Type 0 where
@@ -41,20 +33,17 @@ pub record Header (s : List ℕ) : Type 0 where
   pub is : headerOf s ≡ Answered (getD s 2 0)
 
 -- a whole file by its header
-refused : {A : Type 0} (t : Bool) (x y : A) → t ≡ false → cond t x y ≡ y
-refused t x y e = rw e
-
 pub open-by : (s : List ℕ) → openOf s ≡ cond (answers (headerOf s)) (closed s (getD s 2 0) (blockAt s (getD s 2 0) 5)) (faulty (headerOf s))
 unfolding openOf headerOf
 open-by s =
     let m : Outcome = marksOf s 0 sheetMark in
     let f : Outcome → Opened = λ o. cond (answers o) (closed s (getD s 2 0) (blockAt s (getD s 2 0) 5)) (faulty o) in
     marks-by s 0 sheetMark faulty _
-    ∙ sym (push-case f (answers m) _ _ _ _
-    (λ _. push f (leb (length s) 2) _ _ _ _ refl
-    (push f (ltb topLevel (getD s 2 0)) _ _ _ _ refl
-    (push f (leb (length s) 3) _ _ _ _ refl (push f (leb (length s) 4) _ _ _ _ refl refl))))
-    (λ q. refused (answers m) _ _ q))
+    ∙ sym (cond-map-case f (answers m) _ _ _ _
+    (λ _. cond-map f (leb (length s) 2) _ _ _ _ refl
+    (cond-map f (ltb topLevel (getD s 2 0)) _ _ _ _ refl
+    (cond-map f (leb (length s) 3) _ _ _ _ refl (cond-map f (leb (length s) 4) _ _ _ _ refl refl))))
+    (λ q. rw q))
 
 -- marks that answer
 pub marks-good : (s : List ℕ) (at second : ℕ) → answers (marksOf s at second) ≡ true → (getD s at 0 ≡ mark) × (getD s (at + 1) 0 ≡ second)
@@ -112,7 +101,7 @@ module _ (s : List ℕ) (h : Outcome) (u : Bool) (e : h ≡ headerOf s) (a : u �
     opens = open-by s ∙ rw (answered, ← its-level)
 
     pub block-asks : Reaches level 5
-    block-asks = omega (arith, header .level, its-level, pow-le-pow-right {n = 4} (omega arith) {i = level} {j = topLevel} (omega (arith, header .level, its-level)))
+    block-asks = omega (arith, header .level, its-level, pixels-top level (omega (arith, header .level, its-level)))
 
     pub close-long : 5 ≤ length s
     close-long = header .long
@@ -134,4 +123,4 @@ module _ (s : List ℕ) (h : Outcome) (u : Bool) (e : h ≡ headerOf s) (a : u �
             let t : Tree = d .tree in
             let size : recordsTo i ≡ sizeOf t = omega (arith, block-spells s level 5 i t (d .is) .next) in
             g ∙ rw (opens, d .is, size)
-            (sym (push contentsOf (eqb (countOf s) (sizeOf t)) _ _ _ _ (push contentsOf (ltb i (length s)) _ _ _ _ refl refl) refl))
+            (sym (cond-map contentsOf (eqb (countOf s) (sizeOf t)) _ _ _ _ (cond-map contentsOf (ltb i (length s)) _ _ _ _ refl refl) refl))

@@ -3,13 +3,12 @@ use mathlib.Core.Bool.{Bool, true, false, not}
 use mathlib.Core.List.{List, [], _∷_, _++_}
 use mathlib.Core.Path.{_≡_, refl, ap, sym, _∙_}
 use Prim.Native.Nat.{ℕ, _+_, _*_, _/_, _%_, _≤_, _<_}
-use native.Mathlib.Nat.{zero-add}
 use native.Mathlib.Omega.{arith}
 use lib.ListN.{length}
-use lib.Seq.{sets, length-sets, sets-eq}
+use lib.Seq.{sets, length-sets}
 use borrow.Author.Tests.{lt-ltb, le-ltb}
-use Rattle.base.specs.Tab.{overlay}
 use Rattle.base.proofs.BoolLaws.{off}
+use Rattle.base.proofs.SetsLaws.{sets-after, sets-overlay}
 use Rattle.answer.specs.declared.Outcome.{Outcome}
 use Rattle.answer.specs.declared.Outcome.the-variants.{Answered, NoRoom}
 use Rattle.answer.specs.Numbers.{valueOf, answers}
@@ -19,17 +18,12 @@ use Rattle.table.specs.Table.{nodes}
 use Rattle.table.specs.Rules.{checkOf, Accepted}
 use Rattle.table.specs.Nodes.{treeAt}
 use Rattle.table.proofs.CheckLaws.{check-accepted, accepted-call}
-use Rattle.table.proofs.PreorderLaws.{sets-after}
-use Rattle.table.proofs.RuleLaws.{depth-root}
+use Rattle.table.proofs.AcceptedLaws.{root-at}
 use Rattle.table.proofs.SizeLaws.{tree-size}
 use Rattle.file.specs.File.{mark, sheetMark, records, fileOf, writeOf, writtenFile}
 use Rattle.file.specs.Calls.{Writes}
 use Rattle.file.specs.Writing.{Writable, Wrote}
 use Rattle.file.proofs.WriteLaws.{types-bytes}
-
--- a stretch written from the start lies over it
-sets-overlay : (new old : List ℕ) → length new ≤ length old → sets old 0 new ≡ overlay new old
-sets-overlay new old le = rw zero-add at (sets-eq new old 0 (omega arith))
 
 module _ (n : ℕ) (T old : List ℕ) (s : Outcome) (u : Bool) (e : s ≡ checkOf n T) (a : u ≡ answers s) where
   pub writes-refused : not u ≡ true → Writes n T old s old
@@ -72,9 +66,7 @@ module _ (n : ℕ) (T old : List ℕ) (s : Outcome) (u : Bool) (e : s ≡ checkO
         pub root-ok : Writable T n 0 5 (length w₀)
         root-ok = record {
           n = n;
-          accepted = acc;
-          node = acc .sized .some;
-          level = omega (arith, depth-root T n);
+          place = root-at acc;
           room = omega (arith, same, size);
         }
 

@@ -7,13 +7,13 @@ use native.Mathlib.Omega.{arith}
 use lib.ListN.{length}
 use lib.Seq.{sets, length-sets}
 use borrow.Author.Tests.{eq-eqb, ne-eqb}
+use Rattle.base.proofs.SetsLaws.{sets-after, sets-four}
 use Rattle.quad.specs.Numbers.{forkType}
 use Rattle.quad.specs.Tree.{Tree, leaf, fork, sizeOf, typesOf}
 use Rattle.quad.proofs.TreeLaws.{size-pos, types-length}
 use Rattle.table.specs.Table.{son, type, isFork}
 use Rattle.table.specs.Nodes.{treeAt}
-use Rattle.table.proofs.AcceptedLaws.{tree-leaf, tree-fork, sons-of, fork-deep, depth-son, type-byte}
-use Rattle.table.proofs.PreorderLaws.{sets-after}
+use Rattle.table.proofs.AcceptedLaws.{tree-leaf, tree-fork, type-byte, fork-above, son-at}
 use Rattle.file.specs.File.{mark, nodeMark, records}
 use Rattle.file.specs.Writing.{Writable, Wrote}
 
@@ -29,14 +29,6 @@ records-length (x ∷ xs) = omega (arith, records-length xs)
 
 pub types-bytes : (t : Tree) → length (records (typesOf t)) ≡ 3 * sizeOf t
 types-bytes t = records-length (typesOf t) ∙ ap (λ (k : ℕ). 3 * k) (types-length t)
-
--- four stretches, each written behind the one before
-sets-four : (l l₁ l₂ l₃ l₄ xs ys zs ws : List ℕ) (i j k m : ℕ) → l₁ ≡ sets l i xs → l₂ ≡ sets l₁ j ys → l₃ ≡ sets l₂ k zs → l₄ ≡ sets l₃ m ws
-    → j ≡ i + length xs → k ≡ j + length ys → m ≡ k + length zs → l₄ ≡ sets l i (xs ++ (ys ++ (zs ++ ws)))
-sets-four l l₁ l₂ l₃ l₄ xs ys zs ws i j k m e₁ e₂ e₃ e₄ ej ek em =
-    let s₃ : l₄ ≡ sets l₂ k (zs ++ ws) = e₄ ∙ ap (λ (v : List ℕ). sets v m ws) e₃ ∙ sets-after l₂ k m zs ws em in
-    let s₂ : l₄ ≡ sets l₁ j (ys ++ (zs ++ ws)) = s₃ ∙ ap (λ (v : List ℕ). sets v k (zs ++ ws)) e₂ ∙ sets-after l₁ j k ys (zs ++ ws) ek in
-    s₂ ∙ ap (λ (v : List ℕ). sets v j (ys ++ (zs ++ ws))) e₁ ∙ sets-after l i j xs (ys ++ (zs ++ ws)) ej
 
 wrote-leaf : (k at : ℕ) (before after : List ℕ) → after ≡ sets before at (mark ∷ nodeMark ∷ k ∷ []) → Wrote (leaf k) at before after (at + 3)
 unfolding records typesOf sizeOf
@@ -69,7 +61,7 @@ module _ (T : List ℕ) (l p at : ℕ) (w : List ℕ) (ok : Writable T l p at (l
 
   module _ (k : ℕ) (e : k ≡ type T p) where
     pub kind-byte : k < 256
-    kind-byte = omega (arith, type-byte (ok .n) T (ok .accepted) p (ok .node))
+    kind-byte = omega (arith, type-byte (ok .n) T (ok .place .accepted) p (ok .place .node))
 
     module _ (w₀ : List ℕ) (h₀ : w₀ ≡ sets w at (mark ∷ nodeMark ∷ k ∷ [])) where
       same : length w₀ ≡ length w
@@ -86,7 +78,7 @@ module _ (T : List ℕ) (l p at : ℕ) (w : List ℕ) (ok : Writable T l p at (l
 
         -- the level falls
         pub deep : 0 < l
-        deep = omega (arith, ok .level, fork-deep (ok .n) T (ok .accepted) p (ok .node) is-fork)
+        deep = fork-above (ok .place) is-fork
 
         pub lower : (m : ℕ) → l ≡ m → l - 1 < m
         lower m q = omega (arith, deep)
@@ -107,9 +99,7 @@ module _ (T : List ℕ) (l p at : ℕ) (w : List ℕ) (ok : Writable T l p at (l
         unfolding son-tree
         son-ok q i bytes q4 room = record {
           n = ok .n;
-          accepted = ok .accepted;
-          node = sons-of (ok .n) T (ok .accepted) p (ok .node) is-fork q q4 .below;
-          level = omega (arith, deep, ok .level, depth-son (ok .n) T (ok .accepted) p q (ok .node) is-fork q4);
+          place = son-at (ok .place) is-fork q q4;
           room = room;
         }
 

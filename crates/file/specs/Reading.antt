@@ -1,5 +1,5 @@
 -- Reading, one function at a time: what the first pass tells of a record, of a block, of four and of the whole file, and how far a block reaches.
-use mathlib.Core.Bool.{Bool, false, cond}
+use mathlib.Core.Bool.{cond}
 use mathlib.Core.List.{List}
 use Prim.Native.Nat.{ℕ, _+_, _-_, _*_, _/_, _^_, _<_}
 use lib.Dec.{eqb, ltb}
@@ -7,7 +7,7 @@ use lib.ListN.{length, getD}
 use Rattle.answer.specs.declared.Outcome.{Outcome}
 use Rattle.answer.specs.declared.Outcome.the-variants.{Answered, BadLevel, BadByte, BadCount}
 use Rattle.answer.specs.Numbers.{answers, andThen}
-use Rattle.quad.specs.Numbers.{topLevel, forkType}
+use Rattle.quad.specs.Numbers.{topLevel}
 use Rattle.quad.specs.Tree.{colour, sizeOf}
 use Rattle.file.specs.declared.Block.{Block}
 use Rattle.file.specs.declared.Block.the-variants.{Read, Bad}
@@ -30,10 +30,6 @@ recordOf s at =
 abbrev pub told : Got → Block
 told (got at t) = Read at (colour t)
 told (bad o) = Bad o
-
--- four types are those of four like leaves
-unfoldable pub likeKinds : ℕ → ℕ → ℕ → ℕ → Bool
-likeKinds a b c d = cond (eqb a forkType) false (cond (eqb a b) (cond (eqb a c) (eqb a d) false) false)
 
 -- every place of a block of level l that starts here fits a word: it has at most (4 ^ (l + 1) - 1) / 3 records of three bytes
 abbrev pub Reaches : ℕ → ℕ → Type 0

@@ -1,20 +1,17 @@
 -- Writing, one function at a time: a node's block of records, written from a place on.
 use mathlib.Core.List.{List}
 use mathlib.Core.Path.{_≡_}
-use Prim.Native.Nat.{ℕ, _+_, _*_, _≤_, _<_}
+use Prim.Native.Nat.{ℕ, _+_, _*_, _≤_}
 use lib.Seq.{sets}
 use Rattle.quad.specs.Tree.{Tree, sizeOf, typesOf}
-use Rattle.table.specs.Table.{nodes}
-use Rattle.table.specs.Rules.{depthTo, Accepted}
+use Rattle.table.specs.Rules.{AtLevel}
 use Rattle.table.specs.Nodes.{treeAt}
 use Rattle.file.specs.File.{records}
 
 -- node p of an accepted table has level l, and its block has room from a place on in a file of so many bytes
 pub record Writable (T : List ℕ) (l p at bytes : ℕ) : Type 0 where
   pub n : ℕ
-  pub accepted : Accepted n T
-  pub node : p < nodes T
-  pub level : l + depthTo T n p ≡ n
+  pub place : AtLevel n T p l
   pub room : at + 3 * sizeOf (treeAt T l p) ≤ bytes
 
 -- the block of tree t was written over the bytes `before` from a place on, and r is the place after it

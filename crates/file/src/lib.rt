@@ -8,7 +8,7 @@ ghost use lib.Seq.{sets};
 ghost use Rattle.table.specs.Nodes.{treeAt};
 ghost use Rattle.file.specs.File.{mark, sheetMark, nodeMark, isType, blockAt, fourAt, openOf};
 ghost use Rattle.file.specs.Calls.{Reads, Writes};
-ghost use Rattle.file.specs.Reading.{marksOf, recordOf, told, likeKinds, Reaches, FourReach, headerOf, countOf, closingOf, contentsOf};
+ghost use Rattle.file.specs.Reading.{marksOf, recordOf, told, Reaches, FourReach, headerOf, countOf, closingOf, contentsOf};
 ghost use Rattle.file.specs.Linking.{placeOf, treeIn, Ready, Linked};
 ghost use Rattle.file.specs.Writing.{Writable, Wrote};
 
@@ -93,22 +93,6 @@ fn read_record(file: &[u8], at: u32) -> Block
     Block::Read(at + 3, kind)
 }
 
-// Whether four types are those of four like leaves.
-fn like_leaves(a: usize, b: usize, c: usize, d: usize) -> bool
-    ensures { λ r. ⌜ r ≡ likeKinds a b c d ⌝ }
-{
-    if a == quad::FORK {
-        return false;
-    }
-    if a != b {
-        return false;
-    }
-    if a != c {
-        return false;
-    }
-    a == d
-}
-
 // A block: a leaf record, or a fork record followed by four blocks.
 fn read_block(file: &[u8], level: u32, at: u32) -> Block
     requires { ⌜ Reaches level at ⌝ }
@@ -148,7 +132,7 @@ fn read_four(file: &[u8], level: u32, at: u32) -> Block
     let Block::Read(next, kind_se) = se else {
         return se;
     };
-    if like_leaves(kind_nw, kind_ne, kind_sw, kind_se) {
+    if quad::like_leaves(kind_nw, kind_ne, kind_sw, kind_se) {
         return Block::Bad(Outcome::NeedlessFork { at: at_se + 2 });
     }
     Block::Read(next, quad::FORK)

@@ -1,34 +1,28 @@
--- The centre's call, return by return: the block that the climb found, the refusals in their order, and the two numbers written.
+-- The centre's call, return by return: the middle of the block that the climb found, the refusals in their order, and the two numbers written.
 use mathlib.Core.Bool.{Bool, true, false, not}
 use mathlib.Core.List.{List, [], _∷_}
-use mathlib.Core.Path.{_≡_, refl, ap, sym, _∙_}
+use mathlib.Core.Path.{_≡_, refl, _∙_}
 use Prim.Native.Nat.{ℕ, _≤_, _<_, _^_}
 use native.Mathlib.Omega.{arith}
 use lib.Ieee.{Float}
 use lib.ListN.{length, set}
 use borrow.Author.Tests.{lt-ltb, le-ltb}
 use Rattle.base.specs.Tab.{overlay}
-use Rattle.base.proofs.BoolLaws.{on, off}
+use Rattle.base.proofs.BoolLaws.{off}
 use Rattle.answer.specs.declared.Outcome.{Outcome}
 use Rattle.answer.specs.declared.Outcome.the-variants.{Answered, NoRoom}
 use Rattle.answer.specs.Numbers.{answers, andThen, room}
 use Rattle.answer.proofs.OutcomeLaws.{then-stop, then-go}
 use Rattle.quad.specs.Numbers.{topLevel}
 use Rattle.table.specs.Rules.{askedOf, Asked}
-use Rattle.table.proofs.BlockLaws.{Climbed, climbed-all, on-sheet}
+use Rattle.table.specs.declared.block.Block.{Block}
+use Rattle.table.specs.Blocks.{blockOf}
+use Rattle.table.proofs.BlockLaws.{on-sheet}
 use Rattle.ground.specs.declared.Ground.{Ground}
-use Rattle.ground.specs.declared.block.Block.{Block}
-use Rattle.ground.specs.declared.block.Middle.{Middle}
+use Rattle.ground.specs.declared.Middle.{Middle}
 use Rattle.ground.specs.Ground.{rangeOf, eastOf, northOf, centreOf, centreAfter}
-use Rattle.ground.specs.Blocks.{blockOf, halfPixels, middleOf}
+use Rattle.ground.specs.HalfPixels.{halfPixels, middleOf}
 use Rattle.ground.specs.Call.{Centres}
-
-pub block-is : (n : ℕ) (T : List ℕ) (p q unit c r l : ℕ) → Asked n T p → Climbed n T p q unit c r l → q ≡ 0
-    → _≡_ {A = Block} (record { column = c; row = r; level = l }) (blockOf n T p)
-unfolding blockOf
-block-is n T p q unit c r l a k z =
-    let e = climbed-all n T (a .accepted) p q unit c r l k z in
-    rw (blockOf, e .0, e .1, e .2)
 
 -- an index of a node's block and its level, as `half_pixels` takes them
 module _ {n : ℕ} {T : List ℕ} {p : ℕ} (a : Asked n T p) {b : Block} (e : b ≡ blockOf n T p) where

@@ -1,6 +1,6 @@
 -- The ground's formulas as the code has them: its literals are the numbers that the definitions name, and a range's three tests come in their order.
-use mathlib.Core.Bool.{Bool, true, false, not, _&&_}
-use mathlib.Core.Path.{_≡_, refl, ap, sym, _∙_}
+use mathlib.Core.Bool.{Bool, true, false, not}
+use mathlib.Core.Path.{_≡_, _∙_}
 use Prim.Native.Nat.{ℕ, suc, _+_, _*_, _%_, _^_, _≤_, _<_}
 use native.Mathlib.Nat.{add-mul, mul-assoc, one-mul}
 use native.Mathlib.Omega.{arith}
@@ -9,12 +9,11 @@ use lib.Ieee as Ieee
 use lib.Ieee.{Float, binary64}
 use lib.Pow.{shl-exact}
 use Rattle.base.proofs.BoolLaws.{on, off}
-use Rattle.answer.specs.declared.Outcome.{Outcome}
 use Rattle.answer.specs.declared.Outcome.the-variants.{Answered, OutOfRange}
 use Rattle.quad.specs.Numbers.{topLevel}
 use Rattle.ground.specs.declared.Ground.{Ground}
-use Rattle.ground.specs.Ground.{within, far, finest, coarsest, two, rangeOf, reachOf}
-use Rattle.ground.specs.Blocks.{halfPixels}
+use Rattle.ground.specs.Ground.{within, rangeOf, reachOf}
+use Rattle.ground.specs.HalfPixels.{halfPixels}
 use Rattle.ground.proofs.Literals.{two-bits, far-bits, finest-bits, coarsest-bits}
 
 module _ (low high x : Float) where

@@ -5,11 +5,11 @@ use mathlib.Core.Path.{_≡_, refl, ap, sym, _∙_}
 use Prim.Native.Nat.{ℕ, zero, suc, _+_, _-_, _*_, _^_, _<_}
 use native.Mathlib.Nat.{zero-mul}
 use native.Mathlib.Omega.{arith}
-use lib.Dec.{T, ltb, eqb}
+use lib.Dec.{T, ltb}
 use lib.IntN.{ℤ, pos, negsuc}
 use lib.Pow.{pow-pos}
 use lib.Ieee as Ieee
-use lib.Ieee.{Float, Format, binary64, nan, inf, fin, prec, emax, low, up, down, unlike, nearest, ofInt, units, round, odd, size, climb, span, neg, sum, add, sub, mul, div, lt, eq, le, ofBits, ofFields, toBits, isNan}
+use lib.Ieee.{Float, Format, binary64, nan, inf, fin, prec, emax, low, up, down, unlike, ofInt, units, round, odd, size, climb, span, neg, sum, add, sub, mul, div, lt, eq, le, ofBits, ofFields, toBits, isNan}
 use lib.Ieee.Bits.{toBits-ofBits}
 use borrow.Author.Tests.{ne-eqb, le-ltb}
 use Rattle.base.proofs.BoolLaws.{and-left}

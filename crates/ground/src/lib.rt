@@ -1,16 +1,43 @@
 // A block's centre on the ground.
 use answer::Outcome;
 ghost use mathlib.Core.Path.{_≡_};
+ghost use Prim.Native.Nat.{_^_, _≤_, _<_};
+ghost use Rattle.quad.specs.Numbers.{topLevel};
+ghost use Rattle.table.specs.Rules.{Asked};
+ghost use Rattle.ground.specs.HalfPixels.{halfPixels, middleOf};
 ghost use Rattle.ground.specs.Ground.{within, rangeOf, reachOf, eastOf, northOf};
 ghost use Rattle.ground.specs.Call.{Centres};
-
-pub mod block;
 
 // A ground place: east and north of the outer corner of the top left pixel, and a pixel's side.
 pub struct Ground {
     pub east: f64,
     pub north: f64,
     pub step: f64,
+}
+
+// A centre (h, k), in half pixels.
+pub struct Middle {
+    pub h: u32,
+    pub k: u32,
+}
+
+// The middle of a block along one axis, in half pixels: that of the block with this index among those of its level.
+fn half_pixels(index: u32, level: u32) -> u32
+    requires { ⌜ (level ≤ topLevel) × (index < 2 ^ topLevel) ⌝ }
+    ensures { λ r. ⌜ r ≡ halfPixels index level ⌝ }
+{
+    (2 * index + 1) << level
+}
+
+// The centre of node p's block.
+fn middle_of(n: u32, table: &[u32], p: usize) -> Middle
+    requires { ⌜ Asked n (now table) p ⌝ }
+    ensures { λ r. ⌜ r ≡ middleOf n (now (table .entry)) p ⌝ }
+{
+    let b = table::block::block_of(n, table, p);
+    let h = half_pixels(b.column, b.level);
+    let k = half_pixels(b.row, b.level);
+    Middle { h, k }
 }
 
 // low ≤ x ≤ high, never of a NaN.
@@ -72,7 +99,7 @@ pub fn centre(n: u32, table: &[u32], node: u32, g: Ground, place: &mut [f64]) ->
     if place.len() < 2 {
         return Outcome::NoRoom { needed: 2 };
     }
-    let middle = block::middle_of(n, table, node as usize);
+    let middle = middle_of(n, table, node as usize);
     place[0] = east_of(g, middle.h);
     place[1] = north_of(g, middle.k);
     Outcome::Answered { value: 0 }

@@ -22,7 +22,7 @@ use Rattle.table.proofs.PreorderAccepted.{preorder-accepted}
 use Rattle.table.proofs.PreorderLaws.{preorder-length}
 use Rattle.file.specs.File.{mark, sheetMark, blockAt, openOf, readOf, readTable}
 use Rattle.file.specs.Calls.{Reads}
-use Rattle.file.proofs.FaultLaws.{Answers, read-answers, read-length}
+use Rattle.file.proofs.FaultLaws.{Answers, read-answered, read-length}
 use Rattle.file.proofs.OneFile.{opens}
 use Rattle.file.proofs.RoundTrip.{read-leaves}
 use Rattle.load.specs.Load.{tooLarge, loadOf, loadedTable, printedLevel, Loads}
@@ -60,7 +60,7 @@ not-large s words v h = go (tooLarge s) refl
 
 pub load-answers : (s : List ℕ) (words v : ℕ) → loadOf s words ≡ Answered v → Answers s words v
 unfolding loadOf
-load-answers s words v h = read-answers s words v (rw (loadOf, not-large s words v h) at h)
+load-answers s words v h = read-answered s words v (rw (loadOf, not-large s words v h) at h)
 
 pub loaded-fits : (s before after : List ℕ) (r : Outcome) (v : ℕ) → Loads s before r after → r ≡ Answered v → 6 * (v / 8) ≤ length before
 loaded-fits s before after r v l e =
@@ -88,8 +88,8 @@ loaded-accepted s before after r v l e =
     rw (is, level, words, take-append-seam) (preorder-accepted (a .level) t (a .low) (w .spells .sound))
 
 -- no second outcome
-pub one-outcome : (s before : List ℕ) (r q : Outcome) (after final : List ℕ) → Loads s before r after → Loads s before q final → (r ≡ q) × (after ≡ final)
-one-outcome s before r q after final a b = (a .answer ∙ sym (b .answer), a .table ∙ sym (b .table))
+pub one-load : (s before : List ℕ) (r q : Outcome) (after final : List ℕ) → Loads s before r after → Loads s before q final → (r ≡ q) × (after ≡ final)
+one-load s before r q after final a b = (a .answer ∙ sym (b .answer), a .table ∙ sym (b .table))
 
 -- sheet A is loaded, so neither a read that refuses everything nor one that writes nothing meets the statement (demand 2)
 abbrev zeros : List ℕ

@@ -4,10 +4,11 @@ use mathlib.Core.Path.{_≡_, ap, sym, _∙_}
 use Prim.Native.Nat.{ℕ, _+_, _*_, _^_, _<_}
 use native.Mathlib.Nat.{zero-add}
 use lib.ListN.{getD}
+use Rattle.base.proofs.TabLaws.{tab-at}
 use Rattle.table.specs.Rules.{Accepted}
 use Rattle.table.specs.Nodes.{pixel}
 use Rattle.raster.specs.Raster.{rasterOf}
-use Rattle.raster.proofs.RasterLaws.{tab-at, raster-pixel}
+use Rattle.raster.proofs.RasterLaws.{raster-pixel}
 use Rattle.walk.specs.declared.Answer.{Answer}
 use Rattle.walk.specs.Rows.{RowRuns, spell}
 use Rattle.walk.proofs.RowLaws.{row-spells}

@@ -16,12 +16,13 @@ use Rattle.base.proofs.BoolLaws.{and-left, and-right, lt-or-ge}
 use Rattle.answer.specs.declared.Outcome.the-variants.{Answered}
 use Rattle.quad.specs.Block.{column, row}
 use Rattle.quad.specs.Direction.{eastStep, southStep}
-use Rattle.quad.proofs.PathLaws.{column-lt, row-lt, path-back}
+use Rattle.quad.proofs.PathLaws.{path-back}
 use Rattle.table.specs.Table.{nodes}
 use Rattle.table.specs.Rules.{depthTo, Accepted}
 use Rattle.table.specs.Nodes.{pathTo, holder, levelOf, sideOf}
 use Rattle.table.proofs.AcceptedLaws.{depth-le}
-use Rattle.table.proofs.HolderLaws.{path-quadrants, own-path, own-depth}
+use Rattle.table.proofs.BlockLaws.{column-below, row-below}
+use Rattle.table.proofs.HolderLaws.{own-quadrants, own-path, own-depth}
 use Rattle.neighbour.specs.Neighbour.{neighbourOf}
 use Rattle.neighbour.specs.Containing.{opposite}
 use Rattle.neighbour.proofs.NeighbourLaws.{lies-answers, neighbour-is, beside-p, neighbour-smallest}
@@ -74,9 +75,9 @@ neighbour-back n T acc p D m lt h e same =
     let ey : row (pathTo T n m) ≡ y + southStep D - 1 = sym (rw (z, div-one (y + southStep D - 1)) at (i .down)) in
     let size : length (pathTo T n m) ≡ d = own-depth n T acc m (c .node) ∙ dm in
     let o = own-depth n T acc p lt in
-    let qs = path-quadrants n T acc p lt in
-    let hx : x < 2 ^ d = rw o at (column-lt (pathTo T n p) qs) in
-    let hy : y < 2 ^ d = rw o at (row-lt (pathTo T n p) qs) in
+    let qs = own-quadrants n T acc p lt in
+    let hx : x < 2 ^ d = column-below n T acc p lt in
+    let hy : y < 2 ^ d = row-below n T acc p lt in
     let lx = l .across .low in
     let ly = l .down .low in
     let bx : x + eastStep D - 1 + eastStep (opposite D) - 1 ≡ x = omega (arith, k .east) in

@@ -22,7 +22,7 @@ use Rattle.table.specs.Table.{nodes, son, isFork}
 use Rattle.table.specs.Rules.{Accepted}
 use Rattle.table.specs.Nodes.{pathTo, holder, levelOf}
 use Rattle.table.proofs.AcceptedLaws.{depth-le, sons-of, depth-son, fork-deep}
-use Rattle.table.proofs.HolderLaws.{held, path-quadrants, own-depth}
+use Rattle.table.proofs.HolderLaws.{held, own-quadrants, own-depth}
 use Rattle.neighbour.specs.Neighbour.{beside, leafBeyond}
 use Rattle.neighbour.specs.declared.Found.the-variants.{At, Off}
 use Rattle.neighbour.specs.Search.{onwardOf, mirrorOf, Where, off, block, inner, moved, foundIn, stepTo, cornerDown, cornerUnder, Cornered}
@@ -139,7 +139,7 @@ module _ (n : ℕ) (T : List ℕ) (p D C : ℕ) (z : Cornered n T p D C) where
   acc = z .accepted
 
   path : Quadrants (pathTo T n p)
-  path = path-quadrants n T (z .accepted) p (z .node)
+  path = own-quadrants n T (z .accepted) p (z .node)
 
   landed : MovedTo D (pathTo T n p) (moved D (pathTo T n p))
   landed = moved-to D (pathTo T n p) (omega (arith, z .way)) path

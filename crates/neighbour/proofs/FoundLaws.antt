@@ -8,14 +8,13 @@ use lib.ListN.{length}
 use Rattle.answer.specs.declared.Outcome.{Outcome}
 use Rattle.answer.specs.declared.Outcome.the-variants.{Answered, NoBlock}
 use Rattle.answer.specs.Numbers.{answers, valueOf}
-use Rattle.quad.specs.Numbers.{none}
 use Rattle.quad.specs.Block.{pathOf, column, row}
 use Rattle.quad.specs.Direction.{eastStep, southStep, stays}
 use Rattle.table.specs.Table.{nodes, isFork}
 use Rattle.table.specs.Rules.{depthTo, Accepted}
 use Rattle.table.specs.Nodes.{pathTo, holder, levelOf}
 use Rattle.table.proofs.AcceptedLaws.{depth-le}
-use Rattle.table.proofs.HolderLaws.{held, path-quadrants, own-depth}
+use Rattle.table.proofs.HolderLaws.{held, own-quadrants, own-depth}
 use Rattle.neighbour.specs.declared.Found.the-variants.{At, Off}
 use Rattle.neighbour.specs.Neighbour.{beside}
 use Rattle.neighbour.specs.Search.{stay, outcomeOf, neighbourFound, Where, off, block, moved, foundIn, Small}
@@ -34,11 +33,11 @@ pub record FoundAt (n : ℕ) (T : List ℕ) (p m l : ℕ) : Type 0 where
 
 module _ (n : ℕ) (T : List ℕ) (acc : Accepted n T) (p D : ℕ) (lt : p < nodes T) (le : D ≤ stay) where
   landed : MovedTo D (pathTo T n p) (moved D (pathTo T n p))
-  landed = moved-to D (pathTo T n p) le (path-quadrants n T acc p lt)
+  landed = moved-to D (pathTo T n p) le (own-quadrants n T acc p lt)
 
   -- the geometry and the moves, for a node's own block
   pub beside-node : besideNode n T p D ≡ heldBy T (moved D (pathTo T n p))
-  beside-node = beside-moved T D (pathTo T n p) le (path-quadrants n T acc p lt)
+  beside-node = beside-moved T D (pathTo T n p) le (own-quadrants n T acc p lt)
 
   block-level : (ρ : List ℕ) → Beside D (pathTo T n p) ρ → levelOf n T p + (length ρ - depthTo T n (holder T ρ)) ≡ levelOf n T (holder T ρ)
   block-level ρ b =

@@ -5,8 +5,9 @@ use mathlib.Core.Path.{_≡_, ap, _∙_}
 use Prim.Native.Nat.{ℕ, _+_, _-_, _*_, _/_, _^_, _≤_, _<_}
 use native.Mathlib.Nat.{mul-assoc, add-mul, mul-le-mul-right, le-of-mul-le-mul-right, div-mul-le-self, div-lt-iff-lt-mul, div-eq-of-lt-le}
 use native.Mathlib.Omega.{arith}
-use lib.Pow.{pow-pos, pow-lt, pow-add}
+use lib.Pow.{pow-pos, pow-lt}
 use Rattle.base.proofs.BoolLaws.{lt-or-ge}
+use Rattle.base.proofs.PowLaws.{pow-product}
 use Rattle.quad.specs.Block.{column, row}
 use Rattle.table.specs.Table.{nodes}
 use Rattle.table.specs.Rules.{depthTo}
@@ -36,9 +37,7 @@ module _ (k s X x : ℕ) (some : 0 < k) (wide : 0 < s) where
 
 module _ (n : ℕ) (T : List ℕ) (m d x y : ℕ) (fits : d ≤ n) where
   wide-side : depthTo T n m ≤ d → sideOf n T m ≡ 2 ^ (d - depthTo T n m) * 2 ^ (n - d)
-  wide-side le =
-      let e : n - depthTo T n m ≡ (d - depthTo T n m) + (n - d) = omega arith in
-      ap (λ (k : ℕ). 2 ^ k) e ∙ pow-add 2 (d - depthTo T n m) (n - d)
+  wide-side le = pow-product (d - depthTo T n m) (n - d) (n - depthTo T n m) (omega arith)
 
   pub contains-covers : Contains n T m d x y → Covers n T m d x y
   contains-covers c =

@@ -4,22 +4,23 @@ use mathlib.Core.List.{List, [], _∷_}
 use mathlib.Core.Logic.{_⊎_, inl, inr, ⊎-elim}
 use mathlib.Core.Path.{_≡_, refl, ap, sym, _∙_}
 use Prim.Native.Nat.{ℕ, zero, suc, _+_, _-_, _*_, _/_, _%_, _^_, _≤_, _<_}
-use native.Mathlib.Nat.{add-mul, div-div-eq-div-mul, div-lt-iff-lt-mul, div-add-mod', mod-lt, div-eq-of-lt-le}
+use native.Mathlib.Nat.{add-mul, div-div-eq-div-mul, div-add-mod', mod-lt, div-eq-of-lt-le}
 use native.Mathlib.Omega.{arith}
-use lib.ListN.{length, drop}
-use lib.Pow.{pow-pos, pow-lt, pow-add}
+use lib.ListN.{drop}
+use lib.Pow.{pow-pos, pow-lt}
 use Rattle.base.proofs.BoolLaws.{lt-or-ge}
+use Rattle.base.proofs.PowLaws.{pow-product, below-pow}
 use Rattle.answer.specs.declared.Outcome.the-variants.{Answered}
 use Rattle.quad.specs.Block.{pathOf, column, row}
 use Rattle.quad.specs.Direction.{eastStep, southStep, adjOf}
-use Rattle.quad.proofs.PathLaws.{column-lt, row-lt}
 use Rattle.quad.proofs.TreeLaws.{by-quadrant}
 use Rattle.table.specs.Table.{isFork}
 use Rattle.table.specs.Rules.{depthTo, Accepted}
 use Rattle.table.specs.Nodes.{pathTo, holder, levelOf, sideOf}
 use Rattle.table.proofs.AcceptedLaws.{depth-le}
 use Rattle.table.proofs.NodeLaws.{holder-leaf}
-use Rattle.table.proofs.HolderLaws.{path-quadrants, own-path, own-depth}
+use Rattle.table.proofs.BlockLaws.{column-below, row-below}
+use Rattle.table.proofs.HolderLaws.{own-path, own-depth}
 use Rattle.neighbour.specs.Neighbour.{neighbourOf, cornerLeafOf}
 use Rattle.neighbour.specs.Containing.{Contains, Touches}
 use Rattle.neighbour.proofs.CornerLaws.{side-on, beyond-leaf-neighbour}
@@ -69,25 +70,17 @@ straight =
 rescale : (n d e x : ℕ) → e ≤ d → d ≤ n → x / 2 ^ (n - d) / 2 ^ (d - e) ≡ x / 2 ^ (n - e)
 rescale n d e x le ld =
     let s : (n - d) + (d - e) ≡ n - e = omega arith in
-    div-div-eq-div-mul x (2 ^ (n - d)) (2 ^ (d - e)) ∙ ap (λ (w : ℕ). x / w) (sym (pow-add 2 (n - d) (d - e)) ∙ ap (λ (k : ℕ). 2 ^ k) s)
+    div-div-eq-div-mul x (2 ^ (n - d)) (2 ^ (d - e)) ∙ ap (λ (w : ℕ). x / w) (sym (pow-product (n - d) (d - e) (n - e) s))
 
 module _ (n : ℕ) (T : List ℕ) (acc : Accepted n T) where
   -- what a node contains is on the sheet
-  bound : (d e x c : ℕ) → e ≤ d → x / 2 ^ (d - e) ≡ c → c < 2 ^ e → x < 2 ^ d
-  bound d e x c le q lt =
-      let s : e + (d - e) ≡ d = omega arith in
-      let b : x / 2 ^ (d - e) < 2 ^ e = rw q lt in
-      let m : x < 2 ^ e * 2 ^ (d - e) = div-lt-iff-lt-mul {k = 2 ^ (d - e)} {x = x} {y = 2 ^ e} (pow-pos (d - e)) .0 b in
-      rw (← pow-add 2 e (d - e), s) at m
-
   on-sheet : (m d x y : ℕ) → Contains n T m d x y → (x < 2 ^ d) × (y < 2 ^ d)
   on-sheet m d x y c =
       let i = c .inside in
-      let o = own-depth n T acc m (c .node) in
-      let qs = path-quadrants n T acc m (c .node) in
-      let e : ℕ = depthTo T n m in (
-        bound d e x (column (pathTo T n m)) (i .large) (i .across) (rw o at (column-lt (pathTo T n m) qs)),
-        bound d e y (row (pathTo T n m)) (i .large) (i .down) (rw o at (row-lt (pathTo T n m) qs)),
+      let e : ℕ = depthTo T n m in
+      let s : e + (d - e) ≡ d = omega (arith, i .large) in (
+        below-pow e (d - e) d x s (rw (i .across) (column-below n T acc m (c .node))),
+        below-pow e (d - e) d y s (rw (i .down) (row-below n T acc m (c .node))),
       )
 
   -- where the holder of a larger block is a leaf, it holds the smaller one too

@@ -15,13 +15,12 @@ use Rattle.base.proofs.BoolLaws.{by-bool}
 use Rattle.quad.specs.Block.{pathOf, column, row, Quadrants}
 use Rattle.quad.proofs.PathLaws.{path-length, path-quadrants, path-column, path-row, path-back}
 use Rattle.quad.proofs.UpperLaws.{column-drop, row-drop, path-drop}
-use Rattle.table.specs.Table.{nodes, isFork}
+use Rattle.table.specs.Table.{isFork}
 use Rattle.table.specs.Rules.{depthTo, Accepted}
 use Rattle.table.specs.Nodes.{pathTo, holder}
 use Rattle.table.proofs.AcceptedLaws.{depth-le, depth-son}
 use Rattle.table.proofs.NodeLaws.{holder-fork, holder-leaf}
-use Rattle.table.proofs.HolderLaws.{Held, held, own-path, own-depth}
-use Rattle.table.proofs.HolderLaws as up
+use Rattle.table.proofs.HolderLaws.{Held, held, own-quadrants, own-path, own-depth}
 use Rattle.neighbour.specs.Containing.{Contains, Smallest}
 
 module _ (n : ℕ) (T : List ℕ) (acc : Accepted n T) where
@@ -71,7 +70,7 @@ module _ (n : ℕ) (T : List ℕ) (acc : Accepted n T) where
         let le = i .large in
         let o : length (pathTo T n m) ≡ e = own-depth n T acc m (c .node) in
         let z : d - (d - e) ≡ e = omega arith in
-        sym (path-back (pathTo T n m) (up.path-quadrants n T acc m (c .node)))
+        sym (path-back (pathTo T n m) (own-quadrants n T acc m (c .node)))
         ∙ rw (o, ← i .across, ← i .down)
         (sym (path-drop (d - e) d x y (omega arith) ∙ rw z))
 

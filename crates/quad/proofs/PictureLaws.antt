@@ -1,9 +1,9 @@
 -- One picture, one tree (document 01, demand 2): the tree of a picture is of its level, is reduced and shows the picture, and it is the only such tree.
 use mathlib.Core.Path.{_≡_, refl, ap, sym, _∙_}
 use Prim.Native.Nat.{ℕ, zero, suc, _+_, _*_, _/_, _%_, _^_, _≤_, _<_}
-use native.Mathlib.Nat.{add-zero, div-one, div-eq-of-lt, div-lt-iff-lt-mul}
+use native.Mathlib.Nat.{add-zero, div-one, div-eq-of-lt}
 use native.Mathlib.Omega.{arith}
-use lib.Pow.{pow-pos}
+use Rattle.base.proofs.PowLaws.{below-pow}
 use Rattle.quad.specs.Numbers.{topColour}
 use Rattle.quad.specs.Block.{quadrantOf, pathOf}
 use Rattle.quad.specs.Tree.{Tree, leaf, fork, sonOf, under, shade, Within, Reduced, Coloured, treeOf, Shows}
@@ -29,7 +29,7 @@ pub block-up : (l x X i : ℕ) → i < 2 → x / 2 ^ l ≡ 2 * X + i → x / 2 ^
 block-up l x X i h e = omega (arith, half-last l x)
 
 pub pixel-lt : (n x : ℕ) → x / 2 ^ n ≡ 0 → x < 2 ^ n
-pixel-lt n x e = omega (arith, div-lt-iff-lt-mul {k = 2 ^ n} {x = x} {y = 1} (pow-pos n) .0 (omega arith))
+pixel-lt n x e = below-pow 0 n n x (omega arith) (omega arith)
 
 -- a fork over what g gives for the four quarters of the block (X, Y): son q is the quarter of column q % 2 and row q / 2
 abbrev over : (ℕ → ℕ → Tree) → ℕ → ℕ → Tree

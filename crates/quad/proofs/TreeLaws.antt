@@ -1,16 +1,16 @@
 -- A tree by its sons: what holds of each son q, q < 4, holds of the four, so that a law about quarters is proved once. And the sizes of trees.
-use mathlib.Core.Bool.{true, false, _&&_, false≢true}
+use mathlib.Core.Bool.{Bool, true, false, cond, _&&_, false≢true}
 use mathlib.Core.Path.{_≡_, refl, ap, sym}
 use Prim.Native.Nat.{ℕ, zero, suc, _+_, _*_, _^_, _≤_, _<_}
 use native.Mathlib.Nat.{one-le-pow, pow-le-pow-right, pow-succ'}
 use native.Mathlib.Omega.{arith}
 use lib.Dec.{eqb}
 use lib.ListN.{length, length-append}
-use borrow.Author.Tests.{eq-eqb, eqb-true}
+use borrow.Author.Tests.{eq-eqb, ne-eqb, eqb-true}
 use Rattle.base.proofs.BoolLaws.{and-left, and-right}
 use Rattle.base.proofs.CaseLaws.{cond-case}
-use Rattle.quad.specs.Numbers.{topLevel, maxWords}
-use Rattle.quad.specs.Tree.{Tree, leaf, fork, colour, sonOf, Within, sameLeaf, alike, Reduced, Coloured, sizeOf, typesOf, join}
+use Rattle.quad.specs.Numbers.{topLevel, topColour, forkType, maxWords}
+use Rattle.quad.specs.Tree.{Tree, leaf, fork, colour, sonOf, Within, sameLeaf, alike, likeTypes, Reduced, Coloured, sizeOf, typesOf, join}
 
 -- the quadrants are four
 pub by-quadrant : (P : ℕ → Type 0) → P 0 → P 1 → P 2 → P 3 → (q : ℕ) → q < 4 → P q
@@ -36,11 +36,16 @@ unfolding Within colour
 within-zero (leaf c) h = refl
 within-zero (fork _ _ _ _) h = absurd h
 
--- sons of a tree of level l + 1 are of level l, and sons of a reduced tree are reduced
+-- sons of a tree of level l + 1 are of level l, sons of a coloured tree are coloured, and sons of a reduced tree are reduced
 pub within-son : (l : ℕ) (t : Tree) → Within (suc l) t → (q : ℕ) → Within l (sonOf t q)
 unfolding Within
 within-son l (leaf c) h q = unfold sonOf in tt
 within-son l (fork a b c d) h q = each-son (Within l) h q
+
+pub coloured-son : (t : Tree) → Coloured t → (q : ℕ) → Coloured (sonOf t q)
+unfolding Coloured
+coloured-son (leaf c) h q = unfold sonOf in h
+coloured-son (fork a b c d) h q = each-son Coloured h q
 
 pub reduced-son : (t : Tree) → Reduced t → (q : ℕ) → Reduced (sonOf t q)
 unfolding Reduced
@@ -57,6 +62,32 @@ pub coloured-sons : (t : Tree) → ((q : ℕ) → q < 4 → Coloured (sonOf t q)
 unfolding Coloured
 coloured-sons (leaf c) h = unfold sonOf in h 0 (omega arith)
 coloured-sons (fork a b c d) h = four-sons Coloured h
+
+-- a root that is no fork by its type is a leaf; and like leaves are known by their types
+pub leaf-by-type : (t : Tree) → (colour t ≡ forkType → ⊥) → t ≡ leaf (colour t)
+unfolding colour
+leaf-by-type (leaf k) h = refl
+leaf-by-type (fork _ _ _ _) h = absurd (h refl)
+
+pub type-le : (t : Tree) → Coloured t → colour t ≤ forkType
+unfolding Coloured colour
+type-le (leaf k) h = omega arith
+type-le (fork _ _ _ _) h = omega arith
+
+same-type : (k : ℕ) (t : Tree) → k ≤ topColour → sameLeaf (leaf k) t ≡ eqb k (colour t)
+unfolding sameLeaf colour
+same-type k (leaf c) h = refl
+same-type k (fork _ _ _ _) h = sym (ne-eqb k forkType (λ e. omega arith))
+
+and-cond : (a b : Bool) → a && b ≡ cond a b false
+and-cond true b = refl
+and-cond false b = refl
+
+pub alike-types : (a b c d : Tree) → Coloured a → alike a b c d ≡ likeTypes (colour a) (colour b) (colour c) (colour d)
+alike-types (leaf k) b c d h =
+    let le : k ≤ topColour = unfold Coloured in h in
+    simp (same-type k b le, same-type k c le, same-type k d le, and-cond) (unfold likeTypes colour in rw (ne-eqb k forkType (λ e. omega arith)))
+alike-types (fork _ _ _ _) b c d h = unfold likeTypes colour sameLeaf in refl
 
 -- two like leaves are leaves of one colour
 pub same-leaf : (s t : Tree) → sameLeaf s t ≡ true → (s ≡ leaf (colour s)) × (t ≡ leaf (colour s))
@@ -130,6 +161,9 @@ size-le zero (fork a b c d) h = absurd h
 size-le (suc l) (fork a b c d) h =
     omega (arith, pow-succ' 4 l, size-le l a (h .0), size-le l b (h .1), size-le l c (h .2), size-le l d (h .3))
 
--- so a sheet's table fits
+-- so a sheet's table fits: at the top level there are most pixels
+pub pixels-top : (n : ℕ) → n ≤ topLevel → 4 ^ n ≤ 4 ^ topLevel
+pixels-top n top = pow-le-pow-right {n = 4} (omega arith) {i = n} {j = topLevel} top
+
 pub size-fits : (l : ℕ) (t : Tree) → l ≤ topLevel → Within l t → 6 * sizeOf t ≤ maxWords
-size-fits l t top h = omega (arith, size-le l t h, pow-le-pow-right {n = 4} (omega arith) {i = l} {j = topLevel} top)
+size-fits l t top h = omega (arith, size-le l t h, pixels-top l top)

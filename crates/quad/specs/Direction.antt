@@ -6,7 +6,8 @@ use Prim.Native.Nat.{ℕ, _+_, _-_, _*_, _/_, _%_}
 use lib.Dec.{leb, ltb, eqb}
 use lib.ListN.{getD}
 
--- one more than the step that a direction takes to the east, and to the south: 0 back, 1 stay, 2 forth
+-- one more than the step that a direction takes to the east, and to the south: 0 back, 1 stay, 2 forth. A number from 8 on is no direction and stays,
+-- on which `neighbour`'s `stay` rests
 unfoldable pub eastStep : ℕ → ℕ
 eastStep D = getD (1 ∷ 2 ∷ 1 ∷ 0 ∷ 0 ∷ 2 ∷ 0 ∷ 2 ∷ []) D 1
 
@@ -21,7 +22,7 @@ stays side x step = ltb 0 (x + step) && leb (x + step) side
 abbrev pub diagonal : ℕ → ℕ
 diagonal C = 4 + C
 
--- ADJ(B, I): quadrant I is adjacent to boundary B of the node's block
+-- ADJ(B, I): quadrant I is adjacent to boundary B of the node's block. It means something for sides 0 to 3 only, and so does REFLECT
 abbrev pub adjOf : ℕ → ℕ → Bool
 adjOf d q = cond (eqb (d % 2) 0) (eqb (q / 2) (d / 2)) (eqb (q % 2) (1 - d / 2))
 

@@ -1,7 +1,9 @@
-// Quadtrees: what a block and a direction are, and document 000's four tables, read by direction and quadrant number.
+// Quadtrees: a block's side, four like leaves, and document 000's four tables, read by direction and quadrant number.
 ghost use mathlib.Core.Path.{_≡_};
 ghost use Prim.Native.Nat.{_<_, _≤_, _^_};
+ghost use Rattle.quad.specs.Numbers.{topLevel};
 ghost use Rattle.quad.specs.Direction.{adjOf, reflectOf, opquadOf, commonSideOf};
+ghost use Rattle.quad.specs.Tree.{likeTypes};
 
 // The highest level of a sheet, and the most words of a table.
 pub const TOP_LEVEL: u32 = 7;
@@ -30,6 +32,30 @@ const OPQUAD: [u8; 4] = [3, 2, 1, 0];
 
 // By two quadrants. 4, which is no side, stands where document 000 leaves it undefined.
 const COMMONSIDE: [[u8; 4]; 4] = [[4, 0, 3, 4], [0, 4, 4, 1], [3, 4, 4, 2], [4, 1, 2, 4]];
+
+// The side of a block, in pixels.
+pub fn side(level: u32) -> u32
+    requires { ⌜ level ≤ topLevel ⌝ }
+    ensures { λ r. ⌜ r ≡ 2 ^ level ⌝ }
+{
+    1 << level
+}
+
+// Whether four types are those of four like leaves, over which a fork is needless.
+pub fn like_leaves(nw: usize, ne: usize, sw: usize, se: usize) -> bool
+    ensures { λ r. ⌜ r ≡ likeTypes nw ne sw se ⌝ }
+{
+    if nw == FORK {
+        return false;
+    }
+    if nw != ne {
+        return false;
+    }
+    if nw != sw {
+        return false;
+    }
+    nw == se
+}
 
 // Whether the quadrant touches that side of its father's block.
 pub fn adj(side: usize, quadrant: usize) -> bool

@@ -2,32 +2,22 @@
 use mathlib.Core.Bool.{Bool, true, false, cond, false≢true}
 use mathlib.Core.List.{List}
 use mathlib.Core.Path.{_≡_, refl, ap, sym, _∙_}
-use Prim.Native.Nat.{ℕ, zero, suc, _+_, _-_, _*_, _^_, _≤_, _<_}
-use native.Mathlib.Nat.{suc-mul, mul-le-mul-right, pow-succ', pow-le-pow-right}
+use Prim.Native.Nat.{ℕ, zero, suc, _+_, _-_, _*_, _/_, _^_, _≤_, _<_}
+use native.Mathlib.Nat.{div-lt-iff-lt-mul, suc-mul, mul-le-mul-right, pow-succ', pow-le-pow-right}
 use native.Mathlib.Omega.{arith}
 use lib.Arith.{digits-lt}
-use lib.Dec.{eqb}
-use lib.Pow.{pow-add}
-use borrow.Author.Tests.{eq-eqb, ne-eqb}
+use lib.Pow.{pow-pos}
+use borrow.Author.Tests.{eq-eqb}
 use Rattle.base.proofs.CaseLaws.{cond-case}
+use Rattle.base.proofs.PowLaws.{pow-product, four-pow}
 use Rattle.quad.specs.Numbers.{topLevel, forkType}
-use Rattle.quad.specs.Tree.{Tree, leaf, fork, colour, sameLeaf, alike, Coloured, sizeOf, join, treeOf}
-use Rattle.quad.proofs.TreeLaws.{size-fits}
+use Rattle.quad.specs.Tree.{Tree, fork, colour, alike, likeTypes, Coloured, sizeOf, join, treeOf}
+use Rattle.quad.proofs.TreeLaws.{alike-types, pixels-top, size-fits}
 use Rattle.quad.proofs.PictureLaws.{tree-within, tree-coloured}
 use Rattle.raster.specs.declared.Measured.{Measured}
 use Rattle.raster.specs.declared.Quarters.{Quarters}
 use Rattle.raster.specs.Raster.{pictureOf}
-use Rattle.raster.specs.Blocks.{Picture, OnSheet, sameKind, likeKinds, Few, measureOf, joinedOf, quartersOf}
-
--- 4 ^ n is the square of the side
-pub four-pow : (n : ℕ) → 4 ^ n ≡ 2 ^ n * 2 ^ n
-four-pow n = go n ∙ pow-add 2 n n
-  where
-    go : (k : ℕ) → 4 ^ k ≡ 2 ^ (k + k)
-    go zero = refl
-    go (suc k) =
-        let e : suc k + suc k ≡ suc (suc (k + k)) = omega arith in
-        rw e (omega (arith, pow-succ' 4 k, pow-succ' 2 (k + k), pow-succ' 2 (suc (k + k)), go k))
+use Rattle.raster.specs.Blocks.{Picture, OnSheet, Few, measureOf, joinedOf, quartersOf}
 
 -- a quarter of a block
 pub on-son : {n l x y : ℕ} → OnSheet n l x y → 0 < l → (u v : ℕ) → u ≤ 2 * x + 1 → v ≤ 2 * y + 1 → OnSheet n (l - 1) u v
@@ -41,7 +31,10 @@ on-small {n} {l} top o =
     let p : 2 ^ (n - l) ≤ 2 ^ topLevel = pow-le-pow-right (omega arith) {i = n - l} {j = topLevel} (omega arith) in
     (omega (arith, o), omega (arith, o))
 
--- a pixel's place
+-- a pixel's place, and a place's row
+pub row-of-place : (n i : ℕ) → i < 4 ^ n → i / 2 ^ n < 2 ^ n
+row-of-place n i lt = div-lt-iff-lt-mul {k = 2 ^ n} {x = i} {y = 2 ^ n} (pow-pos n) .1 (rw (four-pow n) at lt)
+
 pub digits-four : (n x y : ℕ) → x < 2 ^ n → y < 2 ^ n → y * 2 ^ n + x < 4 ^ n
 digits-four n x y hx hy = rw (four-pow n) (digits-lt hy hx)
 
@@ -53,25 +46,13 @@ place-lt {n} {x} {y} o =
     digits-four n x y hx hy
 
 pub place-fits : {n x y : ℕ} → n ≤ topLevel → OnSheet n 0 x y → y * 2 ^ n + x < 4 ^ topLevel
-place-fits {n} top o = omega (arith, place-lt o, pow-le-pow-right {n = 4} (omega arith) {i = n} {j = topLevel} top)
+place-fits {n} top o = omega (arith, place-lt o, pixels-top n top)
 
--- like kinds are those of like leaves
-same-kind : (A B : Tree) → Coloured A → Coloured B → sameKind (colour A) (colour B) ≡ sameLeaf A B
-unfolding sameKind sameLeaf colour Coloured
-same-kind (leaf c) (leaf k) hc hk = rw (ne-eqb c forkType (λ e. omega arith))
-same-kind (leaf c) (fork _ _ _ _) hc hk = rw (ne-eqb c forkType (λ e. omega arith))
-same-kind (fork _ _ _ _) t hc hk = refl
-
-pub like-kinds : (A B C D : Tree) → Coloured A → Coloured B → Coloured C → Coloured D
-    → likeKinds (colour A) (colour B) (colour C) (colour D) ≡ alike A B C D
-unfolding likeKinds
-like-kinds A B C D ha hb hc hd = rw (same-kind A B ha hb, same-kind A C ha hc, same-kind A D ha hd)
-
-pub join-measure : (A B C D : Tree) → Coloured A → Coloured B → Coloured C → Coloured D
-    → joinedOf (measureOf A) (measureOf B) (measureOf C) (measureOf D) ≡ measureOf (join A B C D)
+-- four measures join as four trees do
+pub join-measure : (A B C D : Tree) → Coloured A → joinedOf (measureOf A) (measureOf B) (measureOf C) (measureOf D) ≡ measureOf (join A B C D)
 unfolding joinedOf measureOf join
-join-measure A B C D ha hb hc hd =
-    rw (like-kinds A B C D ha hb hc hd)
+join-measure A B C D h =
+    rw (← alike-types A B C D h)
     (cond-case (λ (t : Tree). cond (alike A B C D) (measureOf A) (record { nodes = 1 + (sizeOf A + (sizeOf B + (sizeOf C + sizeOf D))); kind = forkType }) ≡ measureOf t)
     (alike A B C D) A (fork A B C D)
     (λ e. rw e) (λ e. unfold sizeOf colour in rw e))
@@ -89,24 +70,6 @@ module _ (n : ℕ) (R : List ℕ) (pic : Picture n R) where
   pub block-coloured : (l x y : ℕ) → Coloured (treeOf (pictureOf n R) l x y)
   block-coloured l x y = tree-coloured (pictureOf n R) l x y (λ i j hi hj. pic .colours (j * 2 ^ n + i))
 
--- four kinds, test by test
-module _ (a b c d : ℕ) where
-  pub kinds-fork : a ≡ forkType → false ≡ likeKinds a b c d
-  unfolding likeKinds sameKind
-  kinds-fork e = rw (likeKinds, sameKind, eq-eqb a forkType e)
-
-  pub kinds-second : (a ≡ forkType → ⊥) → (a ≡ b → ⊥) → false ≡ likeKinds a b c d
-  unfolding likeKinds sameKind
-  kinds-second f e = rw (likeKinds, sameKind, ne-eqb a forkType f, ne-eqb a b e)
-
-  pub kinds-third : (a ≡ forkType → ⊥) → a ≡ b → (a ≡ c → ⊥) → false ≡ likeKinds a b c d
-  unfolding likeKinds sameKind
-  kinds-third f e g = rw (likeKinds, sameKind, ne-eqb a forkType f, eq-eqb a b e, ne-eqb a c g)
-
-  pub kinds-last : (a ≡ forkType → ⊥) → a ≡ b → a ≡ c → eqb a d ≡ likeKinds a b c d
-  unfolding likeKinds sameKind
-  kinds-last f e g = rw (likeKinds, sameKind, ne-eqb a forkType f, eq-eqb a b e, eq-eqb a c g)
-
 -- what a block comes to, from its pixel or from its quarters
 pub measure-pixel : (f : ℕ → ℕ → ℕ) (x y k : ℕ) → k ≡ f x y → _≡_ {A = Measured} (record { nodes = 1; kind = k }) (measureOf (treeOf f 0 x y))
 unfolding measureOf treeOf sizeOf colour
@@ -117,9 +80,8 @@ module _ (n : ℕ) (R : List ℕ) (l x y : ℕ) where
       → b ≡ measureOf (treeOf (pictureOf n R) (l - 1) (2 * x + 1) (2 * y)) → c ≡ measureOf (treeOf (pictureOf n R) (l - 1) (2 * x) (2 * y + 1))
       → d ≡ measureOf (treeOf (pictureOf n R) (l - 1) (2 * x + 1) (2 * y + 1)) → r ≡ joinedOf a b c d → r ≡ measureOf (treeOf (pictureOf n R) l x y)
   measure-four pic z a b c d r ea eb ec ed e =
-      let co = block-coloured n R pic (l - 1) in
       e
-      ∙ rw (ea, eb, ec, ed) (join-measure _ _ _ _ (co (2 * x) (2 * y)) (co (2 * x + 1) (2 * y)) (co (2 * x) (2 * y + 1)) (co (2 * x + 1) (2 * y + 1)))
+      ∙ rw (ea, eb, ec, ed) (join-measure _ _ _ _ (block-coloured n R pic (l - 1) (2 * x) (2 * y)))
       ∙ ap measureOf (sym (tree-quarters (pictureOf n R) l x y z))
 
 pub measure-few : (f : ℕ → ℕ → ℕ) (l x y : ℕ) (m : Measured) → l ≤ topLevel → m ≡ measureOf (treeOf f l x y) → Few m
@@ -127,25 +89,29 @@ unfolding measureOf
 measure-few f l x y m top e = rw e (size-fits l (treeOf f l x y) top (tree-within f l x y))
 
 -- measures that join to a fork's
+fork-unlike : (a b c d : ℕ) → a ≡ forkType → likeTypes a b c d ≡ false
+unfolding likeTypes
+fork-unlike a b c d e = rw (eq-eqb a forkType e)
+
 pub joined-fork : (a b c d w : Measured) → w ≡ joinedOf a b c d → w .kind ≡ forkType → w .nodes ≡ 1 + (a .nodes + (b .nodes + (c .nodes + d .nodes)))
 unfolding joinedOf
-joined-fork a b c d w e k = go (likeKinds (a .kind) (b .kind) (c .kind) (d .kind)) refl
+joined-fork a b c d w e k = go (likeTypes (a .kind) (b .kind) (c .kind) (d .kind)) refl
   where
-    go : (u : Bool) → likeKinds (a .kind) (b .kind) (c .kind) (d .kind) ≡ u → w .nodes ≡ 1 + (a .nodes + (b .nodes + (c .nodes + d .nodes)))
+    go : (u : Bool) → likeTypes (a .kind) (b .kind) (c .kind) (d .kind) ≡ u → w .nodes ≡ 1 + (a .nodes + (b .nodes + (c .nodes + d .nodes)))
     go true q =
         let h : w ≡ a = rw q at e in
-        absurd (false≢true (kinds-fork (a .kind) (b .kind) (c .kind) (d .kind) (ap (λ (m : Measured). m .kind) (sym h) ∙ k) ∙ q))
+        absurd (false≢true (sym (fork-unlike (a .kind) (b .kind) (c .kind) (d .kind) (ap (λ (m : Measured). m .kind) (sym h) ∙ k)) ∙ q))
     go false q = ap (λ (m : Measured). m .nodes) (rw q at e)
 
 pub square-fits : (n s : ℕ) → n ≤ topLevel → s ≡ 2 ^ n → s * s ≤ 4 ^ topLevel
-square-fits n s top e = rw (e, ← four-pow n) (pow-le-pow-right {n = 4} (omega arith) {i = n} {j = topLevel} top)
+square-fits n s top e = rw (e, ← four-pow n) (pixels-top n top)
 
 -- a block ends where the sheet does, or before; and so do its rows
 pub block-fits : {n l x y : ℕ} → OnSheet n l x y → (x * 2 ^ l + 2 ^ l ≤ 2 ^ n) × (y * 2 ^ l + 2 ^ l ≤ 2 ^ n)
 block-fits {n} {l} {x} {y} o =
     let low = o .low in
     let s : n - l + l ≡ n = omega arith in
-    let e : 2 ^ n ≡ 2 ^ (n - l) * 2 ^ l = ap (λ (k : ℕ). 2 ^ k) (sym s) ∙ pow-add 2 (n - l) l in
+    let e = pow-product (n - l) l n s in
     (omega (arith, suc-mul x (2 ^ l), mul-le-mul-right (2 ^ l) (o .across)), omega (arith, suc-mul y (2 ^ l), mul-le-mul-right (2 ^ l) (o .down)))
 
 pub corner-small : {n l x y : ℕ} → n ≤ topLevel → OnSheet n l x y → (x * 2 ^ l + 2 ^ l ≤ 2 ^ topLevel) × (y * 2 ^ l + 2 ^ l ≤ 2 ^ topLevel)
@@ -160,7 +126,7 @@ row-place {n} {l} {x} {y} top o j lt =
     let fit = block-fits o in
     let t : ℕ = y * 2 ^ l + j in
     let below : t < 2 ^ n = omega arith in
-    (rw (four-pow n) (omega (arith, suc-mul t (2 ^ n), mul-le-mul-right (2 ^ n) below)), pow-le-pow-right {n = 4} (omega arith) {i = n} {j = topLevel} top)
+    (rw (four-pow n) (omega (arith, suc-mul t (2 ^ n), mul-le-mul-right (2 ^ n) below)), pixels-top n top)
 
 -- the four quarters, one by one
 pub record Parts (f : ℕ → ℕ → ℕ) (l x y : ℕ) (q : Quarters) : Type 0 where

@@ -3,7 +3,6 @@ use mathlib.Core.Bool.{Bool, true, false, not}
 use mathlib.Core.List.{List}
 use mathlib.Core.Path.{_≡_, refl, ap, sym, _∙_}
 use Prim.Native.Nat.{ℕ, _-_, _*_, _≤_, _<_}
-use native.Mathlib.Nat.{pow-le-pow-right}
 use native.Mathlib.Omega.{arith}
 use lib.Dec.{ltb}
 use lib.ListN.{length}
@@ -13,8 +12,10 @@ use Rattle.base.proofs.BoolLaws.{on, off}
 use Rattle.answer.specs.declared.Outcome.{Outcome}
 use Rattle.answer.specs.declared.Outcome.the-variants.{Answered, BadLevel, NoRoom}
 use Rattle.answer.specs.Numbers.{answers, andThen, unless, room}
+use Rattle.answer.proofs.OutcomeLaws.{then-then}
 use Rattle.quad.specs.Numbers.{topLevel, none}
 use Rattle.quad.specs.Tree.{Tree, sizeOf, treeOf}
+use Rattle.quad.proofs.TreeLaws.{pixels-top}
 use Rattle.table.specs.Preorder.{preorderTable}
 use Rattle.table.proofs.PreorderLaws.{written-whole}
 use Rattle.raster.specs.declared.Measured.{Measured}
@@ -25,14 +26,6 @@ use Rattle.raster.specs.Writing.{lateWords, Ready, Put}
 use Rattle.raster.proofs.BlockLaws.{block-coloured}
 use Rattle.raster.proofs.WritingLaws.{of-nodes, of-kind, whole-part, room-of}
 use Rattle.raster.proofs.TestLaws.{readable-picture}
-
--- refusals may be taken together
-then-then : (a b c : Outcome) → andThen (andThen a b) c ≡ andThen a (andThen b c)
-then-then a b c = go (answers a) refl
-  where
-    go : (u : Bool) → answers a ≡ u → andThen (andThen a b) c ≡ andThen a (andThen b c)
-    go true q = rw q
-    go false q = rw (q, q)
 
 -- the whole sheet is a block
 pub sheet-on : (n : ℕ) → OnSheet n n 0 0
@@ -91,5 +84,5 @@ module _ (n : ℕ) (R U : List ℕ) where
   pub sheet-ready : n ≤ topLevel → (m : Measured) → m ≡ measureOf tree → 6 * m .nodes ≤ length U → Ready tree n 0 (length U)
   sheet-ready top m em le = record {
     room = room-of tree 0 (length U) (omega (arith, of-nodes tree m em));
-    few = omega (arith, pow-le-pow-right {n = 4} (omega arith) {i = n} {j = topLevel} top);
+    few = omega (arith, pixels-top n top);
   }

@@ -13,13 +13,14 @@ use Rattle.base.specs.Tab.{overlay}
 use Rattle.answer.specs.declared.Outcome.{Outcome}
 use Rattle.answer.specs.declared.Outcome.the-variants.{Answered, NoRoom}
 use Rattle.answer.specs.Numbers.{valueOf, answers, room}
+use Rattle.answer.proofs.OutcomeLaws.{both-answer, answers-unless}
 use Rattle.quad.specs.Numbers.{topLevel, topColour, none}
 use Rattle.quad.specs.Tree.{sizeOf}
 use Rattle.table.specs.Table.{nodes}
 use Rattle.table.specs.Rules.{sizesOf, faultsOf, checkOf, Accepted}
 use Rattle.table.specs.Nodes.{treeAt}
 use Rattle.table.specs.Preorder.{preorderTable}
-use Rattle.table.proofs.CheckLaws.{go-on, answers-unless, sizes-good, check-accepted, accepted-of}
+use Rattle.table.proofs.CheckLaws.{sizes-good, check-accepted, accepted-of}
 use Rattle.table.proofs.PreorderLaws.{preorder-length}
 use Rattle.table.proofs.SizeLaws.{tree-size}
 use Rattle.raster.specs.Raster.{rasterTree, rasterOf, rasterLength, pixelsFrom, buildOf, builtTable, decodeOf, decodedRaster}
@@ -52,8 +53,8 @@ build-answered n R before count after h =
     let t = rasterTree n R in
     let len = preorder-length none 0 t in
     let ok : answers (buildOf n R (length before)) ≡ true = rw (← h .answer) refl in
-    let g = go-on (readableOf n R) _ (rw (build-then n R before) at ok) in
-    let r = go-on (room (6 * sizeOf t) (length before)) (Answered (sizeOf t)) (g .1) in
+    let g = both-answer (readableOf n R) _ (rw (build-then n R before) at ok) in
+    let r = both-answer (room (6 * sizeOf t) (length before)) (Answered (sizeOf t)) (g .1) in
     let le : 6 * sizeOf t ≤ length before = ltb-false _ _ (answers-unless (ltb (length before) (6 * sizeOf t)) (NoRoom (6 * sizeOf t)) refl (r .0)) in
     let e : Answered count ≡ Answered (sizeOf t) = h .answer ∙ build-then n R before ∙ rw (g .0, le-ltb _ _ le) in
     let c : count ≡ sizeOf t = ap valueOf e in
@@ -76,10 +77,10 @@ picture-readable : (n : ℕ) (R : List ℕ) → Picture n R → readableOf n R �
 unfolding readableOf
 picture-readable n R p = rw (readableOf, le-ltb topLevel n (p .top), eq-eqb (length R) (4 ^ n) (p .whole), pixels-pass R 0 (p .colours))
 
-pub build-answers : (n : ℕ) (R before : List ℕ) (o : Outcome) (after : List ℕ) → Picture n R → 6 * sizeOf (rasterTree n R) ≤ length before
+pub build-value : (n : ℕ) (R before : List ℕ) (o : Outcome) (after : List ℕ) → Picture n R → 6 * sizeOf (rasterTree n R) ≤ length before
     → Builds n R before o after → o ≡ Answered (sizeOf (rasterTree n R))
 unfolding rasterTree
-build-answers n R before o after p le h =
+build-value n R before o after p le h =
     h .answer ∙ build-then n R before ∙ rw (picture-readable n R p, le-ltb (length before) (6 * sizeOf (rasterTree n R)) le)
 
 -- an answer of decoding: the table is accepted, and every byte is its picture's
@@ -92,15 +93,15 @@ pub decode-answered : (n : ℕ) (T before : List ℕ) (v : ℕ) (after : List �
 unfolding decodeOf decodedRaster checkOf
 decode-answered n T before v after h =
     let ok : answers (decodeOf n T (length before)) ≡ true = rw (← h .answer) refl in
-    let g = go-on (sizesOf n T) _ ok in
-    let r = go-on (rasterLength n (length before)) _ (g .1) in
-    let f = go-on (faultsOf n T) (Answered 0) (r .1) in
+    let g = both-answer (sizesOf n T) _ ok in
+    let r = both-answer (rasterLength n (length before)) _ (g .1) in
+    let f = both-answer (faultsOf n T) (Answered 0) (r .1) in
     record { accepted = accepted-of n T (rw (checkOf, g .0) (f .0)); whole = length-of n (length before) (r .0); picture = h .raster ∙ rw ok }
 
 -- decoding answers for every accepted table, where the raster has its length
-pub decode-answers : (n : ℕ) (T before : List ℕ) (o : Outcome) (after : List ℕ) → Accepted n T → length before ≡ 4 ^ n → Decodes n T before o after → o ≡ Answered 0
+pub decode-value : (n : ℕ) (T before : List ℕ) (o : Outcome) (after : List ℕ) → Accepted n T → length before ≡ 4 ^ n → Decodes n T before o after → o ≡ Answered 0
 unfolding decodeOf checkOf
-decode-answers n T before o after acc e h =
+decode-value n T before o after acc e h =
     let s = sizes-good n T (acc .sized) in
     let f : faultsOf n T ≡ Answered (nodes T) = rw s at (check-accepted n T acc) in
     h .answer ∙ rw (decodeOf, s, eq-eqb (length before) (4 ^ n) e, f)
@@ -116,7 +117,7 @@ pub build-decode : (n : ℕ) (R before : List ℕ) (count : ℕ) (after old : Li
     → length old ≡ 4 ^ n → Decodes n (take (6 * count) after) old o new → (o ≡ Answered 0) × (new ≡ R)
 build-decode n R before count after old o new h e d =
     let b = build-answered n R before count after h in
-    let a : o ≡ Answered 0 = decode-answers n (take (6 * count) after) old o new (build-accepted n R before count after h) e d in
+    let a : o ≡ Answered 0 = decode-value n (take (6 * count) after) old o new (build-accepted n R before count after h) e d in
     let r = decode-answered n (take (6 * count) after) old 0 new (rw a at d) in
     (a, r .picture ∙ rw (b .start) (built-decoded n R (b .picture)))
 
@@ -129,7 +130,7 @@ decode-build n T old v R before o after d le h =
     let t : rasterTree n R ≡ treeAt T n 0 = rw (r .picture) (decoded-tree n T acc) in
     let s : sizeOf (rasterTree n R) ≡ nodes T = rw t (tree-size n T acc) in
     let p : Picture n R = rw (r .picture) (decoded-picture n T acc) in
-    let a : o ≡ Answered (nodes T) = rw (← s) (build-answers n R before o after p (omega arith) h) in
+    let a : o ≡ Answered (nodes T) = rw (← s) (build-value n R before o after p (omega arith) h) in
     let b = build-answered n R before (nodes T) after (rw a at h) in
     (a, b .start ∙ rw t)
 

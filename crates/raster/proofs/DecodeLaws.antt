@@ -4,7 +4,6 @@ use mathlib.Core.List.{List}
 use mathlib.Core.Path.{_≡_, refl, ap, sym, _∙_}
 use Prim.Native.Nat.{ℕ, _^_}
 use native.Mathlib.Nat.{div-eq-of-lt}
-use native.Mathlib.Omega.{arith}
 use lib.ListN.{length}
 use Rattle.base.proofs.BoolLaws.{on, off}
 use Rattle.answer.specs.declared.Outcome.{Outcome}
@@ -12,7 +11,7 @@ use Rattle.answer.specs.declared.Outcome.the-variants.{Answered}
 use Rattle.answer.specs.Numbers.{answers, andThen}
 use Rattle.answer.proofs.OutcomeLaws.{then-stop, then-go}
 use Rattle.table.specs.Rules.{sizesOf, faultsOf, checkOf, Accepted}
-use Rattle.table.proofs.RuleLaws.{depth-root}
+use Rattle.table.proofs.AcceptedLaws.{root-at}
 use Rattle.table.proofs.CheckLaws.{accepted-of}
 use Rattle.table.proofs.PictureLaws.{pixel-shade}
 use Rattle.raster.specs.Raster.{rasterLength, rasterOf, decodeOf, decodedRaster}
@@ -67,9 +66,7 @@ module _ (n : ℕ) (T U : List ℕ) where
 
           pub sheet-paintable : Paintable n T 0 n 0 0 (length U)
           sheet-paintable = record {
-            accepted = passed-accepted;
-            node = passed-accepted .sized .some;
-            level = omega (arith, depth-root T n);
+            place = root-at passed-accepted;
             block = sheet-on n;
             whole = passed-length;
           }

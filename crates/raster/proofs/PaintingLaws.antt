@@ -11,15 +11,14 @@ use lib.ListN.{length, getD, set, length-set}
 use lib.Pow.{pow-pos, split, high}
 use lib.Seq.{getD-set-same, getD-set-other}
 use borrow.Author.Tests.{eq-eqb, ne-eqb, eqb-true, eqb-false, lt-ltb, le-leb, ltb-true, leb-true}
-use Rattle.base.proofs.BoolLaws.{and-left, and-right, or-second, by-bool, lt-or-ge}
+use Rattle.base.proofs.BoolLaws.{and-left, and-right, and-both, and-false, or-true, or-second, same-tests, by-bool, lt-or-ge}
 use Rattle.quad.specs.Numbers.{forkType}
 use Rattle.quad.specs.Block.{quadrantOf}
 use Rattle.quad.specs.Tree.{sonOf}
 use Rattle.quad.proofs.PathLaws.{half-last, shade-top, shade-leaf}
 use Rattle.table.specs.Table.{son, type, isFork}
-use Rattle.table.specs.Rules.{depthTo}
 use Rattle.table.specs.Nodes.{treeAt}
-use Rattle.table.proofs.AcceptedLaws.{tree-leaf, sons-of, fork-deep, depth-son}
+use Rattle.table.proofs.AcceptedLaws.{tree-leaf, fork-above, son-at}
 use Rattle.table.proofs.PictureLaws.{tree-son as table-son}
 use Rattle.raster.proofs.BlockLaws.{on-son, block-fits, place-lt}
 use Rattle.raster.specs.Blocks.{OnSheet}
@@ -34,23 +33,6 @@ same-row y t s x left lt lo hi =
     ⊎-elim (λ (q : t ≡ y). sym q) (λ (l : t < y). absurd (omega (arith, suc-mul t s, mul-le-mul-right s l))) (eq-or-lt-of-le g))
     (lt-or-ge y t)
 
-or-true : (b : Bool) → b || true ≡ true
-or-true true = refl
-or-true false = refl
-
-and-false : (b : Bool) → b && false ≡ false
-and-false true = refl
-and-false false = refl
-
--- two tests that hold together are the same
-same-test : (a b : Bool) → (a ≡ true → b ≡ true) → (b ≡ true → a ≡ true) → a ≡ b
-same-test true b f g = sym (f refl)
-same-test false true f g = g refl
-same-test false false f g = refl
-
-and-both : (a b : Bool) → a ≡ true → b ≡ true → a && b ≡ true
-and-both a b e f = rw (e, f)
-
 within-in : (a w k : ℕ) → within a w k ≡ true → (a ≤ k) × (k < a + w)
 unfolding within
 within-in a w k e = (leb-true a k (and-left (leb a k) (ltb k (a + w)) e), ltb-true k (a + w) (and-right (leb a k) (ltb k (a + w)) e))
@@ -61,11 +43,11 @@ within-of a w k le lt = and-both _ _ (le-leb a k le) (lt-ltb k (a + w) lt)
 
 -- none, and one more
 within-none : (a k : ℕ) → within a 0 k ≡ false
-within-none a k = same-test _ _ (λ e. absurd (omega (arith, within-in a 0 k e))) (λ e. absurd (false≢true e))
+within-none a k = same-tests _ _ (λ e. absurd (omega (arith, within-in a 0 k e))) (λ e. absurd (false≢true e))
 
 within-more : (a w k : ℕ) → within a (w + 1) k ≡ eqb k (a + w) || within a w k
 within-more a w k =
-    same-test _ _
+    same-tests _ _
     (λ e.
     let h : (a ≤ k) × (k < a + (w + 1)) = within-in a (w + 1) k e in
     ⊎-elim
@@ -96,7 +78,7 @@ filled-more a i c U W lt f = record { size = length-set W (a + i) c ∙ f .size;
 -- the numbers of a block of level l
 span : (l X x : ℕ) → within (X * 2 ^ l) (2 ^ l) x ≡ eqb (x / 2 ^ l) X
 span l X x =
-    same-test _ _
+    same-tests _ _
     (λ e.
     let h : (X * 2 ^ l ≤ x) × (x < X * 2 ^ l + 2 ^ l) = within-in (X * 2 ^ l) (2 ^ l) x e in
     let d : X * 2 ^ l + (x - X * 2 ^ l) ≡ x = omega arith in
@@ -110,7 +92,7 @@ span l X x =
 -- the bytes of a row of a block, by column and row: s is the sheet's side
 row-hit : (l X s t x y : ℕ) → X * 2 ^ l + 2 ^ l ≤ s → x < s → within (t * s + X * 2 ^ l) (2 ^ l) (y * s + x) ≡ eqb (x / 2 ^ l) X && eqb y t
 row-hit l X s t x y fits lt =
-    same-test _ _
+    same-tests _ _
     (λ e.
     let h : (t * s + X * 2 ^ l ≤ y * s + x) × (y * s + x < t * s + X * 2 ^ l + 2 ^ l) = within-in _ _ _ e in
     let q : y ≡ t = same-row y t s x (X * 2 ^ l) lt (h .0) (omega arith) in
@@ -162,7 +144,7 @@ painted-pixel n x y c U o e =
 -- a block, quarter by quarter
 half-test : (b X : ℕ) → eqb (b / 2) X ≡ eqb b (2 * X) || eqb b (2 * X + 1)
 half-test b X =
-    same-test _ _
+    same-tests _ _
     (λ e.
     let h : b / 2 ≡ X = eqb-true (b / 2) X e in
     ⊎-elim
@@ -264,20 +246,8 @@ painted-fork T l p X Y n U₀ U₁ U₂ U₃ U₄ pos f a b c d =
     let e : l ≡ suc (l - 1) = omega arith in
     rw e (painted-four T (l - 1) p X Y n U₀ U₁ U₂ U₃ U₄ f a b c d)
 
--- a fork is above level 0, and each son may be painted in its quarter
-module _ {n : ℕ} {T : List ℕ} {p l x y bytes : ℕ} (h : Paintable n T p l x y bytes) (f : isFork T p ≡ true) where
-  pub fork-above : 0 < l
-  fork-above = omega (arith, h .level, fork-deep n T (h .accepted) p (h .node) f)
-
-  pub paintable-son : (q s u v : ℕ) → q < 4 → s ≡ son T p q → u ≤ 2 * x + 1 → v ≤ 2 * y + 1 → Paintable n T s (l - 1) u v bytes
-  paintable-son q s u v lt e hu hv =
-      let pos = fork-above in
-      let lev = h .level in
-      let d : l - 1 + depthTo T n (son T p q) ≡ n = omega (arith, depth-son n T (h .accepted) p q (h .node) f lt) in
-      rw e (record {
-        accepted = h .accepted;
-        node = sons-of n T (h .accepted) p (h .node) f q lt .below;
-        level = d;
-        block = on-son (h .block) pos u v hu hv;
-        whole = h .whole;
-      })
+-- each son of a fork may be painted in its quarter
+pub paintable-son : {n : ℕ} {T : List ℕ} {p l x y bytes : ℕ} → Paintable n T p l x y bytes → isFork T p ≡ true → (q s u v : ℕ) → q < 4 → s ≡ son T p q
+    → u ≤ 2 * x + 1 → v ≤ 2 * y + 1 → Paintable n T s (l - 1) u v bytes
+paintable-son h f q s u v lt e hu hv =
+    rw e (record { place = son-at (h .place) f q lt; block = on-son (h .block) (fork-above (h .place) f) u v hu hv; whole = h .whole })

@@ -4,7 +4,7 @@ use mathlib.Core.List.{List}
 use mathlib.Core.Path.{_≡_, ap, sym, _∙_}
 use mathlib.Core.Logic.{⊎-elim}
 use Prim.Native.Nat.{ℕ, zero, suc, _/_, _%_, _^_, _≤_, _<_}
-use native.Mathlib.Nat.{mod-lt, div-lt-iff-lt-mul}
+use native.Mathlib.Nat.{mod-lt}
 use native.Mathlib.Omega.{arith}
 use lib.ListN.{getD, List·getD-eq-default}
 use lib.Pow.{pow-pos, split}
@@ -12,17 +12,17 @@ use Rattle.base.proofs.BoolLaws.{lt-or-ge}
 use Rattle.quad.specs.Numbers.{topColour}
 use Rattle.quad.specs.Tree.{Tree, leaf, fork, sonOf, colour, shade, Within, Coloured, Shows}
 use Rattle.quad.proofs.PathLaws.{shade-top, shade-leaf}
-use Rattle.quad.proofs.TreeLaws.{within-zero, within-son}
+use Rattle.quad.proofs.TreeLaws.{within-zero, within-son, coloured-son}
 use Rattle.quad.proofs.PictureLaws.{tree-within, tree-reduced, built, same-picture, pixel-lt}
 use Rattle.table.specs.Rules.{Accepted}
 use Rattle.table.specs.Nodes.{treeAt, pixel}
 use Rattle.table.specs.Preorder.{preorderTable}
 use Rattle.table.proofs.AcceptedLaws.{Sound}
 use Rattle.table.proofs.PictureLaws.{pixel-shade, sheet-tree, sheet-sound}
-use Rattle.table.proofs.PreorderAccepted.{coloured-son, preorder-tree, preorder-accepted}
+use Rattle.table.proofs.PreorderAccepted.{preorder-tree, preorder-accepted}
 use Rattle.raster.specs.Raster.{pictureOf, rasterOf, rasterTree}
 use Rattle.raster.specs.Blocks.{Picture}
-use Rattle.raster.proofs.BlockLaws.{four-pow, block-coloured}
+use Rattle.raster.proofs.BlockLaws.{row-of-place, block-coloured}
 use Rattle.raster.proofs.RasterLaws.{raster-size, raster-pixel, same-raster}
 
 -- a raster's picture: its one tree, the table of that tree, and the raster again
@@ -90,7 +90,7 @@ decoded-picture n T acc = record { top = acc .sized .level; whole = raster-size 
     inside i lt =
         let x : ℕ = i % 2 ^ n in
         let y : ℕ = i / 2 ^ n in
-        let hy : y < 2 ^ n = div-lt-iff-lt-mul {k = 2 ^ n} {x = i} {y = 2 ^ n} (pow-pos n) .1 (rw (four-pow n) at lt) in
+        let hy : y < 2 ^ n = row-of-place n i lt in
         let e : getD (rasterOf n T) i 0 ≡ shade n (treeAt T n 0) x y = rw (split i n) at (raster-pixel n T x y (mod-lt i (pow-pos n)) hy ∙ pixel-shade n T x y) in
         let s = sheet-sound n T acc in
         rw e (shade-coloured n (treeAt T n 0) x y (s .within) (s .coloured))

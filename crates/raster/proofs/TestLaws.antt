@@ -4,22 +4,21 @@ use mathlib.Core.List.{List, [], _∷_}
 use mathlib.Core.Path.{_≡_, refl, ap, sym, _∙_}
 use Prim.Native.Nat.{ℕ, zero, suc, _+_, _*_, _^_, _≤_, _<_}
 use native.Mathlib.Numerals.{add-one}
-use native.Mathlib.Nat.{pow-le-pow-right}
 use native.Mathlib.Omega.{arith}
 use lib.Dec.{eqb, ltb}
 use lib.ListN.{length, getD, drop}
 use lib.Seq.{drop-cons, drop-length}
 use borrow.Author.Tests.{eq-eqb, ne-eqb, eqb-true, lt-ltb, le-ltb, ltb-false}
 use Rattle.base.proofs.BoolLaws.{on}
+use Rattle.base.proofs.PowLaws.{four-pow}
 use Rattle.answer.specs.declared.Outcome.{Outcome}
 use Rattle.answer.specs.declared.Outcome.the-variants.{Answered, BadLevel, WrongLength, BadPixel}
 use Rattle.answer.specs.Numbers.{answers, unless}
-use Rattle.answer.proofs.OutcomeLaws.{then-stop, then-go}
+use Rattle.answer.proofs.OutcomeLaws.{then-stop, then-go, both-answer, answers-unless}
 use Rattle.quad.specs.Numbers.{topLevel, topColour}
-use Rattle.table.proofs.CheckLaws.{go-on, answers-unless}
+use Rattle.quad.proofs.TreeLaws.{pixels-top}
 use Rattle.raster.specs.Raster.{rasterLength, pixelsFrom}
 use Rattle.raster.specs.Blocks.{Picture, readableOf}
-use Rattle.raster.proofs.BlockLaws.{four-pow}
 
 -- the length
 module _ (n bytes s : ℕ) (e : s ≡ 2 ^ n) where
@@ -72,7 +71,7 @@ module _ (n : ℕ) (R : List ℕ) where
 
     pub readable-short : not u ≡ false → length R ≤ 4 ^ topLevel
     readable-short h =
-        rw (length-of n (length R) (ap answers (sym e) ∙ on u (answers s) a h)) (pow-le-pow-right {n = 4} (omega arith) {i = n} {j = topLevel} top)
+        rw (length-of n (length R) (ap answers (sym e) ∙ on u (answers s) a h)) (pixels-top n top)
 
     pub readable-pixels : (r : Outcome) → not u ≡ false → r ≡ pixelsFrom R 0 → r ≡ readableOf n R
     unfolding readableOf
@@ -82,8 +81,8 @@ module _ (n : ℕ) (R : List ℕ) where
   pub readable-picture : answers (readableOf n R) ≡ true → Picture n R
   unfolding readableOf
   readable-picture e =
-      let g = go-on (unless (ltb topLevel n) (BadLevel 0)) _ e in
-      let h = go-on (rasterLength n (length R)) (pixelsFrom R 0) (g .1) in
+      let g = both-answer (unless (ltb topLevel n) (BadLevel 0)) _ e in
+      let h = both-answer (rasterLength n (length R)) (pixelsFrom R 0) (g .1) in
       record {
         top = ltb-false topLevel n (answers-unless (ltb topLevel n) (BadLevel 0) refl (g .0));
         whole = length-of n (length R) (h .0);

@@ -2,20 +2,21 @@
 use mathlib.Core.Bool.{Bool, true, false}
 use mathlib.Core.List.{List, [], _∷_}
 use mathlib.Core.Path.{_≡_, refl, ap, sym, _∙_}
-use Prim.Native.Nat.{ℕ, suc, _+_, _-_, _*_, _^_, _≤_, _<_}
-use native.Mathlib.Nat.{pow-succ'}
+use Prim.Native.Nat.{ℕ, _+_, _-_, _*_, _^_, _≤_, _<_}
 use native.Mathlib.Omega.{arith}
 use lib.Dec.{eqb}
 use lib.ListN.{length}
 use lib.Seq.{sets}
 use borrow.Author.Tests.{eq-eqb, ne-eqb}
 use Rattle.base.proofs.CaseLaws.{cond-case}
+use Rattle.base.proofs.PowLaws.{pow-less}
+use Rattle.base.proofs.SetsLaws.{sets-apart}
 use Rattle.quad.specs.Numbers.{topLevel, forkType, none}
 use Rattle.quad.specs.Tree.{Tree, leaf, fork, sonOf, colour, alike, join, Within, Coloured, sizeOf, treeOf}
 use Rattle.quad.proofs.TreeLaws.{by-quadrant, each-son, size-pos, size-le, alike-leaves}
 use Rattle.quad.proofs.PictureLaws.{tree-within}
 use Rattle.table.specs.Preorder.{preorder}
-use Rattle.table.proofs.PreorderLaws.{sets-apart, Written, written-fork}
+use Rattle.table.proofs.PreorderLaws.{Written, written-fork}
 use Rattle.table.proofs.PreorderAccepted.{sonNode, node-end}
 use Rattle.raster.specs.declared.Measured.{Measured}
 use Rattle.raster.specs.Blocks.{measureOf, joinedOf}
@@ -120,7 +121,7 @@ module _ (A B C D : Tree) (f p : ℕ) (ha : Coloured A) (hb : Coloured B) (hc : 
     (pa : Put A p (p + 1) U₀ U₁ nw) (pb : Put B p (p + 1 + nw .nodes) U₁ U₂ ne) (pc : Put C p (p + 1 + nw .nodes + ne .nodes) U₂ U₃ sw)
     (pd : Put D p (p + 1 + nw .nodes + ne .nodes + sw .nodes) U₃ U₄ se) (e : w ≡ joinedOf nw ne sw se) where
   put-measured : w ≡ measureOf (join A B C D)
-  put-measured = e ∙ rw (pa .measured, pb .measured, pc .measured, pd .measured) (join-measure A B C D ha hb hc hd)
+  put-measured = e ∙ rw (pa .measured, pb .measured, pc .measured, pd .measured) (join-measure A B C D ha)
 
   put-kind : w .kind ≡ colour (join A B C D)
   put-kind = of-kind (join A B C D) w put-measured
@@ -192,10 +193,10 @@ room-of (fork _ _ _ _) i words h = h
 room-leaf : (t : Tree) (k i words : ℕ) → leaf k ≡ t → Room t i words
 room-leaf t k i words e = rw (← e) (unfold Room in tt)
 
-fork-size : (t : Tree) (p words : ℕ) → Room t p words → colour t ≡ forkType → Coloured t → 6 * (p + sizeOf t) ≤ words
+fork-needs : (t : Tree) (p words : ℕ) → Room t p words → colour t ≡ forkType → Coloured t → 6 * (p + sizeOf t) ≤ words
 unfolding Room colour Coloured
-fork-size (leaf c) p words r e co = absurd (omega arith)
-fork-size (fork _ _ _ _) p words r e co = r
+fork-needs (leaf c) p words r e co = absurd (omega arith)
+fork-needs (fork _ _ _ _) p words r e co = r
 
 module _ (A B C D : Tree) (p words : ℕ) where
   room-son : (i q : ℕ) → Room (join A B C D) p words → i + sizeOf (sonOf (fork A B C D) q) ≤ p + sizeOf (fork A B C D) → Room (sonOf (fork A B C D) q) i words
@@ -210,8 +211,7 @@ module _ (A B C D : Tree) (p words : ℕ) where
       → 3 * sonNode p (fork A B C D) q + 4 * 4 ^ (l - 1) ≤ 4 * 4 ^ topLevel
   unfolding sonNode sonOf
   few-son l z wa wb wc top =
-      let s : l ≡ suc (l - 1) = omega arith in
-      let w : 4 ^ l ≡ 4 * 4 ^ (l - 1) = ap (λ (k : ℕ). 4 ^ k) s ∙ pow-succ' 4 (l - 1) in
+      let w = pow-less 4 l (omega arith) in
       let za = size-le (l - 1) A wa in
       let zb = size-le (l - 1) B wb in
       let zc = size-le (l - 1) C wc in
@@ -253,7 +253,7 @@ module _ (f : ℕ → ℕ → ℕ) (l x y p words : ℕ) (z : l ≡ 0 → ⊥) (
 pub fork-room : (f : ℕ → ℕ → ℕ) (l x y p words : ℕ) → (l ≡ 0 → ⊥) → Ready (treeOf f l x y) l p words → (nw ne sw se w : Measured)
     → se ≡ measureOf (treeOf f (l - 1) (2 * x + 1) (2 * y + 1)) → w ≡ measureOf (treeOf f l x y) → w ≡ joinedOf nw ne sw se → w .kind ≡ forkType → Coloured (treeOf f l x y) → ForkRoom p nw ne sw se words
 fork-room f l x y p words z r nw ne sw se w ed e j k co =
-    let g = fork-size (treeOf f l x y) p words (r .room) (sym (of-kind _ w e) ∙ k) co in
+    let g = fork-needs (treeOf f l x y) p words (r .room) (sym (of-kind _ w e) ∙ k) co in
     let n = of-nodes _ w e in
     let s : w .nodes ≡ 1 + (nw .nodes + (ne .nodes + (sw .nodes + se .nodes))) = joined-fork nw ne sw se w j k in
     record {

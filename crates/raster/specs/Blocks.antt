@@ -1,15 +1,15 @@
 -- What the passes over a raster know of a block and its tree: inner facts that no outside call states.
-use mathlib.Core.Bool.{Bool, not, cond, _&&_}
+use mathlib.Core.Bool.{cond}
 use mathlib.Core.List.{List}
 use mathlib.Core.Path.{_≡_}
 use Prim.Native.Nat.{ℕ, _+_, _-_, _*_, _^_, _≤_, _<_}
-use lib.Dec.{eqb, ltb}
+use lib.Dec.{ltb}
 use lib.ListN.{length, getD}
 use Rattle.answer.specs.declared.Outcome.{Outcome}
 use Rattle.answer.specs.declared.Outcome.the-variants.{BadLevel}
 use Rattle.answer.specs.Numbers.{andThen, unless}
 use Rattle.quad.specs.Numbers.{topLevel, topColour, forkType, maxWords}
-use Rattle.quad.specs.Tree.{Tree, colour, sizeOf, treeOf}
+use Rattle.quad.specs.Tree.{Tree, colour, likeTypes, sizeOf, treeOf}
 use Rattle.raster.specs.Raster.{rasterLength, pixelsFrom}
 use Rattle.raster.specs.declared.Measured.{Measured}
 use Rattle.raster.specs.declared.Quarters.{Quarters}
@@ -30,14 +30,6 @@ pub record OnSheet (n l x y : ℕ) : Type 0 where
   pub across : x < 2 ^ (n - l)
   pub down : y < 2 ^ (n - l)
 
--- two kinds of like leaves
-unfoldable pub sameKind : ℕ → ℕ → Bool
-sameKind a b = not (eqb a forkType) && eqb a b
-
--- four kinds of like leaves
-unfoldable pub likeKinds : ℕ → ℕ → ℕ → ℕ → Bool
-likeKinds a b c d = sameKind a b && (sameKind a c && sameKind a d)
-
 -- no more nodes than a sheet's table has
 abbrev pub Few : Measured → Type 0
 Few m = 6 * m .nodes ≤ maxWords
@@ -49,7 +41,7 @@ measureOf t = record { nodes = sizeOf t; kind = colour t }
 -- what the join of four comes to
 unfoldable pub joinedOf : Measured → Measured → Measured → Measured → Measured
 joinedOf a b c d =
-    cond (likeKinds (a .kind) (b .kind) (c .kind) (d .kind)) a
+    cond (likeTypes (a .kind) (b .kind) (c .kind) (d .kind)) a
     (record { nodes = 1 + (a .nodes + (b .nodes + (c .nodes + d .nodes))); kind = forkType })
 
 -- what the quarters of the block (x, y) come to, where they are of level l

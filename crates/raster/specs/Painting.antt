@@ -6,8 +6,7 @@ use Prim.Native.Nat.{ℕ, _+_, _*_, _/_, _^_, _<_}
 use lib.Dec.{leb, ltb, eqb}
 use lib.ListN.{length, getD}
 use Rattle.quad.specs.Tree.{shade}
-use Rattle.table.specs.Table.{nodes}
-use Rattle.table.specs.Rules.{depthTo, Accepted}
+use Rattle.table.specs.Rules.{AtLevel}
 use Rattle.table.specs.Nodes.{treeAt}
 use Rattle.raster.specs.Blocks.{OnSheet}
 
@@ -37,10 +36,8 @@ inRows l X Y j x y = eqb (x / 2 ^ l) X && within (Y * 2 ^ l) j y
 abbrev pub coloursAt : List ℕ → ℕ → ℕ → ℕ → ℕ → ℕ
 coloursAt T l p = shade l (treeAt T l p)
 
--- node p of an accepted table is the block (x, y) of level l, for which the raster has its place
+-- node p is the block (x, y) of level l, for which the raster has its place
 pub record Paintable (n : ℕ) (T : List ℕ) (p l x y bytes : ℕ) : Type 0 where
-  pub accepted : Accepted n T
-  pub node : p < nodes T
-  pub level : l + depthTo T n p ≡ n
+  pub place : AtLevel n T p l
   pub block : OnSheet n l x y
   pub whole : bytes ≡ 4 ^ n

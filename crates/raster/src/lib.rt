@@ -8,7 +8,7 @@ ghost use Rattle.quad.specs.Numbers.{topLevel};
 ghost use Rattle.quad.specs.Tree.{treeOf};
 ghost use Rattle.raster.specs.Raster.{pictureOf, rasterLength, pixelsFrom};
 ghost use Rattle.raster.specs.Calls.{Builds, Decodes};
-ghost use Rattle.raster.specs.Blocks.{Picture, readableOf, OnSheet, Few, likeKinds, joinedOf, measureOf, quartersOf};
+ghost use Rattle.raster.specs.Blocks.{Picture, readableOf, OnSheet, Few, joinedOf, measureOf, quartersOf};
 ghost use Rattle.raster.specs.Painting.{Filled, Painted, inBlock, coloursAt, Paintable};
 ghost use Rattle.raster.specs.Writing.{lateWords, ForkRoom, forkPut, Ready, Put};
 
@@ -26,20 +26,12 @@ pub struct Quarters {
     pub se: Measured,
 }
 
-// The side of a sheet.
-fn side(n: u32) -> usize
-    requires { ⌜ n ≤ topLevel ⌝ }
-    ensures { λ r. ⌜ r ≡ 2 ^ n ⌝ }
-{
-    1 << n
-}
-
 // The pixel in column x and row y.
 fn pixel_at(raster: &[u8], n: u32, x: usize, y: usize) -> u32
     requires { ⌜ Picture n (now raster) × OnSheet n 0 x y ⌝ }
     ensures { λ r. ⌜ r ≡ pictureOf n (now (raster .entry)) x y ⌝ }
 {
-    let across = side(n);
+    let across = quad::side(n) as usize;
     raster[y * across + x] as u32
 }
 
@@ -54,28 +46,17 @@ fn leaf_at(raster: &[u8], n: u32, x: usize, y: usize) -> Measured
     }
 }
 
-// Whether four kinds are those of four like leaves.
-fn alike(nw: u32, ne: u32, sw: u32, se: u32) -> bool
-    ensures { λ r. ⌜ r ≡ likeKinds nw ne sw se ⌝ }
-{
-    if nw == quad::FORK as u32 {
-        return false;
-    }
-    if nw != ne {
-        return false;
-    }
-    if nw != sw {
-        return false;
-    }
-    nw == se
-}
-
 // What four quarters come to: one of them where they are like leaves, else a fork over them.
 fn joined(nw: Measured, ne: Measured, sw: Measured, se: Measured) -> Measured
     requires { ⌜ Few nw × Few ne × Few sw × Few se ⌝ }
     ensures { λ r. ⌜ r ≡ joinedOf nw ne sw se ⌝ }
 {
-    if alike(nw.kind, ne.kind, sw.kind, se.kind) {
+    if quad::like_leaves(
+        nw.kind as usize,
+        ne.kind as usize,
+        sw.kind as usize,
+        se.kind as usize,
+    ) {
         return nw;
     }
     Measured {
@@ -236,7 +217,7 @@ fn raster_length(n: u32, bytes: usize) -> Outcome
     requires { ⌜ n ≤ topLevel ⌝ }
     ensures { λ r. ⌜ r ≡ rasterLength n bytes ⌝ }
 {
-    let across = side(n);
+    let across = quad::side(n) as usize;
     if bytes != across * across {
         return Outcome::WrongLength { which: 1 };
     }
@@ -309,8 +290,8 @@ fn fill_block(raster: &mut [u8], n: u32, level: u32, x: usize, y: usize, colour:
     requires { ⌜ (n ≤ topLevel) × OnSheet n level x y × (length (now raster) ≡ 4 ^ n) ⌝ }
     ensures { λ _. ⌜ Painted n (inBlock level x y) (λ i j. colour) (now (raster .entry)) (now (raster .exit)) ⌝ }
 {
-    let across = side(n);
-    let width = side(level);
+    let across = quad::side(n) as usize;
+    let width = quad::side(level) as usize;
     let left = x * width;
     let top = y * width;
     let mut j = 0;
@@ -325,7 +306,7 @@ fn fill_pixel(raster: &mut [u8], n: u32, x: usize, y: usize, colour: u8)
     requires { ⌜ (n ≤ topLevel) × OnSheet n 0 x y × (length (now raster) ≡ 4 ^ n) ⌝ }
     ensures { λ _. ⌜ Painted n (inBlock 0 x y) (λ i j. colour) (now (raster .entry)) (now (raster .exit)) ⌝ }
 {
-    let across = side(n);
+    let across = quad::side(n) as usize;
     raster[y * across + x] = colour;
 }
 

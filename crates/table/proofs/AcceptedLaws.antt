@@ -1,22 +1,21 @@
 -- The laws of an accepted table, in any numbering: fathers stand below their sons, each node but the root is exactly one son of its father, depth is
 -- at most n, and the tree of a node has no needless fork. No crate above looks at the six rules again.
-use mathlib.Core.Bool.{Bool, true, false, not, _&&_, _||_, false≢true}
+use mathlib.Core.Bool.{Bool, true, false, not, false≢true}
 use mathlib.Core.List.{List}
 use mathlib.Core.Logic.{⊎-elim}
 use mathlib.Core.Path.{_≡_, refl, ap, sym, _∙_}
-use Prim.Native.Nat.{ℕ, zero, suc, _+_, _-_, _*_, _≤_, _<_}
+use Prim.Native.Nat.{ℕ, zero, suc, _+_, _-_, _≤_, _<_}
 use native.Mathlib.Nat.{eq-zero-or-pos}
 use native.Mathlib.Omega.{arith}
 use lib.Dec.{leb, eqb}
-use lib.ListN.{length}
 use borrow.Author.Tests.{eq-eqb, ne-eqb, eqb-true, ltb-true, leb-true, le-leb}
 use Rattle.base.proofs.BoolLaws.{by-bool, or-first, or-second}
-use Rattle.quad.specs.Numbers.{topColour, forkType, none}
+use Rattle.quad.specs.Numbers.{topLevel, topColour, forkType, none}
 use Rattle.quad.specs.Tree.{Tree, leaf, fork, colour, Within, Reduced, Coloured, alike}
 use Rattle.quad.proofs.TreeLaws.{by-quadrant, alike-leaves}
 use Rattle.table.specs.Table.{nodes, father, son, type, isFork}
-use Rattle.table.specs.Links.{SonIn, SonsIn}
-use Rattle.table.specs.Rules.{depthTo, typeOk, fatherOk, timesNamed, onceOk, depthOk, allOf, sonAlike, mixedOk, Accepted}
+use Rattle.table.specs.Links.{SonsIn}
+use Rattle.table.specs.Rules.{depthTo, typeOk, fatherOk, timesNamed, onceOk, depthOk, allOf, sonAlike, mixedOk, Accepted, AtLevel}
 use Rattle.table.specs.Nodes.{sonType, treeAt}
 use Rattle.table.proofs.RuleLaws.{depth-none, depth-root, depth-step, sons-in, sons-none, Passed, passed}
 use Rattle.table.proofs.FourLaws.{One, one-of-four}
@@ -209,3 +208,22 @@ module _ (n : ℕ) (T : List ℕ) (acc : Accepted n T) where
       rw (tree-fork T l p f) (fork-sound l _ _ _ _ (fork-mixed l p lt f d) (ih 0 (omega arith)) (ih 1 (omega arith)) (ih 2 (omega arith)) (ih 3 (omega arith))))
       (leaf-sound (suc l) p lt)
       (by-bool (isFork T p))
+
+-- a node whose level is known: the root's is n, a fork's is above 0, and its sons' is one less
+pub root-at : {n : ℕ} {T : List ℕ} → Accepted n T → AtLevel n T 0 n
+root-at {n} {T} acc = record { accepted = acc; node = acc .sized .some; level = omega (arith, depth-root T n) }
+
+module _ {n : ℕ} {T : List ℕ} {p l : ℕ} (h : AtLevel n T p l) where
+  pub level-top : l ≤ topLevel
+  level-top = omega (arith, h .level, h .accepted .sized .level)
+
+  module _ (f : isFork T p ≡ true) where
+    pub fork-above : 0 < l
+    fork-above = omega (arith, h .level, fork-deep n T (h .accepted) p (h .node) f)
+
+    pub son-at : (q : ℕ) → q < 4 → AtLevel n T (son T p q) (l - 1)
+    son-at q q4 = record {
+      accepted = h .accepted;
+      node = sons-of n T (h .accepted) p (h .node) f q q4 .below;
+      level = omega (arith, fork-above, h .level, depth-son n T (h .accepted) p q (h .node) f q4);
+    }

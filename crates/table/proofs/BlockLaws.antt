@@ -1,23 +1,23 @@
 -- A node's block by climbing: each father link passed, from the node to the root, is one binary digit of its column and of its row, the lowest first, and
--- one level less. For whoever climbs with a loop: `Climbed` is the invariant, and the laws are its start, one link more, its bounds and its end.
-use mathlib.Core.Bool.{true}
-use mathlib.Core.List.{List, _∷_}
+-- one level less. `Climbed` is the invariant of the loop that climbs, and the laws are its start, one link more, its bounds and its end.
+use mathlib.Core.List.{List}
 use mathlib.Core.Path.{_≡_, refl, ap, sym, _∙_}
-use Prim.Native.Nat.{ℕ, suc, _+_, _-_, _*_, _/_, _%_, _^_, _≤_, _<_}
+use Prim.Native.Nat.{ℕ, _+_, _-_, _*_, _/_, _%_, _^_, _≤_, _<_}
 use native.Mathlib.Nat.{mul-add, mul-assoc, mul-comm, one-mul, pow-succ', le-mul-of-pos-right}
 use native.Mathlib.Omega.{arith}
-use lib.ListN.{length}
 use lib.Pow.{pow-pos, pow-mono}
 use Rattle.quad.specs.Block.{column, row}
 use Rattle.quad.specs.Numbers.{topLevel}
 use Rattle.quad.proofs.PathLaws.{column-lt, row-lt}
-use Rattle.table.specs.Table.{nodes, father, isFork}
+use Rattle.table.specs.declared.block.Block.{Block}
+use Rattle.table.specs.Table.{nodes, father}
 use Rattle.table.specs.Rules.{depthTo, Accepted, Asked}
-use Rattle.table.specs.Nodes.{levelOf, sonType, pathTo, holder, Real}
+use Rattle.table.specs.Nodes.{levelOf, sonType, pathTo}
+use Rattle.table.specs.Blocks.{blockOf}
 use Rattle.table.proofs.RuleLaws.{depth-root}
-use Rattle.table.proofs.AcceptedLaws.{father-below, sonType-lt, son-sonType, father-fork, depth-le, depth-up}
-use Rattle.table.proofs.NodeLaws.{path-root, real-quadrants, path-of}
-use Rattle.table.proofs.HolderLaws.{path-up}
+use Rattle.table.proofs.AcceptedLaws.{father-below, sonType-lt, depth-le, depth-up}
+use Rattle.table.proofs.NodeLaws.{path-root}
+use Rattle.table.proofs.HolderLaws.{path-up, own-quadrants, own-depth}
 
 -- from p as far as q: `unit` is 2 to the number of links passed, c and r are column and row of p's block within q's, and l is n less the links passed
 pub record Climbed (n : ℕ) (T : List ℕ) (p q unit c r l : ℕ) : Type 0 where
@@ -34,10 +34,10 @@ digit c u b x = omega (arith, mul-add u b (2 * x), mul-comm b u, mul-assoc u 2 x
 module _ (n : ℕ) (T : List ℕ) (acc : Accepted n T) where
   -- a node's block lies on the sheet
   pub column-below : (p : ℕ) → p < nodes T → column (pathTo T n p) < 2 ^ depthTo T n p
-  column-below p lt = let a = path-of n T acc p lt in rw (a .size) at (column-lt (pathTo T n p) (real-quadrants T (pathTo T n p) (a .real)))
+  column-below p lt = rw (own-depth n T acc p lt) at (column-lt (pathTo T n p) (own-quadrants n T acc p lt))
 
   pub row-below : (p : ℕ) → p < nodes T → row (pathTo T n p) < 2 ^ depthTo T n p
-  row-below p lt = let a = path-of n T acc p lt in rw (a .size) at (row-lt (pathTo T n p) (real-quadrants T (pathTo T n p) (a .real)))
+  row-below p lt = rw (own-depth n T acc p lt) at (row-lt (pathTo T n p) (own-quadrants n T acc p lt))
 
   -- so many blocks of a node's size lie across the sheet
   across-top : (p : ℕ) → 2 ^ depthTo T n p ≤ 2 ^ topLevel
@@ -53,7 +53,7 @@ module _ (n : ℕ) (T : List ℕ) (acc : Accepted n T) where
   }
 
   -- at the root
-  pub climbed-all : (p q unit c r l : ℕ) → Climbed n T p q unit c r l → q ≡ 0 → (c ≡ column (pathTo T n p)) × (r ≡ row (pathTo T n p)) × (l ≡ levelOf n T p)
+  climbed-all : (p q unit c r l : ℕ) → Climbed n T p q unit c r l → q ≡ 0 → (c ≡ column (pathTo T n p)) × (r ≡ row (pathTo T n p)) × (l ≡ levelOf n T p)
   unfolding column row
   climbed-all p q unit c r l k z =
       let π : pathTo T n q ≡ _ = ap (pathTo T n) z ∙ path-root T n in
@@ -115,6 +115,14 @@ turn {n} {T} {p} {q} {unit} {c} {r} {l} a k h e =
       level = omega (arith, k .up, depth-up n T acc q lt pos, depth-le T n p);
       next = λ f up. rw up more;
     })
+
+-- so the climb ends with the node's block
+pub block-is : (n : ℕ) (T : List ℕ) (p q unit c r l : ℕ) → Asked n T p → Climbed n T p q unit c r l → q ≡ 0
+    → _≡_ {A = Block} (record { column = c; row = r; level = l }) (blockOf n T p)
+unfolding blockOf
+block-is n T p q unit c r l a k z =
+    let e = climbed-all n T (a .accepted) p q unit c r l k z in
+    rw (blockOf, e .0, e .1, e .2)
 
 -- the block of a node of an accepted sheet: no wider than the sheet
 pub record OnSheet (n : ℕ) (T : List ℕ) (p : ℕ) : Type 0 where

@@ -12,24 +12,12 @@ use borrow.Author.Tests.{eq-eqb, ne-eqb, eqb-true, eqb-false, ltb-false, leb-tru
 use Rattle.base.proofs.BoolLaws.{and-left, and-right, on}
 use Rattle.answer.specs.declared.Outcome.{Outcome}
 use Rattle.answer.specs.declared.Outcome.the-variants.{Answered, BadLevel, WrongLength, BadNode, TooDeep, NeedlessFork, NoNode}
-use Rattle.answer.proofs.OutcomeLaws.{then-go}
-use Rattle.answer.specs.Numbers.{codeOf, answers, andThen, unless}
+use Rattle.answer.proofs.OutcomeLaws.{then-go, both-answer, answers-unless}
+use Rattle.answer.specs.Numbers.{answers, unless}
 use Rattle.quad.specs.Numbers.{topLevel, maxWords}
 use Rattle.table.specs.Table.{nodes}
 use Rattle.table.proofs.RuleLaws.{from-none}
 use Rattle.table.specs.Rules.{faultAt, faulty, faultFrom, faultsOf, lengthOk, sizesOf, checkOf, askedOf, Sized, Accepted, Asked}
-
--- an outcome that answers, followed by the next
-pub go-on : (o next : Outcome) → answers (andThen o next) ≡ true → (answers o ≡ true) × (answers next ≡ true)
-go-on o next e = go (answers o) refl
-  where
-    go : (b : Bool) → answers o ≡ b → (answers o ≡ true) × (answers next ≡ true)
-    go true q = (q, rw q at e)
-    go false q = absurd (false≢true (sym q ∙ rw q at e))
-
-pub answers-unless : (b : Bool) (o : Outcome) → answers o ≡ false → answers (unless b o) ≡ true → b ≡ false
-answers-unless true o f e = absurd (false≢true (sym f ∙ e))
-answers-unless false o f e = refl
 
 module _ (n : ℕ) (T : List ℕ) where
   sized-length : lengthOk T ≡ true → (0 < nodes T) × (length T ≤ maxWords) × (length T ≡ 6 * nodes T)
@@ -48,7 +36,7 @@ module _ (n : ℕ) (T : List ℕ) where
   pub sized-of : answers (sizesOf n T) ≡ true → Sized n T
   unfolding sizesOf
   sized-of e =
-      let h = go-on (unless (ltb topLevel n) (BadLevel 0)) (unless (not (lengthOk T)) (WrongLength 0)) e in
+      let h = both-answer (unless (ltb topLevel n) (BadLevel 0)) (unless (not (lengthOk T)) (WrongLength 0)) e in
       let l = answers-unless (ltb topLevel n) (BadLevel 0) refl (h .0) in
       let k = answers-unless (not (lengthOk T)) (WrongLength 0) refl (h .1) in
       let s = sized-length (on (lengthOk T) (lengthOk T) refl k) in
@@ -129,7 +117,7 @@ module _ (n : ℕ) (T : List ℕ) where
   pub accepted-of : answers (checkOf n T) ≡ true → Accepted n T
   unfolding checkOf faultsOf
   accepted-of e =
-      let h = go-on (sizesOf n T) (faultFrom n T (nodes T) 0) e in
+      let h = both-answer (sizesOf n T) (faultFrom n T (nodes T) 0) e in
       record { sized = sized-of n T (h .0); faultless = λ p lt. from-answers (nodes T) 0 (h .1) p (omega arith) (omega arith) }
 
   pub check-accepted : Accepted n T → checkOf n T ≡ Answered (nodes T)
@@ -146,7 +134,7 @@ module _ (n : ℕ) (T : List ℕ) where
   pub asked-of : (p : ℕ) → answers (askedOf n T p) ≡ true → Asked n T p
   unfolding askedOf
   asked-of p e =
-      let h = go-on (checkOf n T) (unless (leb (nodes T) p) (NoNode p)) e in
+      let h = both-answer (checkOf n T) (unless (leb (nodes T) p) (NoNode p)) e in
       record { accepted = accepted-of (h .0); node = leb-false _ _ (answers-unless (leb (nodes T) p) (NoNode p) refl (h .1)) }
 
   pub asked-good : (p : ℕ) → Asked n T p → askedOf n T p ≡ Answered 0

@@ -37,8 +37,8 @@ module _ (n : ℕ) (T : List ℕ) (acc : Accepted n T) where
       rw ends at (node-at n T acc (sonType T p ∷ π) (sonType-lt n T acc p lt pos, k, a .real) .back n fits)
 
   -- a node's path is of quadrants
-  pub path-quadrants : (p : ℕ) → p < nodes T → Quadrants (pathTo T n p)
-  path-quadrants p lt = real-quadrants T (pathTo T n p) (path-of n T acc p lt .real)
+  pub own-quadrants : (p : ℕ) → p < nodes T → Quadrants (pathTo T n p)
+  own-quadrants p lt = real-quadrants T (pathTo T n p) (path-of n T acc p lt .real)
 
   -- a son's path: its quadrant, then the fork's path
   pub path-son : (p q : ℕ) → p < nodes T → isFork T p ≡ true → q < 4 → pathTo T n (son T p q) ≡ q ∷ pathTo T n p

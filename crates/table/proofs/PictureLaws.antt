@@ -1,26 +1,24 @@
 -- A table and its tree are one picture: the tree's node under a path is the tree of the node that holds it. So an accepted table's tree is the one tree
 -- of its pixels, and two accepted tables with one picture have one tree.
-use mathlib.Core.Bool.{Bool, true, false, cond}
+use mathlib.Core.Bool.{true, false, cond}
 use mathlib.Core.List.{List, [], _∷_}
 use mathlib.Core.Logic.{⊎-elim}
-use mathlib.Core.Path.{_≡_, refl, ap, sym, _∙_}
-use Prim.Native.Nat.{ℕ, zero, suc, _+_, _-_, _^_, _≤_, _<_}
+use mathlib.Core.Path.{_≡_, refl, sym, _∙_}
+use Prim.Native.Nat.{ℕ, suc, _+_, _^_, _<_}
 use native.Mathlib.Nat.{zero-add}
 use native.Mathlib.Omega.{arith}
 use lib.ListN.{length}
 use Rattle.base.proofs.BoolLaws.{by-bool}
-use Rattle.quad.specs.Numbers.{topColour}
 use Rattle.quad.specs.Block.{pathOf, Quadrants}
-use Rattle.quad.specs.Tree.{Tree, leaf, fork, colour, sonOf, under, shade, treeOf, Shows}
+use Rattle.quad.specs.Tree.{fork, colour, sonOf, under, shade, treeOf, Shows}
 use Rattle.quad.proofs.PathLaws.{path-length, path-quadrants}
 use Rattle.quad.proofs.TreeLaws.{by-quadrant}
 use Rattle.quad.proofs.PictureLaws.{one-tree, one-picture-one-tree}
-use Rattle.table.specs.Table.{nodes, son, type, isFork}
-use Rattle.table.specs.Rules.{Accepted, depthTo}
+use Rattle.table.specs.Table.{son, isFork}
+use Rattle.table.specs.Rules.{Accepted}
 use Rattle.table.specs.Nodes.{holder, pixel, treeAt}
 use Rattle.table.proofs.RuleLaws.{depth-root}
-use Rattle.table.proofs.AcceptedLaws.{tree-zero, tree-leaf, tree-fork, Sound, tree-sound, leaf-colour, fork-deep}
-use Rattle.table.proofs.NodeLaws.{holder-root, holder-fork, holder-leaf, holder-below}
+use Rattle.table.proofs.AcceptedLaws.{tree-zero, tree-leaf, tree-fork, Sound, tree-sound}
 
 -- son q of a node's tree, for any words
 pub tree-son : (T : List ℕ) (l p q : ℕ) → q < 4 → sonOf (treeAt T (suc l) p) q ≡ treeAt T l (cond (isFork T p) (son T p q) p)

@@ -1,6 +1,6 @@
 -- A table that is the preorder table of a sound tree is accepted, and stands for that tree. Induction on the level; the four sons are one case, son q
 -- standing at node `sonNode p t q`.
-use mathlib.Core.Bool.{Bool, true, false, not, _&&_, _||_}
+use mathlib.Core.Bool.{Bool, true, false, not, _&&_}
 use mathlib.Core.List.{List, [], _∷_, _++_}
 use mathlib.Core.Logic.{⊎-elim}
 use mathlib.Core.Path.{_≡_, refl, ap, sym, _∙_}
@@ -11,10 +11,10 @@ use lib.Dec.{leb, eqb}
 use lib.ListN.{length, getD, length-append, List·getD-append}
 use lib.Seq.{getD-append-add}
 use borrow.Author.Tests.{eq-eqb, ne-eqb, eqb-true, lt-ltb, le-leb, leb-true}
-use Rattle.base.proofs.BoolLaws.{lt-or-ge}
+use Rattle.base.proofs.BoolLaws.{or-true, lt-or-ge}
 use Rattle.quad.specs.Numbers.{topLevel, topColour, none, forkType}
 use Rattle.quad.specs.Tree.{Tree, leaf, fork, sonOf, Within, Reduced, Coloured, sizeOf}
-use Rattle.quad.proofs.TreeLaws.{by-quadrant, each-son, within-son, reduced-son, same-sons, size-pos, size-fits}
+use Rattle.quad.proofs.TreeLaws.{by-quadrant, each-son, within-son, coloured-son, reduced-son, same-sons, size-pos, size-fits}
 use Rattle.table.specs.Table.{nodes, father, son, type, isFork}
 use Rattle.table.specs.Rules.{depthTo, allOf, one, typeOk, fatherOk, onceOk, sonOk, wordOk, sonsOk, depthOk, sonAlike, mixedOk, faultAt, Accepted}
 use Rattle.table.specs.Nodes.{treeAt}
@@ -196,15 +196,6 @@ named-once g rise q lt = rw (same 0, same 1, same 2, same 3) (by-quadrant (λ (q
 all-four : (g : ℕ → Bool) → ((q : ℕ) → q < 4 → g q ≡ true) → allOf g 4 0 ≡ true
 unfolding allOf
 all-four g h = rw (h 0 (omega arith), h 1 (omega arith), h 2 (omega arith), h 3 (omega arith))
-
-or-true : (b : Bool) → b || true ≡ true
-or-true true = refl
-or-true false = refl
-
-pub coloured-son : (t : Tree) → Coloured t → (q : ℕ) → Coloured (sonOf t q)
-unfolding Coloured
-coloured-son (leaf c) h q = unfold sonOf in h
-coloured-son (fork a b c d) h q = each-son Coloured h q
 
 -- rules 2 and 3, which a node keeps by its father's words
 record Placed (T : List ℕ) (p : ℕ) : Type 0 where

@@ -1,5 +1,5 @@
 -- The six rules turn by turn, as the check's functions go through them.
-use mathlib.Core.Bool.{Bool, true, false, not, cond, _&&_, _||_}
+use mathlib.Core.Bool.{Bool, true, false, not, _&&_}
 use mathlib.Core.List.{List}
 use mathlib.Core.Logic.{⊎-elim}
 use mathlib.Core.Path.{_≡_, refl, ap, sym, _∙_}
@@ -10,7 +10,6 @@ use lib.Dec.{leb, ltb, eqb}
 use lib.ListN.{length}
 use borrow.Author.Tests.{eq-eqb, ne-eqb, eqb-true, ltb-true, lt-ltb, le-ltb}
 use Rattle.base.proofs.BoolLaws.{and-left, and-right, on, off}
-use Rattle.answer.specs.declared.Outcome.{Outcome}
 use Rattle.answer.specs.declared.Outcome.the-variants.{Answered, BadLevel, WrongLength}
 use Rattle.quad.specs.Numbers.{none, topLevel, maxWords}
 use Rattle.table.specs.Table.{nodes, father, son, isFork}

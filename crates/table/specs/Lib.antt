@@ -1,6 +1,7 @@
 pub mod Table
 pub mod Rules
 pub mod Nodes
+pub mod Blocks
 pub mod Preorder
 pub mod Links
 pub mod SheetA

@@ -117,3 +117,9 @@ pub record Accepted (n : ℕ) (T : List ℕ) : Type 0 where
 pub record Asked (n : ℕ) (T : List ℕ) (p : ℕ) : Type 0 where
   pub accepted : Accepted n T
   pub node : p < nodes T
+
+-- and the node is of level l
+pub record AtLevel (n : ℕ) (T : List ℕ) (p l : ℕ) : Type 0 where
+  pub accepted : Accepted n T
+  pub node : p < nodes T
+  pub level : l + depthTo T n p ≡ n

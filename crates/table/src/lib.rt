@@ -1,4 +1,4 @@
-// The node table: its words, its links and the check.
+// The node table: its words, its links, the check, and where a node's block lies.
 use answer::Outcome;
 ghost use mathlib.Core.Path.{_≡_};
 ghost use mathlib.Core.Bool.{true};
@@ -12,6 +12,8 @@ ghost use Rattle.table.specs.Table.{word, nodes, father, son};
 ghost use Rattle.table.specs.Rules.{depthTo, allOf, one, typeOk, fatherOk, onceOk, sonOk, wordOk, sonsOk, depthOk, sonAlike, mixedOk, faultAt, faulty, faultsOf, lengthOk, sizesOf, checkOf, askedOf};
 ghost use Rattle.table.specs.Nodes.{sonType};
 ghost use Rattle.table.specs.Links.{Rising, SonsIn};
+
+pub mod block;
 
 // The node count.
 pub fn node_count(table: &[u32]) -> usize

@@ -13,7 +13,6 @@ use Rattle.table.specs.Table.{nodes, father, son, type}
 use Rattle.table.specs.Rules.{sizesOf}
 use Rattle.walk.specs.declared.Place.{Place}
 use Rattle.walk.specs.declared.Stepped.{Stepped}
-use Rattle.walk.specs.declared.Answer.{Answer}
 use Rattle.walk.specs.declared.Answer.the-variants.{Moved, Run, EndRow, Done, Refused}
 
 -- the start place of a sheet of level n

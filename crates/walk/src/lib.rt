@@ -55,14 +55,6 @@ pub fn start(n: u32) -> Place
     }
 }
 
-// The side of a block.
-fn side(level: u32) -> u32
-    requires { ⌜ level ≤ topLevel ⌝ }
-    ensures { λ r. ⌜ r ≡ 2 ^ level ⌝ }
-{
-    1u32 << level
-}
-
 // A refused step hands back the place it was given.
 fn refused(p: Place, o: Outcome) -> Stepped
     ensures { λ r. ⌜ r ≡ refuse p o ⌝ }
@@ -88,14 +80,14 @@ fn bad_place(p: Place, count: usize) -> bool
     if count <= p.node as usize {
         return true;
     }
-    let whole = side(p.n);
+    let whole = quad::side(p.n);
     if whole < p.x {
         return true;
     }
     if whole < p.y {
         return true;
     }
-    let own = side(level);
+    let own = quad::side(level);
     if p.left % own != 0 {
         return true;
     }
@@ -110,7 +102,7 @@ fn spans_x(p: Place) -> bool
     if p.x < p.left {
         return false;
     }
-    p.x - p.left < side(p.level)
+    p.x - p.left < quad::side(p.level)
 }
 
 // At a fork whose columns hold x: to the son whose quarter holds (x, y).
@@ -119,7 +111,7 @@ fn down(p: Place, table: &[u32]) -> Stepped
     ensures { λ r. ⌜ r ≡ insideOf (now (table .entry)) p ⌝ }
 {
     let level = p.level - 1;
-    let half = side(level);
+    let half = quad::side(level);
     let east = p.x / half % 2;
     let south = p.y / half % 2;
     let son = word_at(table, p.node as usize, (1 + (east + 2 * south)) as usize);
@@ -146,7 +138,7 @@ fn inside(p: Place, table: &[u32]) -> Stepped
 {
     let kind = word_at(table, p.node as usize, 5);
     if kind <= quad::TOP_COLOUR {
-        let end = p.left + side(p.level);
+        let end = p.left + quad::side(p.level);
         return Stepped {
             place: Place {
                 n: p.n,
@@ -194,7 +186,7 @@ fn outside(p: Place, table: &[u32]) -> Stepped
     if node_count(table) <= father {
         return refused(p, Outcome::BadPlace);
     }
-    let above = side(level + 1);
+    let above = quad::side(level + 1);
     Stepped {
         place: Place {
             n: p.n,
@@ -216,7 +208,7 @@ fn step_in(p: Place, table: &[u32]) -> Stepped
     if bad_place(p, node_count(table)) {
         return refused(p, Outcome::BadPlace);
     }
-    if p.y == side(p.n) {
+    if p.y == quad::side(p.n) {
         return Stepped {
             place: p,
             answer: Answer::Done,

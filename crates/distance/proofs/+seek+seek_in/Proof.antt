@@ -4,17 +4,16 @@ use Prim.Native.Nat.{ℕ, _+_, _*_, _<_}
 use mathlib.Core.Path.{refl}
 use native.Mathlib.Omega.{arith}
 use borrow.Author.Needs.{needs}
+use Rattle.table.proofs.AcceptedLaws.{level-top, fork-above}
 use Rattle.distance.proofs.SearchLaws.{
   stopped,
   at-white,
   at-black,
-  fork-level,
   near-lt,
   next-lt,
   quarter-asks,
   quarters,
   son-lt,
-  spot-level,
   room-across,
   room-down,
   enter-asks,
@@ -32,7 +31,7 @@ use Rattle.distance.proofs.farther_by.Reads as farther-by-reads
 use Rattle.distance.proofs.larger.Reads as larger-reads
 use Rattle.distance.proofs.near_quarter.Reads as near-quarter-reads
 use Rattle.distance.proofs.next_quarter.Reads as next-quarter-reads
-use Rattle.distance.proofs.side.Reads as side-reads
+use Rattle.quad.proofs.side.Reads as side-reads
 use Rattle.table.proofs.word_at.Reads as word-at-reads
 use Rattle.distance.proofs.+seek+seek_in.{statement}
 use Rattle.distance.proofs.+seek+seek_in.Tie.{close}
@@ -75,7 +74,7 @@ in-seek-in t = (
 
 module _ (t : ℕ) where
   seek-sub-m : seek-lts.Need-sub-m (in-seek t) (seek-at t) seek.Post
-  seek-sub-m c = fork-level (c .before .pre .1 .0) (c .before .pre .1 .1)
+  seek-sub-m c = fork-above (c .before .pre .1 .0 .place) (c .before .pre .1 .1)
 
   seek-near-quarter-requires : seek-lts.Need-near-quarter-requires (in-seek t) (seek-at t) seek.Post
   seek-near-quarter-requires c κs = search needs
@@ -105,7 +104,7 @@ module _ (t : ℕ) where
   seek-returns c = quarters (c .before .before .before .before .before .before .before .pre .1 .0) (c .before .before .before .before .before .before .before .pre .1 .1) _ _ _ _ _ _ _ _ _ (omega (arith, c .before .before .before .before .before .before .before .fits .best)) (c .before .before .before .before .before .near-quarter .ensures) (c .before .before .before .before .next-quarter .ensures) (c .before .before .before .seek-in .ensures) (c .before .before .seek-in2 .ensures) (c .before .seek-in3 .ensures) (c .seek-in4 .ensures)
 
   seek-in-side-requires : seek-in-lts.Need-side-requires (in-seek-in t) (seek-in-at t) seek-in.Post
-  seek-in-side-requires c κs = omega (arith, spot-level (c .before .pre .1 .0))
+  seek-in-side-requires c κs = omega (arith, level-top (c .before .pre .1 .0 .place))
 
   seek-in-farther-by-requires : seek-in-lts.Need-farther-by-requires (in-seek-in t) (seek-in-at t) seek-in.Post
   seek-in-farther-by-requires c κs = search needs
@@ -129,7 +128,7 @@ module _ (t : ℕ) where
   seek-in-add-word-at c = omega (arith, c .before .before .before .before .before .before .pre .1 .2)
 
   seek-in-word-at-requires : seek-in-lts.Need-word-at-requires (in-seek-in t) (seek-in-at t) seek-in.Post
-  seek-in-word-at-requires c κs = (c .before .before .before .before .before .before .pre .1 .0 .node, omega (arith, c .before .before .before .before .before .before .pre .1 .2))
+  seek-in-word-at-requires c κs = (c .before .before .before .before .before .before .pre .1 .0 .place .node, omega (arith, c .before .before .before .before .before .before .pre .1 .2))
 
   seek-in-word-at-requires-2 : seek-in-lts.Need-word-at-requires-2 (in-seek-in t) (seek-in-at t) seek-in.Post
   seek-in-word-at-requires-2 c κs = (son-lt _ (c .before .before .before .before .before .before .before .pre .1 .0) (c .before .before .before .before .before .before .before .pre .1 .1) (c .before .before .before .before .before .before .before .pre .1 .2) (c .word-at .ensures), omega arith)

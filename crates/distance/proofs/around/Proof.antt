@@ -4,9 +4,10 @@ use Prim.Native.Nat.{_-_, _≤_, _^_, min}
 use mathlib.Core.Path.{_≡_}
 use native.Mathlib.Omega.{arith}
 use lib.Pow.{pow-pos}
+use Rattle.table.proofs.AcceptedLaws.{level-top}
 use Rattle.neighbour.specs.Search.{stay}
 use Rattle.distance.specs.Around.{offsetAround}
-use Rattle.distance.proofs.AroundLaws.{inner-level, around-none, around-more, around-zero, around-all}
+use Rattle.distance.proofs.AroundLaws.{around-none, around-more, around-zero, around-all}
 use Rattle.distance.proofs.around.Statement.{statement}
 use Rattle.distance.proofs.around.Tie as tie
 
@@ -17,7 +18,7 @@ abbrev μ-loop : tie.MeasureT-loop
 μ-loop n table p level best₀ direction₀ best direction = stay - direction
 
 side-requires : tie.Need-side-requires Inv-loop μ-loop
-side-requires c κs = inner-level _ _ _ _ (c .before .pre)
+side-requires c κs = level-top (c .before .pre .place)
 
 sub-best : tie.Need-sub-best Inv-loop μ-loop
 sub-best c = omega (arith, c .side .ensures, pow-pos (c .before .before .args .level))

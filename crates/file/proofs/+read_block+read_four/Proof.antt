@@ -11,7 +11,7 @@ use Rattle.file.proofs.+read_block+read_four.Lts-read_block as read-blo
 use Rattle.file.proofs.read_four.Reads as read-four
 use Rattle.file.proofs.read_four.Kinds as read-four-kinds
 use Rattle.file.proofs.+read_block+read_four.Lts-read_four as read-four-lts
-use Rattle.file.proofs.like_leaves.Reads as like-leaves-reads
+use Rattle.quad.proofs.like_leaves.Reads as like-leaves-reads
 use Rattle.file.proofs.read_record.Reads as read-record-reads
 use Rattle.file.proofs.+read_block+read_four.{statement}
 use Rattle.file.proofs.+read_block+read_four.Tie.{close}

@@ -28,7 +28,7 @@ abbrev calls : ℕ → write-block-lts.Claims
 calls t = (word-at-reads.Asked, word-at-reads.Learnt, put-record-reads.Asked, put-record-reads.Learnt, write-block-below t, write-block.Post)
 
 write-block-word-at-requires : (t : ℕ) → write-block-lts.Need-word-at-requires (calls t) (write-block-at t) write-block.Post
-write-block-word-at-requires t c κs = (c .before .before .pre .1 .node, omega arith)
+write-block-word-at-requires t c κs = (c .before .before .pre .1 .place .node, omega arith)
 
 write-block-cast-put-record : (t : ℕ) → write-block-lts.Need-cast-put-record (calls t) (write-block-at t) write-block.Post
 write-block-cast-put-record t c = omega (arith, kind-byte _ _ _ _ (c .before .before .before .before .args .file .now) (c .before .before .before .before .pre .1) _ (c .before .word-at .ensures))
@@ -49,16 +49,16 @@ write-block-sub-below : (t : ℕ) → write-block-lts.Need-sub-below (calls t) (
 write-block-sub-below t c = omega (arith, deep _ _ _ _ (c .before .before .before .before .before .before .before .before .args .file .now) (c .before .before .before .before .before .before .before .before .pre .1) _ (c .before .before .before .before .before .word-at .ensures) _ (c .before .before .before .put-record .ensures) (c .if1 .left))
 
 write-block-word-at-requires-2 : (t : ℕ) → write-block-lts.Need-word-at-requires-2 (calls t) (write-block-at t) write-block.Post
-write-block-word-at-requires-2 t c κs = (c .before .before .before .before .before .before .before .before .pre .1 .node, omega arith)
+write-block-word-at-requires-2 t c κs = (c .before .before .before .before .before .before .before .before .pre .1 .place .node, omega arith)
 
 write-block-word-at-requires-3 : (t : ℕ) → write-block-lts.Need-word-at-requires-3 (calls t) (write-block-at t) write-block.Post
-write-block-word-at-requires-3 t c κs = (c .before .before .before .before .before .before .before .before .before .pre .1 .node, omega arith)
+write-block-word-at-requires-3 t c κs = (c .before .before .before .before .before .before .before .before .before .pre .1 .place .node, omega arith)
 
 write-block-word-at-requires-4 : (t : ℕ) → write-block-lts.Need-word-at-requires-4 (calls t) (write-block-at t) write-block.Post
-write-block-word-at-requires-4 t c κs = (c .before .before .before .before .before .before .before .before .before .before .pre .1 .node, omega arith)
+write-block-word-at-requires-4 t c κs = (c .before .before .before .before .before .before .before .before .before .before .pre .1 .place .node, omega arith)
 
 write-block-word-at-requires-5 : (t : ℕ) → write-block-lts.Need-word-at-requires-5 (calls t) (write-block-at t) write-block.Post
-write-block-word-at-requires-5 t c κs = (c .before .before .before .before .before .before .before .before .before .before .before .pre .1 .node, omega arith)
+write-block-word-at-requires-5 t c κs = (c .before .before .before .before .before .before .before .before .before .before .before .pre .1 .place .node, omega arith)
 
 write-block-write-block-requires : (t : ℕ) → write-block-lts.Need-write-block-requires (calls t) (write-block-at t) write-block.Post
 write-block-write-block-requires t c κs =

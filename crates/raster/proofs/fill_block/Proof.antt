@@ -1,5 +1,6 @@
 -- `raster::fill_block`: the first j rows are filled. The measure is the rows left. Assumes nothing.
 use native.Mathlib.Omega.{arith}
+use borrow.Author.Needs.{needs}
 use Rattle.raster.proofs.BlockLaws.{block-fits, corner-small, row-place}
 use Rattle.raster.proofs.PaintingLaws.{rows-none, rows-more, rows-all}
 use Prim.Native.Nat.{_-_, _^_, _≤_}
@@ -17,8 +18,14 @@ abbrev μ-loop : tie.MeasureT-loop
 side-requires : tie.Need-side-requires Inv-loop μ-loop
 side-requires c κs = c .before .pre .0
 
+cast-across : tie.Need-cast-across Inv-loop μ-loop
+cast-across c = search needs
+
 side-requires-2 : tie.Need-side-requires-2 Inv-loop μ-loop
 side-requires-2 c κs = omega (arith, c .before .before .pre .0, c .before .before .pre .1 .low)
+
+cast-width : tie.Need-cast-width Inv-loop μ-loop
+cast-width c = search needs
 
 mul-left : tie.Need-mul-left Inv-loop μ-loop
 mul-left c = record { fits = rw (c .side2 .ensures) (omega (arith, corner-small (c .before .before .before .pre .0) (c .before .before .before .pre .1))) }
@@ -67,7 +74,9 @@ fill-block-spec =
     Inv-loop
     μ-loop
     side-requires
+    cast-across
     side-requires-2
+    cast-width
     mul-left
     mul-top
     loop-holds

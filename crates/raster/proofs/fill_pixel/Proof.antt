@@ -9,6 +9,9 @@ use Rattle.raster.proofs.fill_pixel.Tie as tie
 side-requires : tie.Need-side-requires
 side-requires c κs = search needs
 
+cast-across : tie.Need-cast-across
+cast-across c = search needs
+
 mul-raster : tie.Need-mul-raster
 mul-raster c = record { fits = rw (c .side .ensures) (omega (arith, place-fits (c .before .before .pre .0) (c .before .before .pre .1))) }
 
@@ -26,4 +29,4 @@ returns c = rw (c .side .ensures) (painted-pixel _ _ _ _ _ (c .before .before .p
 
 pub fill-pixel-spec : {M : Type 1} → statement M
 fill-pixel-spec =
-    tie.close (tie.spec side-requires mul-raster add-raster slice-write-raster same-length returns)
+    tie.close (tie.spec side-requires cast-across mul-raster add-raster slice-write-raster same-length returns)

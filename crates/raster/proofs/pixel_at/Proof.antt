@@ -9,6 +9,9 @@ use Rattle.raster.proofs.pixel_at.Tie as tie
 side-requires : tie.Need-side-requires
 side-requires c κs = search needs
 
+cast-across : tie.Need-cast-across
+cast-across c = search needs
+
 mul-result : tie.Need-mul-result
 mul-result c =
     let s = c .before .before in
@@ -35,4 +38,4 @@ returns c = rw (c .before .side .ensures)
 pub pixel-at-spec : {M : Type 1} → statement M
 pixel-at-spec =
     tie.close
-    (tie.spec side-requires mul-result add-result shared-slice-read-result cast-result returns)
+    (tie.spec side-requires cast-across mul-result add-result shared-slice-read-result cast-result returns)

@@ -4,7 +4,6 @@ use Rattle.table.specs.Rules.{depthTo}
 use Prim.Native.Nat.{ℕ, _+_, _-_, _≤_}
 use mathlib.Core.Path.{_≡_, ap}
 use native.Mathlib.Omega.{arith}
-use borrow.Author.Needs.{needs}
 use Rattle.table.proofs.depth_to.Statement.{statement}
 use Rattle.table.proofs.depth_to.Tie as tie
 

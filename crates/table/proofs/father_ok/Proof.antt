@@ -4,9 +4,6 @@ use Rattle.table.specs.Rules.{fatherOk}
 use borrow.Author.Needs.{needs}
 use Rattle.table.proofs.father_ok.Statement.{statement}
 use Rattle.table.proofs.father_ok.Tie as tie
-use Rattle.table.proofs.father_ok.Reads as reads
-use Rattle.table.proofs.father_ok.Lts as lts
-use Rattle.table.proofs.word_at.Reads as word-at-reads
 
 -- src/lib.rt:63:9
 word-at-requires : tie.Need-word-at-requires

@@ -1,7 +1,5 @@
 -- `table::length_ok` tests the length as document 01 has it. Assumes nothing.
 use Rattle.table.proofs.RuleLaws.{length-empty, length-broken, length-whole}
-use Rattle.table.specs.Rules.{lengthOk}
-use Rattle.base.proofs.CaseLaws.{cases}
 use borrow.Author.Needs.{needs}
 use Rattle.table.proofs.length_ok.Statement.{statement}
 use Rattle.table.proofs.length_ok.Tie as tie

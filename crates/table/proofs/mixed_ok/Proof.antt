@@ -6,7 +6,6 @@ use Rattle.table.specs.Table.{type, son, isFork}
 use Rattle.quad.specs.Numbers.{topColour}
 use Rattle.base.proofs.BoolLaws.{on, off, not-leb}
 use borrow.Author.Tests.{eq-eqb, ne-eqb}
-use Prim.Native.Nat.{ℕ}
 use mathlib.Core.Bool.{true}
 use mathlib.Core.Path.{_≡_, ap, sym, _∙_}
 use native.Mathlib.Omega.{arith}

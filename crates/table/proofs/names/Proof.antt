@@ -3,9 +3,6 @@ use borrow.Author.Tests.{eq-eqb, ne-eqb}
 use borrow.Author.Needs.{needs}
 use Rattle.table.proofs.names.Statement.{statement}
 use Rattle.table.proofs.names.Tie as tie
-use Rattle.table.proofs.names.Reads as reads
-use Rattle.table.proofs.names.Lts as lts
-use Rattle.table.proofs.word_at.Reads as word-at-reads
 
 -- src/lib.rt:75:31
 add-word-at : tie.Need-add-word-at

@@ -1,11 +1,9 @@
 -- `table::once_ok` is rule 3: the father stands below p, and of its son words the four counts are added. Assumes nothing.
 use Rattle.table.proofs.RuleLaws.{rising-at, once-named}
 use Rattle.table.specs.Rules.{onceOk}
-use borrow.Author.Tests.{eq-eqb, ne-eqb}
-use lib.Dec.{eqb}
-use Rattle.table.specs.Table.{nodes, son}
-use Prim.Native.Nat.{ℕ, _+_, _<_}
-use mathlib.Core.Path.{_≡_}
+use borrow.Author.Tests.{eq-eqb}
+use Rattle.table.specs.Table.{nodes}
+use Prim.Native.Nat.{_+_, _<_}
 use native.Mathlib.Omega.{arith}
 use borrow.Author.Needs.{needs}
 use Rattle.table.proofs.once_ok.Statement.{statement}

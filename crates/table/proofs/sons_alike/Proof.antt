@@ -3,10 +3,9 @@ use Rattle.table.proofs.RuleLaws.{all-none, all-more, all-fails}
 use Rattle.table.specs.Rules.{allOf, sonAlike}
 use Rattle.table.specs.Table.{type, son}
 use borrow.Author.Tests.{eq-eqb, ne-eqb}
-use Prim.Native.Nat.{ℕ, _-_, _≤_}
+use Prim.Native.Nat.{_-_, _≤_}
 use mathlib.Core.Path.{_≡_, refl, sym, ap, _∙_}
 use native.Mathlib.Omega.{arith}
-use borrow.Author.Needs.{needs}
 use Rattle.table.proofs.sons_alike.Statement.{statement}
 use Rattle.table.proofs.sons_alike.Tie as tie
 

@@ -2,10 +2,9 @@
 use Rattle.table.proofs.RuleLaws.{all-none, all-more, all-fails}
 use Rattle.table.specs.Rules.{allOf, wordOk, sonsOk}
 use borrow.Author.Tests.{not-true, not-false}
-use Prim.Native.Nat.{ℕ, _-_, _≤_}
+use Prim.Native.Nat.{_-_, _≤_}
 use mathlib.Core.Path.{_≡_, refl, sym, _∙_}
 use native.Mathlib.Omega.{arith}
-use borrow.Author.Needs.{needs}
 use Rattle.table.proofs.sons_ok.Statement.{statement}
 use Rattle.table.proofs.sons_ok.Tie as tie
 

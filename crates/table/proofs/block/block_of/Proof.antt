@@ -1,15 +1,14 @@
--- `ground::block::block_of` climbs: the digits passed and those of q's block are p's column and row (`Climbed`). The measure is q, since fathers stand below sons. Assumes nothing.
-use Rattle.ground.proofs.CentreLaws.{block-is}
+-- `table::block::block_of` climbs: the digits passed and those of q's block are p's column and row (`Climbed`). The measure is q, since fathers stand below sons. Assumes nothing.
 use borrow.Author.Needs.{needs}
 use mathlib.Core.Path.{refl}
 use native.Mathlib.Omega.{arith}
-use Rattle.table.proofs.BlockLaws.{Climbed, climbed-none, Turn, turn}
-use Rattle.ground.proofs.block.block_of.Statement.{statement}
-use Rattle.ground.proofs.block.block_of.Tie as tie
-use Rattle.ground.proofs.block.block_of.Reads as reads
-use Rattle.ground.proofs.block.block_of.Lts as lts
+use Rattle.table.proofs.BlockLaws.{Climbed, climbed-none, Turn, turn, block-is}
+use Rattle.table.proofs.block.block_of.Statement.{statement}
+use Rattle.table.proofs.block.block_of.Tie as tie
+use Rattle.table.proofs.block.block_of.Reads as reads
+use Rattle.table.proofs.block.block_of.Lts as lts
 use Rattle.table.proofs.son_type.Reads as son-type-reads
 use Rattle.table.proofs.word_at.Reads as word-at-reads
 
 abbrev Inv-loop : tie.InvT-loop
 Inv-loop n table p q₀ unit₀ column₀ row₀ level₀ q unit column row level = Climbed n table p q unit column row level

@@ -1,9 +1,9 @@
--- `distance::side`: a shift is a power of two, and no bit is lost. Assumes nothing.
+-- `quad::side`: a shift is a power of two, and no bit is lost. Assumes nothing.
 use lib.Pow.{shl-exact}
 use native.Mathlib.Omega.{arith}
 use borrow.Author.Needs.{needs}
-use Rattle.distance.proofs.side.Statement.{statement}
-use Rattle.distance.proofs.side.Tie as tie
+use Rattle.quad.proofs.side.Statement.{statement}
+use Rattle.quad.proofs.side.Tie as tie
 
 shl-result : tie.Need-shl-result
 shl-result c = search needs

@@ -1,24 +1,24 @@
--- Each early return is one test of the definition.
+-- `quad::like_leaves`: each early return is one test of the definition. Assumes nothing.
 use borrow.Author.Needs.{needs}
 use Rattle.base.proofs.CaseLaws.{cases}
-use Rattle.file.specs.Reading.{likeKinds}
-use Rattle.file.proofs.like_leaves.Statement.{statement}
-use Rattle.file.proofs.like_leaves.Tie as tie
+use Rattle.quad.specs.Tree.{likeTypes}
+use Rattle.quad.proofs.like_leaves.Statement.{statement}
+use Rattle.quad.proofs.like_leaves.Tie as tie
 
 returns : tie.Need-returns
-unfolding likeKinds
+unfolding likeTypes
 returns c = search (cases, needs)
 
 returns-2 : tie.Need-returns-2
-unfolding likeKinds
+unfolding likeTypes
 returns-2 c = search (cases, needs)
 
 returns-3 : tie.Need-returns-3
-unfolding likeKinds
+unfolding likeTypes
 returns-3 c = search (cases, needs)
 
 returns-4 : tie.Need-returns-4
-unfolding likeKinds
+unfolding likeTypes
 returns-4 c = search (cases, needs)
 
 pub like-leaves-spec : {M : Type 1} → statement M

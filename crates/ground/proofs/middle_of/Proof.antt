@@ -1,8 +1,8 @@
--- `ground::block::middle_of`: the same formula for column and row. Assumes nothing.
+-- `ground::middle_of`: the same formula for column and row. Assumes nothing.
 use Rattle.ground.proofs.CentreLaws.{across-fits, down-fits, middle-is}
 use borrow.Author.Needs.{needs}
-use Rattle.ground.proofs.block.middle_of.Statement.{statement}
-use Rattle.ground.proofs.block.middle_of.Tie as tie
+use Rattle.ground.proofs.middle_of.Statement.{statement}
+use Rattle.ground.proofs.middle_of.Tie as tie
 
 block-of-requires : tie.Need-block-of-requires
 block-of-requires c κs = search needs

@@ -1,8 +1,8 @@
--- `ground::block::half_pixels`: the shift is exact, since index and level are a sheet's. Assumes nothing.
+-- `ground::half_pixels`: the shift is exact, since index and level are a sheet's. Assumes nothing.
 use Rattle.ground.proofs.GroundLaws.{half-pixels-is}
 use borrow.Author.Needs.{needs}
-use Rattle.ground.proofs.block.half_pixels.Statement.{statement}
-use Rattle.ground.proofs.block.half_pixels.Tie as tie
+use Rattle.ground.proofs.half_pixels.Statement.{statement}
+use Rattle.ground.proofs.half_pixels.Tie as tie
 
 mul-result : tie.Need-mul-result
 mul-result c = search needs
