@@ -10,14 +10,14 @@ use lib.Pow.{pow-mono}
 use borrow.Author.Tests.{le-ltb}
 use Rattle.answer.specs.declared.Outcome.the-variants.{Answered, NoBlock}
 use Rattle.quad.specs.Block.{pathOf, column, row}
-use Rattle.quad.specs.Direction.{eastStep, southStep, stays, adjOf, diagonal}
+use Rattle.quad.specs.Direction.{eastStep, southStep, stays, adjOf}
 use Rattle.table.specs.Table.{nodes, isFork}
 use Rattle.table.specs.Rules.{depthTo, Accepted}
 use Rattle.table.specs.Nodes.{pathTo, holder, levelOf, sideOf}
 use Rattle.table.proofs.AcceptedLaws.{fork-deep}
 use Rattle.table.proofs.CheckLaws.{asked-good}
 use Rattle.table.proofs.HolderLaws.{own-depth}
-use Rattle.neighbour.specs.Neighbour.{beside, neighbourOf, leafBeyond, cornerColumn, cornerRow, cornerLeafOf, diagonalLeafOf}
+use Rattle.neighbour.specs.Neighbour.{beside, neighbourOf, leafBeyond, cornerColumn, cornerRow, cornerLeafOf}
 use Rattle.neighbour.specs.Containing.{Contains, Smallest}
 use Rattle.neighbour.proofs.SearchLaws.{Stays, stays-of, stays-both}
 use Rattle.neighbour.proofs.SmallestLaws.{holder-contains, holder-smallest, fork-size}
@@ -55,10 +55,6 @@ module _ (n : ℕ) (T : List ℕ) (acc : Accepted n T) (p : ℕ) (lt : p < nodes
   pub corner-is : (D C : ℕ) → D < 4 → C < 4 → adjOf D C ≡ true → cornerLeafOf n T p D C ≡ leafBeyond n T p C D
   unfolding cornerLeafOf
   corner-is D C hD hC a = rw (cornerLeafOf, asked-good n T p (record { accepted = acc; node = lt }), le-ltb 3 D (omega arith), le-ltb 3 C (omega arith), a)
-
-  pub diagonal-is : (C : ℕ) → C < 4 → diagonalLeafOf n T p C ≡ leafBeyond n T p C (diagonal C)
-  unfolding diagonalLeafOf
-  diagonal-is C hC = rw (diagonalLeafOf, asked-good n T p (record { accepted = acc; node = lt }), le-ltb 3 C (omega arith))
 
   -- the block of p's size beside p's, and the node that is answered for it
   module _ (D m : ℕ) (h : D < 8) (e : neighbourOf n T p D ≡ Answered m) where

@@ -162,9 +162,6 @@ module _ (n : ℕ) (T : List ℕ) (acc : Accepted n T) where
   whole-links = rows-links n (treeAt T n 0) (2 ^ n) 0 ∙ ap (λ (k : ℕ). 4 * k) whole-runs
 
   -- as document 01 writes it
-  pub links-count : tally moves (wholeWalk n T) ≡ 4 * sides n T - 4 * 2 ^ n
-  links-count = omega (arith, whole-links)
-
   pub whole-ends : tally rowEnds (wholeWalk n T) ≡ 2 ^ n
   whole-ends = rows-ends n (treeAt T n 0) (2 ^ n) 0
 

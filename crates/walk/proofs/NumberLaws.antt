@@ -4,17 +4,12 @@ use mathlib.Core.Bool.{Bool, true, false}
 use Prim.Native.Nat.{ℕ, suc, _+_, _-_, _*_, _/_, _%_, _^_, _≤_, _<_}
 use native.Mathlib.Nat.{pow-succ', mul-assoc, mul-comm, add-mul, mul-mod-left, mul-le-mul-right}
 use native.Mathlib.Omega.{arith}
-use lib.Dec.{ltb, eqb}
+use lib.Dec.{ltb}
 use lib.Pow.{pow-pos, pow-mono, low}
-use borrow.Author.Tests.{lt-ltb, le-ltb, ltb-true, ltb-false, eqb-true}
+use borrow.Author.Tests.{lt-ltb, le-ltb, ltb-true, ltb-false}
 use mir.Syntax.{w32}
 use mir.Val.{Fits}
-use Rattle.base.proofs.AllLaws.{all-at}
 use Rattle.quad.specs.Numbers.{topLevel}
-
--- a shift that loses nothing: one computed test over all levels
-pub shifted : (level : ℕ) → level ≤ topLevel → (1 * 2 ^ level) % 2 ^ 32 ≡ 2 ^ level
-shifted level h = eqb-true _ _ (all-at (λ (k : ℕ). eqb ((1 * 2 ^ k) % 2 ^ 32) (2 ^ k)) (suc topLevel) refl level (omega arith))
 
 pub side-pos : (level side : ℕ) → side ≡ 2 ^ level → 0 < side
 side-pos level side e = omega (arith, pow-pos level)
