@@ -1,5 +1,7 @@
 pub mod NearestLaws
 pub mod SearchLaws
+pub mod WayLaws
+pub mod TurnLaws
 pub mod OffsetLaws
 pub mod GapLaws
 pub mod WhiteLaws

@@ -6,19 +6,18 @@ use mathlib.Core.Path.{_≡_}
 use Prim.Native.Nat.{ℕ, _<_}
 use Rattle.base.specs.Tab.{least}
 use Rattle.quad.specs.Numbers.{white, none}
-use Rattle.quad.specs.Direction.{eastStep, southStep}
 use Rattle.table.specs.Table.{nodes, type, isFork}
 use Rattle.table.specs.Rules.{Accepted}
 use Rattle.table.specs.Nodes.{levelOf}
 use Rattle.neighbour.specs.declared.Found.{Found}
 use Rattle.neighbour.specs.declared.Found.the-variants.{At, Off}
 use Rattle.neighbour.specs.Search.{neighbourFound}
-use Rattle.distance.specs.Search.{offsetUnder}
+use Rattle.distance.specs.Search.{offsetFrom}
 
 -- the least offset of a white pixel under the node that a search in direction D ended on; off the sheet nothing is white
 unfoldable pub offsetFound : List ℕ → ℕ → Found → ℕ
 offsetFound T D Off = none
-offsetFound T D (At m l) = offsetUnder T (eastStep D) (southStep D) l m 0 0
+offsetFound T D (At m l) = offsetFrom T D l m 0
 
 -- in the neighbour of p in direction D
 unfoldable pub offsetBeside : ℕ → List ℕ → ℕ → ℕ → ℕ

@@ -6,7 +6,7 @@ use table::word_at;
 ghost use mathlib.Core.Path.{_≡_};
 ghost use mathlib.Core.Bool.{true};
 ghost use lib.ListN.{length};
-ghost use Prim.Native.Nat.{_+_, _*_, _^_, _<_, _≤_, min, max};
+ghost use Prim.Native.Nat.{_+_, _*_, _^_, _<_, _≤_, min};
 ghost use Rattle.quad.specs.Numbers.{topLevel};
 ghost use Rattle.quad.specs.Direction.{eastStep, southStep};
 ghost use Rattle.table.specs.Table.{nodes, isFork};
@@ -15,38 +15,61 @@ ghost use Rattle.neighbour.specs.Search.{stay};
 ghost use Rattle.distance.specs.Calls.{Distances};
 ghost use Rattle.distance.specs.Distance.{plainOutside, distanceAt, distancesOf};
 ghost use Rattle.distance.specs.Around.{offsetBeside, offsetAround, Leaf, Inner};
-ghost use Rattle.distance.specs.Search.{fartherBy, nearHalf, nearQuarter, acrossFirst, nextQuarter, offsetUnder, offsetIn, Spot};
+ghost use Rattle.distance.specs.Search.{nearQuarter, nextQuarter, NextWay, OtherWay, nextEdge, offsetFrom, Spot};
 
 // The mark where no pixel is white.
 const MARK: u32 = 4294967295;
 
-// One more than the step that a direction takes to the east, and to the south.
-const EAST: [u32; 8] = [1, 2, 1, 0, 0, 2, 0, 2];
+// By the direction in which a block is searched: its quarter at the near edges, and the quarter that is taken next.
+const NEAR: [u8; 8] = [2, 0, 0, 1, 3, 2, 1, 0];
 
-const SOUTH: [u32; 8] = [0, 1, 2, 1, 0, 0, 2, 2];
+const NEXT: [u8; 8] = [3, 2, 1, 3, 1, 0, 3, 2];
 
-fn east_step(direction: usize) -> u32
+// The direction in which that quarter is searched, and the one for the quarter opposite to it: a corner's quarters down and across lie beyond a side.
+const NEXT_WAY: [u8; 8] = [0, 1, 2, 3, 0, 0, 2, 2];
+
+const OTHER_WAY: [u8; 8] = [0, 1, 2, 3, 3, 1, 3, 1];
+
+// The quarter of a block that lies nearest.
+fn near_quarter(direction: usize) -> usize
     requires { ⌜ direction < stay ⌝ }
-    ensures { λ r. ⌜ r ≡ eastStep direction ⌝ }
+    ensures { λ r. ⌜ r ≡ nearQuarter (eastStep direction) (southStep direction) ⌝ }
 {
-    EAST[direction]
+    NEAR[direction] as usize
 }
 
-fn south_step(direction: usize) -> u32
+// The quarter that lies nearest but for that one.
+fn next_quarter(direction: usize) -> usize
     requires { ⌜ direction < stay ⌝ }
-    ensures { λ r. ⌜ r ≡ southStep direction ⌝ }
+    ensures { λ r. ⌜ r ≡ nextQuarter (eastStep direction) (southStep direction) ⌝ }
 {
-    SOUTH[direction]
+    NEXT[direction] as usize
 }
 
-// The larger of two numbers.
-fn larger(a: u32, b: u32) -> u32
-    ensures { λ r. ⌜ r ≡ max a b ⌝ }
+// The direction in which the next quarter is searched.
+fn next_way(direction: usize) -> usize
+    requires { ⌜ direction < stay ⌝ }
+    ensures { λ r. ⌜ NextWay direction r ⌝ }
 {
-    if a < b {
-        return b;
+    NEXT_WAY[direction] as usize
+}
+
+// The direction in which the quarter opposite to the next one is searched.
+fn other_way(direction: usize) -> usize
+    requires { ⌜ direction < stay ⌝ }
+    ensures { λ r. ⌜ OtherWay direction r ⌝ }
+{
+    OTHER_WAY[direction] as usize
+}
+
+// Where the next quarter begins: beside the nearest one along a side, and farther on at a corner.
+fn next_edge(direction: usize, at: u32, far: u32) -> u32
+    ensures { λ r. ⌜ r ≡ nextEdge direction at far ⌝ }
+{
+    if direction < 4 {
+        return at;
     }
-    a
+    far
 }
 
 // The side of a block, in pixels.
@@ -57,115 +80,65 @@ fn side(level: u32) -> u32
     1 << level
 }
 
-// How much farther than the nearer half of a block a half of it lies: its side, or nothing.
-fn farther_by(step: u32, half: usize, side: u32) -> u32
-    ensures { λ r. ⌜ r ≡ fartherBy step half side ⌝ }
+// The least of best and the offsets of the white pixels under node p, whose block begins at an offset: a white leaf's nearest pixel is there.
+fn look(table: &[u32], direction: usize, p: usize, level: u32, at: u32, best: u32) -> u32
+    requires { ⌜ Spot (now table) level p at × (direction < stay) × (at ≤ best) ⌝ }
+    ensures { λ r. ⌜ r ≡ min best (offsetFrom (now (table .entry)) direction level p at) ⌝ }
 {
-    if step == 1 {
-        return 0;
-    }
-    if half == near_half(step) {
-        return 0;
-    }
-    side
-}
-
-// The half of a block that lies nearer along an axis: the second where the step goes back.
-fn near_half(step: u32) -> usize
-    ensures { λ r. ⌜ (r ≡ nearHalf step) × (r < 2) ⌝ }
-{
-    if step == 0 {
-        return 1;
-    }
-    0
-}
-
-// The quarter of a block that lies nearest.
-fn near_quarter(east: u32, south: u32) -> usize
-    ensures { λ r. ⌜ r ≡ nearQuarter east south ⌝ }
-{
-    near_half(east) + 2 * near_half(south)
-}
-
-// Whether the quarter across lies no farther than the one down: where the step stays across, or the near edge down is the farther one already.
-fn across_first(east: u32, south: u32, a: u32, b: u32) -> bool
-    ensures { λ r. ⌜ r ≡ acrossFirst east south a b ⌝ }
-{
-    if east == 1 {
-        return true;
-    }
-    if south == 1 {
-        return false;
-    }
-    a < b
-}
-
-// The quarter that lies nearest but for that one.
-fn next_quarter(east: u32, south: u32, a: u32, b: u32) -> usize
-    ensures { λ r. ⌜ r ≡ nextQuarter east south a b ⌝ }
-{
-    let x = near_half(east);
-    let y = near_half(south);
-    if across_first(east, south, a, b) {
-        return 1 - x + 2 * y;
-    }
-    x + 2 * (1 - y)
-}
-
-// The least of best and the offsets of the white pixels under fork p, whose block has its near edges at a and b: its quarters, the nearest first.
-fn seek(
-    table: &[u32],
-    east: u32,
-    south: u32,
-    p: usize,
-    level: u32,
-    a: u32,
-    b: u32,
-    best: u32,
-) -> u32
-    requires { ⌜ Spot (now table) level p a b × (isFork (now table) p ≡ true) ⌝ }
-    ensures { λ r. ⌜ r ≡ min best (offsetUnder (now (table .entry)) east south level p a b) ⌝ }
-{
-    let m = level - 1;
-    let near = near_quarter(east, south);
-    let next = next_quarter(east, south, a, b);
-    let best1 = seek_in(table, east, south, p, m, a, b, near, best);
-    let best2 = seek_in(table, east, south, p, m, a, b, next, best1);
-    let best3 = seek_in(table, east, south, p, m, a, b, 3 - next, best2);
-    seek_in(table, east, south, p, m, a, b, 3 - near, best3)
-}
-
-// The same in quarter q of fork p; a quarter's level is given. No offset there is below the larger of those of the quarter's near edges.
-fn seek_in(
-    table: &[u32],
-    east: u32,
-    south: u32,
-    p: usize,
-    level: u32,
-    a: u32,
-    b: u32,
-    q: usize,
-    best: u32,
-) -> u32
-    requires { ⌜ Spot (now table) (level + 1) p a b × (isFork (now table) p ≡ true) × (q < 4) ⌝ }
-    ensures { λ r. ⌜ r ≡ min best (offsetIn (now (table .entry)) east south level p a b q) ⌝ }
-{
-    let half = side(level);
-    let across = a + farther_by(east, q % 2, half);
-    let down = b + farther_by(south, q / 2, half);
-    let bound = larger(across, down);
-    if best <= bound {
-        return best;
-    }
-    let son = word_at(table, p, 1 + q);
-    let kind = word_at(table, son, 5);
+    let kind = word_at(table, p, 5);
     if kind == 0 {
-        return bound;
+        return at;
     }
     if kind != quad::FORK {
         return best;
     }
-    seek(table, east, south, son, level, across, down, best)
+    seek(table, direction, p, level, at, best)
+}
+
+// The same under fork p: its quarters, the nearest first, until none that is left begins below the best.
+fn seek(table: &[u32], direction: usize, p: usize, level: u32, at: u32, best: u32) -> u32
+    requires { ⌜ Spot (now table) level p at × (isFork (now table) p ≡ true) × (direction < stay) × (at ≤ best) ⌝ }
+    ensures { λ r. ⌜ r ≡ min best (offsetFrom (now (table .entry)) direction level p at) ⌝ }
+{
+    let m = level - 1;
+    let far = at + side(m);
+    let near = near_quarter(direction);
+    let best1 = look(table, direction, word_at(table, p, 1 + near), m, at, best);
+    let edge = next_edge(direction, at, far);
+    if best1 <= edge {
+        return best1;
+    }
+    let next = next_quarter(direction);
+    let best2 = look(
+        table,
+        next_way(direction),
+        word_at(table, p, 1 + next),
+        m,
+        edge,
+        best1,
+    );
+    if best2 <= far {
+        return best2;
+    }
+    let best3 = look(
+        table,
+        other_way(direction),
+        word_at(table, p, 1 + (3 - next)),
+        m,
+        far,
+        best2,
+    );
+    if best3 <= far {
+        return best3;
+    }
+    look(
+        table,
+        direction,
+        word_at(table, p, 1 + (3 - near)),
+        m,
+        far,
+        best3,
+    )
 }
 
 // The least of best and the offsets of the white pixels in the neighbour of leaf p in a direction. Off the sheet nothing is white.
@@ -184,16 +157,7 @@ fn beside(n: u32, table: &[u32], p: usize, level: u32, direction: usize, best: u
     if kind != quad::FORK {
         return best;
     }
-    seek(
-        table,
-        east_step(direction),
-        south_step(direction),
-        node,
-        its,
-        0,
-        0,
-        best,
-    )
+    seek(table, direction, node, its, 0, best)
 }
 
 // The least offset of a white pixel in the eight neighbours of a black leaf that has a father. It is below the side (document 001, Theorem 1), and none is
