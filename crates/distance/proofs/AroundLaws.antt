@@ -11,10 +11,9 @@ use Rattle.base.specs.Tab.{least}
 use Rattle.base.proofs.LeastLaws.{least-next, least-less}
 use Rattle.quad.specs.Numbers.{white, none, topLevel, forkType}
 use Rattle.table.specs.Table.{nodes, type, isFork}
-use Rattle.table.specs.Links.{Rising}
-use Rattle.table.specs.Rules.{depthTo, Accepted}
+use Rattle.table.specs.Rules.{Accepted}
 use Rattle.table.specs.Nodes.{pixel, levelOf, centreAcross, centreDown}
-use Rattle.table.proofs.AcceptedLaws.{depth-le, father-below}
+use Rattle.table.proofs.AcceptedLaws.{depth-le}
 use Rattle.neighbour.specs.declared.Found.{Found}
 use Rattle.neighbour.specs.declared.Found.the-variants.{At, Off}
 use Rattle.neighbour.specs.Search.{stay, neighbourFound}
@@ -106,29 +105,24 @@ module _ (n : ℕ) (T : List ℕ) (p kind : ℕ) (k : kind ≡ type T p) where
     pub root-word : p ≡ 0 → none ≡ distanceAt plainOutside n T p
     root-word z = sym (black-nearest n T p f dark ∙ root-nearest n T acc p lt f dark z)
 
-    module _ (z : p ≡ 0 → ⊥) (d : ℕ) (ed : d ≡ depthTo T n p) where
-      pub inner-place : Inner n T p (n - d)
+    module _ (z : p ≡ 0 → ⊥) (l : ℕ) (el : l ≡ levelOf n T p) where
+      pub inner-place : Inner n T p l
       inner-place = record {
-        place = record { accepted = acc; node = lt; level = rw ed };
+        place = record { accepted = acc; node = lt; level = el };
         has-father = omega arith;
         leaf = f;
         dark = dark;
       }
 
-      module _ (best w : ℕ) (e : best ≡ offsetAround n T p stay) (ew : w ≡ 2 ^ (n - d)) where
+      module _ (best w : ℕ) (e : best ≡ offsetAround n T p stay) (ew : w ≡ 2 ^ l) where
         pub edge-asks : (w ≤ 2 ^ topLevel) × (best < 2 ^ topLevel)
         edge-asks =
             let pos : 0 < p = omega arith in
             let small = father-small n T acc p lt f dark pos in
             let s = side-small n T acc p lt f dark in
-            (rw (ew, ed) s, omega (arith, e))
+            (rw (ew, el) s, omega (arith, e))
 
         pub inner-word : (r : ℕ) → r ≡ w + 2 * best → r ≡ distanceAt plainOutside n T p
         inner-word r er =
             let pos : 0 < p = omega arith in
-            er ∙ rw (ew, ed, e) (sym (black-nearest n T p f dark ∙ leaf-nearest n T acc p lt f dark pos))
-
--- what the climb asks
-pub rising : (n : ℕ) (T : List ℕ) → Accepted n T → (p : ℕ) → p < nodes T → Rising T (p + 1)
-unfolding Rising
-rising n T acc p lt k l pos = father-below n T acc k (omega arith) pos
+            er ∙ rw (ew, el, e) (sym (black-nearest n T p f dark ∙ leaf-nearest n T acc p lt f dark pos))

@@ -3,7 +3,8 @@
 use mathlib.Core.Bool.{false}
 use mathlib.Core.List.{List}
 use mathlib.Core.Path.{_≡_}
-use Prim.Native.Nat.{ℕ, _<_}
+use Prim.Native.Nat.{ℕ, _≤_, _<_}
+use lib.ListN.{getD}
 use Rattle.base.specs.Tab.{least}
 use Rattle.quad.specs.Numbers.{white, none}
 use Rattle.table.specs.Table.{nodes, type, isFork}
@@ -33,7 +34,11 @@ pub record Leaf (n : ℕ) (T : List ℕ) (p l : ℕ) : Type 0 where
   pub node : p < nodes T
   pub level : l ≡ levelOf n T p
 
--- and p is a leaf that is not white, and has a father
+-- the slice has the level of each node from i on and before k
+pub record Levels (n : ℕ) (T out : List ℕ) (i k : ℕ) : Type 0 where
+  pub each : (j : ℕ) → i ≤ j → j < k → getD out j 0 ≡ levelOf n T j
+
+-- p is a leaf that is not white, and has a father
 pub record Inner (n : ℕ) (T : List ℕ) (p l : ℕ) : Type 0 where
   pub place : Leaf n T p l
   pub has-father : 0 < p

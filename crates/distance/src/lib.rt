@@ -14,7 +14,7 @@ ghost use Rattle.table.specs.Rules.{Accepted};
 ghost use Rattle.neighbour.specs.Search.{stay};
 ghost use Rattle.distance.specs.Calls.{Distances};
 ghost use Rattle.distance.specs.Distance.{plainOutside, distanceAt, distancesOf};
-ghost use Rattle.distance.specs.Around.{offsetBeside, offsetAround, Leaf, Inner};
+ghost use Rattle.distance.specs.Around.{offsetBeside, offsetAround, Leaf, Inner, Levels};
 ghost use Rattle.distance.specs.Search.{nearQuarter, nextQuarter, NextWay, OtherWay, nextEdge, offsetFrom, Spot};
 
 // The mark where no pixel is white.
@@ -186,9 +186,9 @@ fn to_edge(side: u32, offset: u32) -> u32
     side + 2 * offset
 }
 
-// The distance of node p. A black root is the whole sheet: nothing is white.
-fn distance(n: u32, table: &[u32], p: usize) -> u32
-    requires { ⌜ Accepted n (now table) × (p < nodes (now table)) ⌝ }
+// The distance of node p, whose level is given. A black root is the whole sheet: nothing is white.
+fn distance(n: u32, table: &[u32], p: usize, level: u32) -> u32
+    requires { ⌜ Leaf n (now table) p level ⌝ }
     ensures { λ r. ⌜ r ≡ distanceAt plainOutside n (now (table .entry)) p ⌝ }
 {
     let kind = word_at(table, p, 5);
@@ -201,18 +201,30 @@ fn distance(n: u32, table: &[u32], p: usize) -> u32
     if p == 0 {
         return MARK;
     }
-    let level = n - table::depth_to(table, n, p);
     to_edge(side(level), around(n, table, p, level))
 }
 
-// Writes the distance of every node.
-fn fill(n: u32, table: &[u32], out: &mut [u32])
+// Writes the level of every node: one less than its father's, who stands before it.
+fn levels(n: u32, table: &[u32], out: &mut [u32])
     requires { ⌜ Accepted n (now table) × (length (now out) ≡ nodes (now table)) ⌝ }
+    ensures { λ _. ⌜ Levels n (now (table .entry)) (now (out .exit)) 0 (nodes (now (table .entry))) ⌝ }
+{
+    out[0] = n;
+    let mut p = 1;
+    while p < out.len() {
+        out[p] = out[word_at(table, p, 0)] - 1;
+        p += 1;
+    }
+}
+
+// Writes the distance of every node over its level.
+fn fill(n: u32, table: &[u32], out: &mut [u32])
+    requires { ⌜ Accepted n (now table) × (length (now out) ≡ nodes (now table)) × Levels n (now table) (now out) 0 (nodes (now table)) ⌝ }
     ensures { λ _. ⌜ now (out .exit) ≡ distancesOf plainOutside n (now (table .entry)) ⌝ }
 {
     let mut p = 0;
     while p < out.len() {
-        out[p] = distance(n, table, p);
+        out[p] = distance(n, table, p, out[p]);
         p += 1;
     }
 }
@@ -232,6 +244,7 @@ pub fn distances(n: u32, table: &[u32], out: &mut [u32]) -> Outcome
     if !answer::answered(checked) {
         return checked;
     }
+    levels(n, table, out);
     fill(n, table, out);
     Outcome::Answered { value: 0 }
 }
