@@ -16,14 +16,7 @@ use Rattle.quad.specs.Numbers.{white, none, topLevel, forkType}
 use Rattle.quad.specs.Direction.{eastStep, southStep}
 use Rattle.table.specs.Table.{nodes, son, type, isFork}
 use Rattle.table.proofs.AcceptedLaws.{sons-of, depth-son, fork-deep}
-use Rattle.distance.specs.Search.{nearHalf, fartherBy, nearQuarter, nextQuarter, leafOffset, offsetUnder, offsetIn, offsetFrom, Spot}
-
--- how much farther on a half lies
-pub far-le : (step half w : ℕ) → fartherBy step half w ≤ w
-unfolding fartherBy
-far-le step half w =
-    cond-case (λ (m : ℕ). m ≤ w) (eqb step 1) 0 _ (λ e. omega arith)
-    (λ e. cond-case (λ (m : ℕ). m ≤ w) (eqb half (nearHalf step)) 0 w (λ e. omega arith) (λ e. omega arith))
+use Rattle.distance.specs.Search.{nearHalf, nearQuarter, nextQuarter, leafOffset, offsetUnder, offsetIn, offsetFrom, Spot}
 
 -- the next quarter shares a side with the nearest, so that these and the ones opposite are the four
 pub near-half-lt : (step : ℕ) → nearHalf step < 2

@@ -90,9 +90,6 @@ module _ (T : List ℕ) (D m p at : ℕ) (d : D < stay) (room : at + 2 * 2 ^ m �
   abbrev quarter : ℕ → ℕ
   quarter = offsetIn T e s m p at at
 
-  in-edges : (q a b : ℕ) → Edges e s at w q a b → quarter q ≡ offsetUnder T e s m (son T p q) a b
-  in-edges q a b h = rw (h .across, h .down)
-
   -- no farther on along an axis on which the step stays, else by the side
   stays : (step : ℕ) → eqb step 1 ≡ true → at + stride step w ≡ at
   stays step h = rw h (omega arith)
@@ -101,12 +98,12 @@ module _ (T : List ℕ) (D m p at : ℕ) (d : D < stay) (room : at + 2 * 2 ^ m �
   moves step h = rw h
 
   edges-at : (q a b a' b' : ℕ) → a ≡ a' → b ≡ b' → Edges e s at w q a b → quarter q ≡ offsetUnder T e s m (son T p q) a' b'
-  edges-at q a b a' b' ea eb h = in-edges q a b h ∙ rw (ea, eb)
+  edges-at q a b a' b' ea eb h = rw (h .across, h .down, ea, eb)
 
-  pub near-turn : quarter near ≡ offsetFrom T D m (son T p near) at
-  near-turn = in-edges near at at (at-near e s at w near (near-is e s))
+  near-turn : quarter near ≡ offsetFrom T D m (son T p near) at
+  near-turn = edges-at near at at at at refl refl (at-near e s at w near (near-is e s))
 
-  pub next-turn : (way : ℕ) → NextWay D way → quarter next ≡ offsetFrom T way m (son T p next) (nextEdge D at (at + w))
+  next-turn : (way : ℕ) → NextWay D way → quarter next ≡ offsetFrom T way m (son T p next) (nextEdge D at (at + w))
   next-turn way v = go (goes D d)
     where
       go : Goes D → quarter next ≡ offsetFrom T way m (son T p next) (nextEdge D at (at + w))
@@ -125,7 +122,7 @@ module _ (T : List ℕ) (D m p at : ℕ) (d : D < stay) (room : at + 2 * 2 ^ m �
   upright-tells : (q : ℕ) → eqb e 1 ≡ true → offsetUnder T e s m q at (at + w) ≡ offsetUnder T e s m q (at + w) (at + w)
   upright-tells q h = down-tells T m q e s at room ∙ rw (eqb-true e 1 h)
 
-  pub other-turn : (way : ℕ) → OtherWay D way → quarter (3 - next) ≡ offsetFrom T way m (son T p (3 - next)) (at + w)
+  other-turn : (way : ℕ) → OtherWay D way → quarter (3 - next) ≡ offsetFrom T way m (son T p (3 - next)) (at + w)
   other-turn way v = go (goes D d)
     where
       across : eqb e 1 ≡ false → quarter (3 - next) ≡ offsetUnder T e 1 m (son T p (3 - next)) (at + w) (at + w)
@@ -140,7 +137,7 @@ module _ (T : List ℕ) (D m p at : ℕ) (d : D < stay) (room : at + 2 * 2 ^ m �
       go (level c he hs) = across he ∙ rw (v .across, v .down, c, eqb-true s 1 hs)
       go (slanting c he hs) = across he ∙ rw (v .across, v .down, c)
 
-  pub last-turn : quarter (3 - near) ≡ offsetFrom T D m (son T p (3 - near)) (at + w)
+  last-turn : quarter (3 - near) ≡ offsetFrom T D m (son T p (3 - near)) (at + w)
   last-turn = go (goes D d)
     where
       far : Edges e s at w (3 - near) (at + stride e w) (at + stride s w)

@@ -103,45 +103,28 @@ fn seek(table: &[u32], direction: usize, p: usize, level: u32, at: u32, best: u3
     let m = level - 1;
     let far = at + side(m);
     let near = near_quarter(direction);
-    let best1 = look(table, direction, word_at(table, p, 1 + near), m, at, best);
+    let first = word_at(table, p, 1 + near);
+    let best1 = look(table, direction, first, m, at, best);
     let edge = next_edge(direction, at, far);
     if best1 <= edge {
         return best1;
     }
     let next = next_quarter(direction);
-    let best2 = look(
-        table,
-        next_way(direction),
-        word_at(table, p, 1 + next),
-        m,
-        edge,
-        best1,
-    );
+    let second = word_at(table, p, 1 + next);
+    let best2 = look(table, next_way(direction), second, m, edge, best1);
     if best2 <= far {
         return best2;
     }
-    let best3 = look(
-        table,
-        other_way(direction),
-        word_at(table, p, 1 + (3 - next)),
-        m,
-        far,
-        best2,
-    );
+    let third = word_at(table, p, 1 + (3 - next));
+    let best3 = look(table, other_way(direction), third, m, far, best2);
     if best3 <= far {
         return best3;
     }
-    look(
-        table,
-        direction,
-        word_at(table, p, 1 + (3 - near)),
-        m,
-        far,
-        best3,
-    )
+    let last = word_at(table, p, 1 + (3 - near));
+    look(table, direction, last, m, far, best3)
 }
 
-// The least of best and the offsets of the white pixels in the neighbour of leaf p in a direction. Off the sheet nothing is white.
+// The least of best and the offsets of the white pixels in the neighbour of leaf p in a direction. Off the sheet nothing is white; a leaf tells at once.
 fn beside(n: u32, table: &[u32], p: usize, level: u32, direction: usize, best: u32) -> u32
     requires { ⌜ Leaf n (now table) p level × (direction < stay) ⌝ }
     ensures { λ r. ⌜ r ≡ min best (offsetBeside n (now (table .entry)) p direction) ⌝ }

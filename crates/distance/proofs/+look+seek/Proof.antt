@@ -114,38 +114,38 @@ module _ (t : ℕ) where
   seek-next-quarter-requires : seek-lts.Need-next-quarter-requires (in-seek t) (seek-at t) seek.Post
   seek-next-quarter-requires c κs = let o = c .before .before .before .before .before .before .before in o .pre .1 .2
 
-  seek-next-way-requires : seek-lts.Need-next-way-requires (in-seek t) (seek-at t) seek.Post
-  seek-next-way-requires c κs = let o = c .before .before .before .before .before .before .before .before in o .pre .1 .2
-
   seek-add-word-at-2 : seek-lts.Need-add-word-at-2 (in-seek t) (seek-at t) seek.Post
-  seek-add-word-at-2 c = let o = c .before .before .before .before .before .before .before .before .before in omega (arith, next-lt (eastStep (o .args .direction)) (southStep (o .args .direction)) (c .before .next-quarter .ensures))
+  seek-add-word-at-2 c = let o = c .before .before .before .before .before .before .before .before in omega (arith, next-lt (eastStep (o .args .direction)) (southStep (o .args .direction)) (c .next-quarter .ensures))
 
   seek-word-at-requires-2 : seek-lts.Need-word-at-requires-2 (in-seek t) (seek-at t) seek.Post
-  seek-word-at-requires-2 c κs = let o = c .before .before .before .before .before .before .before .before .before in (o .pre .1 .0 .node, omega (arith, next-lt (eastStep (o .args .direction)) (southStep (o .args .direction)) (c .before .next-quarter .ensures)))
+  seek-word-at-requires-2 c κs = let o = c .before .before .before .before .before .before .before .before in (o .pre .1 .0 .node, omega (arith, next-lt (eastStep (o .args .direction)) (southStep (o .args .direction)) (c .next-quarter .ensures)))
+
+  seek-next-way-requires : seek-lts.Need-next-way-requires (in-seek t) (seek-at t) seek.Post
+  seek-next-way-requires c κs = let o = c .before .before .before .before .before .before .before .before .before in o .pre .1 .2
 
   seek-look-requires-2 : seek-lts.Need-look-requires-2 (in-seek t) (seek-at t) seek.Post
-  seek-look-requires-2 c κs = let o = c .before .before .before .before .before .before .before .before .before .before in look-asks (o .pre .1 .0) (o .pre .1 .1) t (o .pre .0) (next-lt (eastStep (o .args .direction)) (southStep (o .args .direction)) (c .before .before .next-quarter .ensures)) (c .word-at2 .ensures) (c .before .next-way .ensures .below) (c .before .before .before .before .before .before .before .before .side .ensures) (edge-room (o .args .direction) _ _ _ (c .before .before .before .before .next-edge .ensures)) (omega (arith, c .before .before .before .if1 .left))
+  seek-look-requires-2 c κs = let o = c .before .before .before .before .before .before .before .before .before .before in look-asks (o .pre .1 .0) (o .pre .1 .1) t (o .pre .0) (next-lt (eastStep (o .args .direction)) (southStep (o .args .direction)) (c .before .before .next-quarter .ensures)) (c .before .word-at2 .ensures) (c .next-way .ensures .below) (c .before .before .before .before .before .before .before .before .side .ensures) (edge-room (o .args .direction) _ _ _ (c .before .before .before .before .next-edge .ensures)) (omega (arith, c .before .before .before .if1 .left))
 
   seek-returns-2 : seek-lts.Need-returns-2 (in-seek t) (seek-at t) seek.Post
-  seek-returns-2 c = let o = c .before .before .before .before .before .before .before .before .before .before .before .before in stop-2 (o .pre .1 .0) (o .pre .1 .1) _ (o .pre .1 .2) _ _ (omega (arith, o .fits .best)) (c .before .before .before .before .before .before .before .before .before .before .side .ensures) (c .before .before .before .before .before .before .before .before .before .near-quarter .ensures) (c .before .before .before .before .before .before .before .before .word-at .ensures) (c .before .before .before .before .before .before .before .look .ensures) (c .before .before .before .before .before .before .next-edge .ensures) _ (c .before .before .before .before .next-quarter .ensures) (c .before .before .before .next-way .ensures) (c .before .before .word-at2 .ensures) (c .before .look2 .ensures) (c .if2 .taken)
-
-  seek-other-way-requires : seek-lts.Need-other-way-requires (in-seek t) (seek-at t) seek.Post
-  seek-other-way-requires c κs = let o = c .before .before .before .before .before .before .before .before .before .before .before .before in o .pre .1 .2
+  seek-returns-2 c = let o = c .before .before .before .before .before .before .before .before .before .before .before .before in stop-2 (o .pre .1 .0) (o .pre .1 .1) _ (o .pre .1 .2) _ _ (omega (arith, o .fits .best)) (c .before .before .before .before .before .before .before .before .before .before .side .ensures) (c .before .before .before .before .before .before .before .before .before .near-quarter .ensures) (c .before .before .before .before .before .before .before .before .word-at .ensures) (c .before .before .before .before .before .before .before .look .ensures) (c .before .before .before .before .before .before .next-edge .ensures) _ (c .before .before .before .before .next-quarter .ensures) (c .before .before .next-way .ensures) (c .before .before .before .word-at2 .ensures) (c .before .look2 .ensures) (c .if2 .taken)
 
   seek-sub-word-at : seek-lts.Need-sub-word-at (in-seek t) (seek-at t) seek.Post
-  seek-sub-word-at c = let o = c .before .before .before .before .before .before .before .before .before .before .before .before .before in omega (arith, next-lt (eastStep (o .args .direction)) (southStep (o .args .direction)) (c .before .before .before .before .before .next-quarter .ensures))
+  seek-sub-word-at c = let o = c .before .before .before .before .before .before .before .before .before .before .before .before in omega (arith, next-lt (eastStep (o .args .direction)) (southStep (o .args .direction)) (c .before .before .before .before .next-quarter .ensures))
 
   seek-add-word-at-3 : seek-lts.Need-add-word-at-3 (in-seek t) (seek-at t) seek.Post
-  seek-add-word-at-3 c = let o = c .before .before .before .before .before .before .before .before .before .before .before .before .before in omega (arith, next-lt (eastStep (o .args .direction)) (southStep (o .args .direction)) (c .before .before .before .before .before .next-quarter .ensures))
+  seek-add-word-at-3 c = let o = c .before .before .before .before .before .before .before .before .before .before .before .before in omega (arith, next-lt (eastStep (o .args .direction)) (southStep (o .args .direction)) (c .before .before .before .before .next-quarter .ensures))
 
   seek-word-at-requires-3 : seek-lts.Need-word-at-requires-3 (in-seek t) (seek-at t) seek.Post
-  seek-word-at-requires-3 c κs = let o = c .before .before .before .before .before .before .before .before .before .before .before .before .before in (o .pre .1 .0 .node, omega (arith, next-lt (eastStep (o .args .direction)) (southStep (o .args .direction)) (c .before .before .before .before .before .next-quarter .ensures)))
+  seek-word-at-requires-3 c κs = let o = c .before .before .before .before .before .before .before .before .before .before .before .before in (o .pre .1 .0 .node, omega (arith, next-lt (eastStep (o .args .direction)) (southStep (o .args .direction)) (c .before .before .before .before .next-quarter .ensures)))
+
+  seek-other-way-requires : seek-lts.Need-other-way-requires (in-seek t) (seek-at t) seek.Post
+  seek-other-way-requires c κs = let o = c .before .before .before .before .before .before .before .before .before .before .before .before .before in o .pre .1 .2
 
   seek-look-requires-3 : seek-lts.Need-look-requires-3 (in-seek t) (seek-at t) seek.Post
-  seek-look-requires-3 c κs = let o = c .before .before .before .before .before .before .before .before .before .before .before .before .before .before in look-asks (o .pre .1 .0) (o .pre .1 .1) t (o .pre .0) (omega (arith, next-lt (eastStep (o .args .direction)) (southStep (o .args .direction)) (c .before .before .before .before .before .before .next-quarter .ensures))) (c .word-at3 .ensures) (c .before .other-way .ensures .below) (c .before .before .before .before .before .before .before .before .before .before .before .before .side .ensures) (omega arith) (omega (arith, c .before .before .if2 .left))
+  seek-look-requires-3 c κs = let o = c .before .before .before .before .before .before .before .before .before .before .before .before .before .before in look-asks (o .pre .1 .0) (o .pre .1 .1) t (o .pre .0) (omega (arith, next-lt (eastStep (o .args .direction)) (southStep (o .args .direction)) (c .before .before .before .before .before .before .next-quarter .ensures))) (c .before .word-at3 .ensures) (c .other-way .ensures .below) (c .before .before .before .before .before .before .before .before .before .before .before .before .side .ensures) (omega arith) (omega (arith, c .before .before .if2 .left))
 
   seek-returns-3 : seek-lts.Need-returns-3 (in-seek t) (seek-at t) seek.Post
-  seek-returns-3 c = let o = c .before .before .before .before .before .before .before .before .before .before .before .before .before .before .before .before in stop-3 (o .pre .1 .0) (o .pre .1 .1) _ (o .pre .1 .2) _ _ (omega (arith, o .fits .best)) (c .before .before .before .before .before .before .before .before .before .before .before .before .before .before .side .ensures) (c .before .before .before .before .before .before .before .before .before .before .before .before .before .near-quarter .ensures) (c .before .before .before .before .before .before .before .before .before .before .before .before .word-at .ensures) (c .before .before .before .before .before .before .before .before .before .before .before .look .ensures) (c .before .before .before .before .before .before .before .before .before .before .next-edge .ensures) _ (c .before .before .before .before .before .before .before .before .next-quarter .ensures) (c .before .before .before .before .before .before .before .next-way .ensures) (c .before .before .before .before .before .before .word-at2 .ensures) (c .before .before .before .before .before .look2 .ensures) _ (c .before .before .before .other-way .ensures) (c .before .before .word-at3 .ensures) (c .before .look3 .ensures) (c .if3 .taken)
+  seek-returns-3 c = let o = c .before .before .before .before .before .before .before .before .before .before .before .before .before .before .before .before in stop-3 (o .pre .1 .0) (o .pre .1 .1) _ (o .pre .1 .2) _ _ (omega (arith, o .fits .best)) (c .before .before .before .before .before .before .before .before .before .before .before .before .before .before .side .ensures) (c .before .before .before .before .before .before .before .before .before .before .before .before .before .near-quarter .ensures) (c .before .before .before .before .before .before .before .before .before .before .before .before .word-at .ensures) (c .before .before .before .before .before .before .before .before .before .before .before .look .ensures) (c .before .before .before .before .before .before .before .before .before .before .next-edge .ensures) _ (c .before .before .before .before .before .before .before .before .next-quarter .ensures) (c .before .before .before .before .before .before .next-way .ensures) (c .before .before .before .before .before .before .before .word-at2 .ensures) (c .before .before .before .before .before .look2 .ensures) _ (c .before .before .other-way .ensures) (c .before .before .before .word-at3 .ensures) (c .before .look3 .ensures) (c .if3 .taken)
 
   seek-sub-word-at-2 : seek-lts.Need-sub-word-at-2 (in-seek t) (seek-at t) seek.Post
   seek-sub-word-at-2 c = let o = c .before .before .before .before .before .before .before .before .before .before .before .before .before .before .before .before in omega (arith, near-lt (eastStep (o .args .direction)) (southStep (o .args .direction)) (c .before .before .before .before .before .before .before .before .before .before .before .before .before .near-quarter .ensures))
@@ -160,10 +160,10 @@ module _ (t : ℕ) where
   seek-look-requires-4 c κs = let o = c .before .before .before .before .before .before .before .before .before .before .before .before .before .before .before .before .before in look-asks (o .pre .1 .0) (o .pre .1 .1) t (o .pre .0) (omega (arith, near-lt (eastStep (o .args .direction)) (southStep (o .args .direction)) (c .before .before .before .before .before .before .before .before .before .before .before .before .before .before .near-quarter .ensures))) (c .word-at4 .ensures) (o .pre .1 .2) (c .before .before .before .before .before .before .before .before .before .before .before .before .before .before .before .side .ensures) (omega arith) (omega (arith, c .before .if3 .left))
 
   seek-returns-4 : seek-lts.Need-returns-4 (in-seek t) (seek-at t) seek.Post
-  seek-returns-4 c = let o = c .before .before .before .before .before .before .before .before .before .before .before .before .before .before .before .before .before .before in all-four (o .pre .1 .0) (o .pre .1 .1) _ (o .pre .1 .2) _ _ (omega (arith, o .fits .best)) (c .before .before .before .before .before .before .before .before .before .before .before .before .before .before .before .before .side .ensures) (c .before .before .before .before .before .before .before .before .before .before .before .before .before .before .before .near-quarter .ensures) (c .before .before .before .before .before .before .before .before .before .before .before .before .before .before .word-at .ensures) (c .before .before .before .before .before .before .before .before .before .before .before .before .before .look .ensures) (c .before .before .before .before .before .before .before .before .before .before .before .before .next-edge .ensures) _ (c .before .before .before .before .before .before .before .before .before .before .next-quarter .ensures) (c .before .before .before .before .before .before .before .before .before .next-way .ensures) (c .before .before .before .before .before .before .before .before .word-at2 .ensures) (c .before .before .before .before .before .before .before .look2 .ensures) _ (c .before .before .before .before .before .other-way .ensures) (c .before .before .before .before .word-at3 .ensures) (c .before .before .before .look3 .ensures) _ (c .before .word-at4 .ensures) (c .look4 .ensures)
+  seek-returns-4 c = let o = c .before .before .before .before .before .before .before .before .before .before .before .before .before .before .before .before .before .before in all-four (o .pre .1 .0) (o .pre .1 .1) _ (o .pre .1 .2) _ _ (omega (arith, o .fits .best)) (c .before .before .before .before .before .before .before .before .before .before .before .before .before .before .before .before .side .ensures) (c .before .before .before .before .before .before .before .before .before .before .before .before .before .before .before .near-quarter .ensures) (c .before .before .before .before .before .before .before .before .before .before .before .before .before .before .word-at .ensures) (c .before .before .before .before .before .before .before .before .before .before .before .before .before .look .ensures) (c .before .before .before .before .before .before .before .before .before .before .before .before .next-edge .ensures) _ (c .before .before .before .before .before .before .before .before .before .before .next-quarter .ensures) (c .before .before .before .before .before .before .before .before .next-way .ensures) (c .before .before .before .before .before .before .before .before .before .word-at2 .ensures) (c .before .before .before .before .before .before .before .look2 .ensures) _ (c .before .before .before .before .other-way .ensures) (c .before .before .before .before .before .word-at3 .ensures) (c .before .before .before .look3 .ensures) _ (c .before .word-at4 .ensures) (c .look4 .ensures)
 
 pub +look+seek-spec : {M : Type 1} → statement M
 +look+seek-spec =
     close μ-look μ-seek
     (λ t. look-lts.spec (in-look t) (look-at t) look.Post (look-word-at-requires t) (look-returns t) (look-returns-2 t) (look-seek-requires t) (look-returns-3 t))
-    (λ t. seek-lts.spec (in-seek t) (seek-at t) seek.Post (seek-sub-m t) (seek-side-requires t) (seek-add-far t) (seek-near-quarter-requires t) (seek-add-word-at t) (seek-word-at-requires t) (seek-look-requires t) (seek-next-edge-requires t) (seek-returns t) (seek-next-quarter-requires t) (seek-next-way-requires t) (seek-add-word-at-2 t) (seek-word-at-requires-2 t) (seek-look-requires-2 t) (seek-returns-2 t) (seek-other-way-requires t) (seek-sub-word-at t) (seek-add-word-at-3 t) (seek-word-at-requires-3 t) (seek-look-requires-3 t) (seek-returns-3 t) (seek-sub-word-at-2 t) (seek-add-word-at-4 t) (seek-word-at-requires-4 t) (seek-look-requires-4 t) (seek-returns-4 t))
+    (λ t. seek-lts.spec (in-seek t) (seek-at t) seek.Post (seek-sub-m t) (seek-side-requires t) (seek-add-far t) (seek-near-quarter-requires t) (seek-add-word-at t) (seek-word-at-requires t) (seek-look-requires t) (seek-next-edge-requires t) (seek-returns t) (seek-next-quarter-requires t) (seek-add-word-at-2 t) (seek-word-at-requires-2 t) (seek-next-way-requires t) (seek-look-requires-2 t) (seek-returns-2 t) (seek-sub-word-at t) (seek-add-word-at-3 t) (seek-word-at-requires-3 t) (seek-other-way-requires t) (seek-look-requires-3 t) (seek-returns-3 t) (seek-sub-word-at-2 t) (seek-add-word-at-4 t) (seek-word-at-requires-4 t) (seek-look-requires-4 t) (seek-returns-4 t))

@@ -2,7 +2,7 @@
 use native.Mathlib.Omega.{arith}
 use borrow.Author.Needs.{needs}
 use Rattle.quad.specs.Direction.{eastStep, southStep}
-use Rattle.distance.proofs.SearchLaws.{near-next}
+use Rattle.distance.proofs.SearchLaws.{next-lt}
 use Rattle.distance.proofs.WayLaws.{next-rule}
 use Rattle.distance.proofs.next_quarter.Statement.{statement}
 use Rattle.distance.proofs.next_quarter.Tie as tie
@@ -11,7 +11,7 @@ array-read-result : tie.Need-array-read-result
 array-read-result c = search needs
 
 cast-result : tie.Need-cast-result
-cast-result c = omega (arith, next-rule (c .args .direction) (search needs), near-next (eastStep (c .args .direction)) (southStep (c .args .direction)) .second)
+cast-result c = omega (arith, next-lt (eastStep (c .args .direction)) (southStep (c .args .direction)) (next-rule (c .args .direction) (search needs)))
 
 returns : tie.Need-returns
 returns c = next-rule (c .args .direction) (search needs)
