@@ -1,44 +1,27 @@
 -- The eight directions turn by turn, and the word of a node, as the code goes through them.
-use mathlib.Core.Bool.{true, false}
-use mathlib.Core.List.{List, [], _∷_}
-use mathlib.Core.Path.{_≡_, refl, ap, sym, _∙_}
+use mathlib.Core.Bool.{false}
+use mathlib.Core.List.{List}
+use mathlib.Core.Path.{_≡_, ap, sym, _∙_}
 use Prim.Native.Nat.{ℕ, _+_, _-_, _*_, _^_, _≤_, _<_, min}
 use native.Mathlib.Nat.{min-eq-left, min-eq-right}
 use native.Mathlib.Omega.{arith}
-use lib.Dec.{eqb}
-use lib.ListN.{getD}
 use lib.Pow.{pow-mono}
-use borrow.Author.Tests.{eqb-true, eq-eqb, ne-eqb}
+use borrow.Author.Tests.{eq-eqb, ne-eqb}
 use Rattle.base.specs.Tab.{least}
-use Rattle.base.proofs.AllLaws.{all-at}
 use Rattle.base.proofs.LeastLaws.{least-next, least-less}
 use Rattle.quad.specs.Numbers.{white, none, topLevel, forkType}
-use Rattle.quad.specs.Direction.{eastStep, southStep}
 use Rattle.table.specs.Table.{nodes, type, isFork}
-use Rattle.table.specs.Links.{Rising}
-use Rattle.table.specs.Rules.{depthTo, Accepted, AtLevel}
+use Rattle.table.specs.Rules.{Accepted, AtLevel}
 use Rattle.table.specs.Nodes.{pixel, levelOf, centreAcross, centreDown}
-use Rattle.table.proofs.AcceptedLaws.{depth-le, father-below, level-top}
+use Rattle.table.proofs.AcceptedLaws.{depth-le, level-top, level-is}
 use Rattle.neighbour.specs.declared.Found.{Found}
 use Rattle.neighbour.specs.declared.Found.the-variants.{At, Off}
 use Rattle.neighbour.specs.Search.{stay, neighbourFound}
 use Rattle.neighbour.proofs.FoundLaws.{FoundAt, found-facts}
 use Rattle.distance.specs.Distance.{plainOutside, nearest, distanceAt}
-use Rattle.distance.specs.Search.{offsetUnder, Spot}
+use Rattle.distance.specs.Search.{offsetFrom, Spot}
 use Rattle.distance.specs.Around.{offsetFound, offsetBeside, offsetAround, Inner}
-use Rattle.distance.proofs.SearchLaws.{offset-leaf, at-black}
 use Rattle.distance.proofs.LeafLaws.{side-small, father-small, leaf-nearest, root-nearest}
-
--- the steps, read from their tables
-pub east-rule : (D : ℕ) → D < stay → getD (1 ∷ 2 ∷ 1 ∷ 0 ∷ 0 ∷ 2 ∷ 0 ∷ 2 ∷ []) D 0 ≡ eastStep D
-unfolding eastStep
-east-rule D d =
-    eqb-true _ _ (all-at (λ (D : ℕ). eqb (getD (1 ∷ 2 ∷ 1 ∷ 0 ∷ 0 ∷ 2 ∷ 0 ∷ 2 ∷ []) D 0) (eastStep D)) 8 refl D d)
-
-pub south-rule : (D : ℕ) → D < stay → getD (0 ∷ 1 ∷ 2 ∷ 1 ∷ 0 ∷ 0 ∷ 2 ∷ 2 ∷ []) D 0 ≡ southStep D
-unfolding southStep
-south-rule D d =
-    eqb-true _ _ (all-at (λ (D : ℕ). eqb (getD (0 ∷ 1 ∷ 2 ∷ 1 ∷ 0 ∷ 0 ∷ 2 ∷ 2 ∷ []) D 0) (southStep D)) 8 refl D d)
 
 -- one direction
 module _ (n : ℕ) (T : List ℕ) (p D : ℕ) (found : Found) (e : found ≡ neighbourFound n T p D) where
@@ -47,41 +30,19 @@ module _ (n : ℕ) (T : List ℕ) (p D : ℕ) (found : Found) (e : found ≡ nei
   beside-off best t o = rw (← e, o) (sym (min-eq-left t))
 
   module _ (m l : ℕ) (o : found ≡ At m l) where
-    pub beside-at : (best r east south : ℕ) → east ≡ eastStep D → south ≡ southStep D
-        → r ≡ min best (offsetUnder T east south l m 0 0) → r ≡ min best (offsetBeside n T p D)
+    pub beside-at : (best r : ℕ) → r ≡ min best (offsetFrom T D l m 0) → r ≡ min best (offsetBeside n T p D)
     unfolding offsetBeside offsetFound
-    beside-at best r east south ee es h = h ∙ rw (← e, o, ee, es)
+    beside-at best r h = h ∙ rw (← e, o)
 
-    module _ (best kind : ℕ) (t : best ≤ none) (k : kind ≡ type T m) where
-      pub beside-white : kind ≡ white → 0 ≡ min best (offsetBeside n T p D)
-      beside-white w =
-          let lf : isFork T m ≡ false = ne-eqb (type T m) forkType (λ q. omega arith) in
-          beside-at best 0 (eastStep D) (southStep D) refl refl
-          (rw (offset-leaf T (eastStep D) (southStep D) l m 0 0 lf, eq-eqb (type T m) white (sym k ∙ w)) (omega arith))
-
-      pub beside-black : (kind ≡ white → ⊥) → (kind ≡ forkType → ⊥) → best ≡ min best (offsetBeside n T p D)
-      beside-black w g =
-          beside-at best best (eastStep D) (southStep D) refl refl (at-black T (eastStep D) (southStep D) l m 0 0 best kind t k w g)
-
-    module _ (q : ℕ) (s : AtLevel n T p q) (d : D < stay) where
-      facts : FoundAt n T p m l
-      facts = found-facts n T (s .accepted) p D (s .node) (omega arith) m l (sym e ∙ o)
-
-      pub found-node : m < nodes T
-      found-node = facts .below
-
-      pub found-spot : (kind : ℕ) → kind ≡ type T m → kind ≡ forkType → Spot T l m 0 0 × (isFork T m ≡ true)
-      found-spot kind k g =
-          let top = s .accepted .sized .level in
-          let h : 2 ^ l ≤ 2 ^ topLevel = pow-mono {i = l} {j = topLevel} (omega (arith, facts .level)) in (
-            record {
-              n = n;
-              place = record { accepted = s .accepted; node = facts .below; level = omega (arith, facts .level, depth-le T n m) };
-              across = omega arith;
-              down = omega arith;
-            },
-            eq-eqb (type T m) forkType (sym k ∙ g),
-          )
+    pub found-spot : (q : ℕ) → AtLevel n T p q → D < stay → Spot T l m 0
+    found-spot q s d =
+        let facts : FoundAt n T p m l = found-facts n T (s .accepted) p D (s .node) (omega arith) m l (sym e ∙ o) in
+        let top = s .accepted .sized .level in
+        record {
+          n = n;
+          place = record { accepted = s .accepted; node = facts .below; level = omega (arith, facts .level, depth-le T n m) };
+          room = omega (arith, pow-mono {i = l} {j = topLevel} (omega (arith, facts .level)));
+        }
 
 -- the loop over the directions: the best so far is the least offset in those passed, or one less than the side
 module _ (n : ℕ) (T : List ℕ) (p l : ℕ) (s : Inner n T p l) where
@@ -91,7 +52,7 @@ module _ (n : ℕ) (T : List ℕ) (p l : ℕ) (s : Inner n T p l) where
   small : offsetAround n T p stay ≤ 2 ^ l - 1
   small =
       let g = s .place in
-      let e : 2 ^ l ≡ 2 ^ levelOf n T p = ap (λ (k : ℕ). 2 ^ k) (omega (arith, g .level)) in
+      let e : 2 ^ l ≡ 2 ^ levelOf n T p = ap (λ (k : ℕ). 2 ^ k) (level-is g) in
       let h = father-small n T (g .accepted) p (g .node) (s .leaf) (s .dark) (s .has-father) in
       omega arith
 
@@ -136,29 +97,24 @@ module _ (n : ℕ) (T : List ℕ) (p kind : ℕ) (k : kind ≡ type T p) where
     pub root-word : p ≡ 0 → none ≡ distanceAt plainOutside n T p
     root-word z = sym (black-nearest n T p f dark ∙ root-nearest n T acc p lt f dark z)
 
-    module _ (z : p ≡ 0 → ⊥) (d : ℕ) (ed : d ≡ depthTo T n p) where
-      pub inner-place : Inner n T p (n - d)
+    module _ (z : p ≡ 0 → ⊥) (l : ℕ) (el : l ≡ levelOf n T p) where
+      pub inner-place : Inner n T p l
       inner-place = record {
-        place = record { accepted = acc; node = lt; level = omega (arith, ed, depth-le T n p) };
+        place = record { accepted = acc; node = lt; level = omega (arith, el, depth-le T n p) };
         has-father = omega arith;
         leaf = f;
         dark = dark;
       }
 
-      module _ (best w : ℕ) (e : best ≡ offsetAround n T p stay) (ew : w ≡ 2 ^ (n - d)) where
+      module _ (best w : ℕ) (e : best ≡ offsetAround n T p stay) (ew : w ≡ 2 ^ l) where
         pub edge-asks : (w ≤ 2 ^ topLevel) × (best < 2 ^ topLevel)
         edge-asks =
             let pos : 0 < p = omega arith in
             let small = father-small n T acc p lt f dark pos in
             let s = side-small n T acc p lt f dark in
-            (rw (ew, ed) s, omega (arith, e))
+            (rw (ew, el) s, omega (arith, e))
 
         pub inner-word : (r : ℕ) → r ≡ w + 2 * best → r ≡ distanceAt plainOutside n T p
         inner-word r er =
             let pos : 0 < p = omega arith in
-            er ∙ rw (ew, ed, e) (sym (black-nearest n T p f dark ∙ leaf-nearest n T acc p lt f dark pos))
-
--- what the climb asks
-pub rising : (n : ℕ) (T : List ℕ) → Accepted n T → (p : ℕ) → p < nodes T → Rising T (p + 1)
-unfolding Rising
-rising n T acc p lt k l pos = father-below n T acc k (omega arith) pos
+            er ∙ rw (ew, el, e) (sym (black-nearest n T p f dark ∙ leaf-nearest n T acc p lt f dark pos))

@@ -1,5 +1,7 @@
 pub mod NearestLaws
 pub mod SearchLaws
+pub mod WayLaws
+pub mod TurnLaws
 pub mod OffsetLaws
 pub mod GapLaws
 pub mod WhiteLaws
@@ -7,6 +9,7 @@ pub mod BesideLaws
 pub mod FatherLaws
 pub mod LeafLaws
 pub mod AroundLaws
+pub mod LevelLaws
 pub mod CallLaws
 pub mod TheoremOne
 pub mod Bounds

@@ -1,10 +1,10 @@
--- The search turn by turn: nothing under a node is nearer than its near edges, and the four quarters, taken in any order, are the fork.
-use mathlib.Core.Bool.{Bool, true, false}
+-- The search under a node: nothing there is nearer than its near edges, and the four quarters, taken in any order, are the fork.
+use mathlib.Core.Bool.{true, false}
 use mathlib.Core.List.{List}
-use mathlib.Core.Logic.{⊎-elim}
+use mathlib.Core.Logic.{_⊎_, ⊎-elim}
 use mathlib.Core.Path.{_≡_, refl, ap, sym, _∙_}
-use Prim.Native.Nat.{ℕ, zero, suc, _+_, _-_, _*_, _/_, _%_, _^_, _≤_, _<_, min, max}
-use native.Mathlib.Nat.{le-trans, le-antisymm, le-min, min-le-left, min-le-right, min-eq-left, min-eq-right, max-le, le-max-left, le-max-right}
+use Prim.Native.Nat.{ℕ, zero, suc, _+_, _-_, _*_, _^_, _≤_, _<_, min, max}
+use native.Mathlib.Nat.{pow-succ', le-trans, le-antisymm, le-min, min-le-left, min-le-right, min-eq-left, max-le, le-max-left, le-max-right}
 use native.Mathlib.Omega.{arith}
 use lib.Dec.{eqb}
 use borrow.Author.Tests.{eq-eqb, ne-eqb, eqb-true, eqb-false}
@@ -12,36 +12,11 @@ use Rattle.base.specs.Tab.{least}
 use Rattle.base.proofs.BoolLaws.{by-bool}
 use Rattle.base.proofs.CaseLaws.{cond-case}
 use Rattle.base.proofs.LeastLaws.{least-le, least-ge}
-use Rattle.base.proofs.PowLaws.{pow-more}
-use Rattle.quad.specs.Numbers.{white, none, topLevel, forkType}
-use Rattle.table.specs.Table.{nodes, son, type, isFork}
+use Rattle.quad.specs.Numbers.{white, none, forkType}
+use Rattle.quad.specs.Direction.{eastStep, southStep}
+use Rattle.table.specs.Table.{son, type, isFork}
 use Rattle.table.proofs.AcceptedLaws.{fork-above, son-at}
-use Rattle.distance.specs.Search.{nearHalf, fartherBy, nearQuarter, acrossFirst, nextQuarter, leafOffset, offsetUnder, offsetIn, Spot}
-
--- one half, as the code finds it
-pub far-near : (step half w r : ℕ) → (step ≡ 1 → ⊥) → r ≡ nearHalf step → half ≡ r → 0 ≡ fartherBy step half w
-unfolding fartherBy
-far-near step half w r h e f = rw (ne-eqb step 1 h, eq-eqb half (nearHalf step) (f ∙ e))
-
-pub far-far : (step half w r : ℕ) → (step ≡ 1 → ⊥) → r ≡ nearHalf step → (half ≡ r → ⊥) → w ≡ fartherBy step half w
-unfolding fartherBy
-far-far step half w r h e f = rw (ne-eqb step 1 h, ne-eqb half (nearHalf step) (λ q. f (q ∙ sym e)))
-
-pub far-le : (step half w : ℕ) → fartherBy step half w ≤ w
-unfolding fartherBy
-far-le step half w =
-    cond-case (λ (m : ℕ). m ≤ w) (eqb step 1) 0 _ (λ e. omega arith)
-    (λ e. cond-case (λ (m : ℕ). m ≤ w) (eqb half (nearHalf step)) 0 w (λ e. omega arith) (λ e. omega arith))
-
--- the next quarter, as the code finds it
-module _ (east south a b x y : ℕ) (u : Bool) (ex : x ≡ nearHalf east) (ey : y ≡ nearHalf south) (eu : u ≡ acrossFirst east south a b) where
-  pub next-across : u ≡ true → 1 - x + 2 * y ≡ nextQuarter east south a b
-  unfolding nextQuarter
-  next-across h = rw (ex, ey, nextQuarter, ← eu, h)
-
-  pub next-down : u ≡ false → x + 2 * (1 - y) ≡ nextQuarter east south a b
-  unfolding nextQuarter
-  next-down h = rw (ex, ey, nextQuarter, ← eu, h)
+use Rattle.distance.specs.Search.{nearHalf, nearQuarter, nextQuarter, leafOffset, offsetUnder, offsetIn, offsetFrom, Spot}
 
 -- the next quarter shares a side with the nearest, so that these and the ones opposite are the four
 pub near-half-lt : (step : ℕ) → nearHalf step < 2
@@ -53,14 +28,20 @@ pub record Pair (q r : ℕ) : Type 0 where
   pub apart : q ≡ r → ⊥
   pub adjacent : q + r ≡ 3 → ⊥
 
-pub near-next : (east south a b : ℕ) → Pair (nearQuarter east south) (nextQuarter east south a b)
+pub near-next : (east south : ℕ) → Pair (nearQuarter east south) (nextQuarter east south)
 unfolding nearQuarter nextQuarter
-near-next east south a b =
+near-next east south =
     let x = near-half-lt east in
     let y = near-half-lt south in
-    cond-case (Pair (nearHalf east + 2 * nearHalf south)) (acrossFirst east south a b) (1 - nearHalf east + 2 * nearHalf south) (nearHalf east + 2 * (1 - nearHalf south))
+    cond-case (Pair (nearHalf east + 2 * nearHalf south)) (eqb east 1) (1 - nearHalf east + 2 * nearHalf south) (nearHalf east + 2 * (1 - nearHalf south))
     (λ e. record { first = omega arith; second = omega arith; apart = λ h. omega arith; adjacent = λ h. omega arith })
     (λ e. record { first = omega arith; second = omega arith; apart = λ h. omega arith; adjacent = λ h. omega arith })
+
+pub near-lt : {q : ℕ} (east south : ℕ) → q ≡ nearQuarter east south → q < 4
+near-lt east south e = rw e (near-next east south .first)
+
+pub next-lt : {q : ℕ} (east south : ℕ) → q ≡ nextQuarter east south → q < 4
+next-lt east south e = rw e (near-next east south .second)
 
 -- what lies under a leaf, and under a fork
 module _ (T : List ℕ) (east south : ℕ) where
@@ -132,81 +113,28 @@ module _ (f : ℕ → ℕ) (q r : ℕ) (p : Pair q r) where
       (le-min l₀ (least-ge none f (taken f q r best) 4 (le-trans l₀ t) each))
       (le-min (le-min (le-min (le-min (min-le-left best (least none f 4)) (some q (p .first))) (some r (p .second))) (some (3 - r) (omega arith))) (some (3 - q) (omega arith)))
 
--- the code's own turns
-module _ (T : List ℕ) (east south l p a b best : ℕ) where
-  abbrev found : ℕ
-  found = min best (offsetUnder T east south l p a b)
-
-  pub stopped : (bound : ℕ) → bound ≡ max a b → best ≤ none → best ≤ bound → best ≡ found
-  stopped bound e t h = sym (min-eq-left (offset-bound T east south l p a b best t (rw e at h)))
-
-  pub at-white : (bound kind : ℕ) → bound ≡ max a b → bound < best → kind ≡ type T p → kind ≡ white → bound ≡ found
-  at-white bound kind e h k w =
+-- a node in the code's hands: a white leaf, and a black one
+module _ (T : List ℕ) (D l p at best kind : ℕ) (k : kind ≡ type T p) where
+  pub at-white : at ≤ best → kind ≡ white → at ≡ min best (offsetFrom T D l p at)
+  at-white h w =
       let z : type T p ≡ white = sym k ∙ w in
       let lf : isFork T p ≡ false = ne-eqb (type T p) forkType (λ q. omega arith) in
-      rw (offset-leaf T east south l p a b lf, eq-eqb (type T p) white z, ← e) (sym (min-eq-right (omega arith)))
+      rw (offset-leaf T (eastStep D) (southStep D) l p at at lf, eq-eqb (type T p) white z) (omega arith)
 
-  pub at-black : (kind : ℕ) → best ≤ none → kind ≡ type T p → (kind ≡ white → ⊥) → (kind ≡ forkType → ⊥) → best ≡ found
-  at-black kind t k w g =
+  pub at-black : best ≤ none → (kind ≡ white → ⊥) → (kind ≡ forkType → ⊥) → best ≡ min best (offsetFrom T D l p at)
+  at-black t w g =
       let lf : isFork T p ≡ false = ne-eqb (type T p) forkType (λ q. g (k ∙ q)) in
-      rw (offset-leaf T east south l p a b lf, ne-eqb (type T p) white (λ q. w (k ∙ q))) (sym (min-eq-left t))
+      rw (offset-leaf T (eastStep D) (southStep D) l p at at lf, ne-eqb (type T p) white (λ q. w (k ∙ q))) (sym (min-eq-left t))
 
--- the quarters of a fork are nodes of the next level
-pub spot-son : {T : List ℕ} {l p a b q : ℕ} (u v : ℕ) → Spot T (l + 1) p a b → isFork T p ≡ true → q < 4 → u ≤ 2 ^ l → v ≤ 2 ^ l → Spot T l (son T p q) (a + u) (b + v)
-spot-son {T} {l} {p} {a} {b} {q} u v s f q4 hu hv =
-    let w = pow-more 2 l in
-    let back : l + 1 - 1 ≡ l = omega arith in
-    record { n = s .n; place = rw back at (son-at (s .place) f q q4); across = omega (arith, s .across); down = omega (arith, s .down) }
-
--- a fork's four quarters, one after the other
-module _ {T : List ℕ} {l p a b : ℕ} (s : Spot T l p a b) (f : isFork T p ≡ true) where
-  pub quarter-asks : (t q : ℕ) → 2 * l ≡ t → q < 4 → (2 * (l - 1) + 1 < t) × (Spot T (l - 1 + 1) p a b × (isFork T p ≡ true) × (q < 4))
-  quarter-asks t q e q4 =
+-- a fork's quarters are nodes of the next level
+module _ {T : List ℕ} {l p at : ℕ} (s : Spot T l p at) (f : isFork T p ≡ true) where
+  -- twice a quarter's side
+  pub halves : 2 ^ l ≡ 2 * 2 ^ (l - 1)
+  halves =
       let pos = fork-above (s .place) f in
-      let back : l - 1 + 1 ≡ l = omega arith in
-      (omega arith, (rw back s, f, q4))
+      let e : l ≡ suc (l - 1) = omega arith in
+      ap (λ (k : ℕ). 2 ^ k) e ∙ pow-succ' 2 (l - 1)
 
-  pub quarters : (east south best r₁ r₂ r₃ r₄ q r : ℕ) → best ≤ none → q ≡ nearQuarter east south → r ≡ nextQuarter east south a b
-      → r₁ ≡ min best (offsetIn T east south (l - 1) p a b q) → r₂ ≡ min r₁ (offsetIn T east south (l - 1) p a b r)
-      → r₃ ≡ min r₂ (offsetIn T east south (l - 1) p a b (3 - r)) → r₄ ≡ min r₃ (offsetIn T east south (l - 1) p a b (3 - q))
-      → r₄ ≡ min best (offsetUnder T east south l p a b)
-  quarters east south best r₁ r₂ r₃ r₄ q r t eq er e₁ e₂ e₃ e₄ =
-      let m : ℕ = l - 1 in
-      let pos = fork-above (s .place) f in
-      let e : l ≡ suc m = omega arith in
-      let all : offsetUnder T east south l p a b ≡ least none (offsetIn T east south m p a b) 4 =
-      ap (λ (k : ℕ). offsetUnder T east south k p a b) e ∙ offset-fork T east south m p a b f in
-      let pr : Pair q r = rw (eq, er) (near-next east south a b) in
-      rw (e₄, e₃, e₂, e₁, all) (four-quarters (offsetIn T east south m p a b) q r pr best t)
-
-pub near-lt : {q : ℕ} (east south : ℕ) → q ≡ nearQuarter east south → q < 4
-near-lt east south e = rw e (near-next east south 0 0 .first)
-
-pub next-lt : {q : ℕ} (east south a b : ℕ) → q ≡ nextQuarter east south a b → q < 4
-next-lt east south a b e = rw e (near-next east south a b .second)
-
-pub son-lt : {T : List ℕ} {l p a b q : ℕ} (m : ℕ) → Spot T l p a b → isFork T p ≡ true → q < 4 → m ≡ son T p q → m < nodes T
-son-lt {T} {l} {p} {a} {b} {q} m s f q4 e = rw e (son-at (s .place) f q q4 .node)
-
--- one of them is entered: u and v are how much farther on it lies
-module _ {T : List ℕ} (l : ℕ) {p a b q : ℕ} (east south : ℕ) (s : Spot T (l + 1) p a b) (f : isFork T p ≡ true) (q4 : q < 4)
-    {w : ℕ} (ew : w ≡ 2 ^ l) where
-  pub room-across : {u : ℕ} (step half : ℕ) → u ≡ fartherBy step half w → a + u ≤ 2 ^ topLevel
-  room-across step half e =
-      let le = far-le step half w in
-      omega (arith, pow-more 2 l, s .across)
-
-  pub room-down : {v : ℕ} (step half : ℕ) → v ≡ fartherBy step half w → b + v ≤ 2 ^ topLevel
-  room-down step half e =
-      let le = far-le step half w in
-      omega (arith, pow-more 2 l, s .down)
-
-  module _ {u v m : ℕ} (eu : u ≡ fartherBy east (q % 2) w) (ev : v ≡ fartherBy south (q / 2) w) (em : m ≡ son T p q) where
-    pub enter-asks : (t kind : ℕ) → 2 * l + 1 ≡ t → kind ≡ type T m → kind ≡ forkType → (2 * l < t) × (Spot T l m (a + u) (b + v) × (isFork T m ≡ true))
-    enter-asks t kind e k g =
-        let lu : u ≤ 2 ^ l = rw (eu, ew) (far-le east (q % 2) (2 ^ l)) in
-        let lv : v ≤ 2 ^ l = rw (ev, ew) (far-le south (q / 2) (2 ^ l)) in
-        (omega arith, (rw em (spot-son u v s f q4 lu lv), eq-eqb (type T m) forkType (sym k ∙ g)))
-
-    pub entered : (best r : ℕ) → r ≡ min best (offsetUnder T east south l m (a + u) (b + v)) → r ≡ min best (offsetIn T east south l p a b q)
-    entered best r e = e ∙ rw (em, eu, ev, ew)
+  pub spot-son : (q to : ℕ) → q < 4 → to ≤ at + 2 ^ (l - 1) → Spot T (l - 1) (son T p q) to
+  spot-son q to q4 h =
+      record { n = s .n; place = son-at (s .place) f q q4; room = omega (arith, s .room, halves) }

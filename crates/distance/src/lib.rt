@@ -6,7 +6,7 @@ use table::word_at;
 ghost use mathlib.Core.Path.{_≡_};
 ghost use mathlib.Core.Bool.{true};
 ghost use lib.ListN.{length};
-ghost use Prim.Native.Nat.{_+_, _*_, _^_, _<_, _≤_, min, max};
+ghost use Prim.Native.Nat.{_+_, _*_, _^_, _<_, _≤_, min};
 ghost use Rattle.quad.specs.Numbers.{topLevel};
 ghost use Rattle.quad.specs.Direction.{eastStep, southStep};
 ghost use Rattle.table.specs.Table.{nodes, isFork};
@@ -14,153 +14,109 @@ ghost use Rattle.table.specs.Rules.{Accepted, AtLevel};
 ghost use Rattle.neighbour.specs.Search.{stay};
 ghost use Rattle.distance.specs.Calls.{Distances};
 ghost use Rattle.distance.specs.Distance.{plainOutside, distanceAt, distancesOf};
-ghost use Rattle.distance.specs.Around.{offsetBeside, offsetAround, Inner};
-ghost use Rattle.distance.specs.Search.{fartherBy, nearHalf, nearQuarter, acrossFirst, nextQuarter, offsetUnder, offsetIn, Spot};
+ghost use Rattle.distance.specs.Around.{offsetBeside, offsetAround, Inner, Levels};
+ghost use Rattle.distance.specs.Search.{nearQuarter, nextQuarter, NextWay, OtherWay, nextEdge, offsetFrom, Spot};
 
 // The mark where no pixel is white.
 const MARK: u32 = quad::NONE as u32;
 
-// One more than the step that a direction takes to the east, and to the south.
-const EAST: [u32; 8] = [1, 2, 1, 0, 0, 2, 0, 2];
+// By the direction in which a block is searched: its quarter at the near edges, and the quarter that is taken next.
+const NEAR: [u8; 8] = [2, 0, 0, 1, 3, 2, 1, 0];
 
-const SOUTH: [u32; 8] = [0, 1, 2, 1, 0, 0, 2, 2];
+const NEXT: [u8; 8] = [3, 2, 1, 3, 1, 0, 3, 2];
 
-fn east_step(direction: usize) -> u32
-    requires { ⌜ direction < stay ⌝ }
-    ensures { λ r. ⌜ r ≡ eastStep direction ⌝ }
-{
-    EAST[direction]
-}
+// The direction in which that quarter is searched, and the one for the quarter opposite to it: a corner's quarters down and across lie beyond a side.
+const NEXT_WAY: [u8; 8] = [0, 1, 2, 3, 0, 0, 2, 2];
 
-fn south_step(direction: usize) -> u32
-    requires { ⌜ direction < stay ⌝ }
-    ensures { λ r. ⌜ r ≡ southStep direction ⌝ }
-{
-    SOUTH[direction]
-}
-
-// The larger of two numbers.
-fn larger(a: u32, b: u32) -> u32
-    ensures { λ r. ⌜ r ≡ max a b ⌝ }
-{
-    if a < b {
-        return b;
-    }
-    a
-}
-
-// How much farther than the nearer half of a block a half of it lies: its side, or nothing.
-fn farther_by(step: u32, half: usize, side: u32) -> u32
-    ensures { λ r. ⌜ r ≡ fartherBy step half side ⌝ }
-{
-    if step == 1 {
-        return 0;
-    }
-    if half == near_half(step) {
-        return 0;
-    }
-    side
-}
-
-// The half of a block that lies nearer along an axis: the second where the step goes back.
-fn near_half(step: u32) -> usize
-    ensures { λ r. ⌜ (r ≡ nearHalf step) × (r < 2) ⌝ }
-{
-    if step == 0 {
-        return 1;
-    }
-    0
-}
+const OTHER_WAY: [u8; 8] = [0, 1, 2, 3, 3, 1, 3, 1];
 
 // The quarter of a block that lies nearest.
-fn near_quarter(east: u32, south: u32) -> usize
-    ensures { λ r. ⌜ r ≡ nearQuarter east south ⌝ }
+fn near_quarter(direction: usize) -> usize
+    requires { ⌜ direction < stay ⌝ }
+    ensures { λ r. ⌜ r ≡ nearQuarter (eastStep direction) (southStep direction) ⌝ }
 {
-    near_half(east) + 2 * near_half(south)
-}
-
-// Whether the quarter across lies no farther than the one down: where the step stays across, or the near edge down is the farther one already.
-fn across_first(east: u32, south: u32, a: u32, b: u32) -> bool
-    ensures { λ r. ⌜ r ≡ acrossFirst east south a b ⌝ }
-{
-    if east == 1 {
-        return true;
-    }
-    if south == 1 {
-        return false;
-    }
-    a < b
+    NEAR[direction] as usize
 }
 
 // The quarter that lies nearest but for that one.
-fn next_quarter(east: u32, south: u32, a: u32, b: u32) -> usize
-    ensures { λ r. ⌜ r ≡ nextQuarter east south a b ⌝ }
+fn next_quarter(direction: usize) -> usize
+    requires { ⌜ direction < stay ⌝ }
+    ensures { λ r. ⌜ r ≡ nextQuarter (eastStep direction) (southStep direction) ⌝ }
 {
-    let x = near_half(east);
-    let y = near_half(south);
-    if across_first(east, south, a, b) {
-        return 1 - x + 2 * y;
-    }
-    x + 2 * (1 - y)
+    NEXT[direction] as usize
 }
 
-// The least of best and the offsets of the white pixels under fork p, whose block has its near edges at a and b: its quarters, the nearest first.
-fn seek(
-    table: &[u32],
-    east: u32,
-    south: u32,
-    p: usize,
-    level: u32,
-    a: u32,
-    b: u32,
-    best: u32,
-) -> u32
-    requires { ⌜ Spot (now table) level p a b × (isFork (now table) p ≡ true) ⌝ }
-    ensures { λ r. ⌜ r ≡ min best (offsetUnder (now (table .entry)) east south level p a b) ⌝ }
+// The direction in which the next quarter is searched.
+fn next_way(direction: usize) -> usize
+    requires { ⌜ direction < stay ⌝ }
+    ensures { λ r. ⌜ NextWay direction r ⌝ }
 {
-    let m = level - 1;
-    let near = near_quarter(east, south);
-    let next = next_quarter(east, south, a, b);
-    let best1 = seek_in(table, east, south, p, m, a, b, near, best);
-    let best2 = seek_in(table, east, south, p, m, a, b, next, best1);
-    let best3 = seek_in(table, east, south, p, m, a, b, 3 - next, best2);
-    seek_in(table, east, south, p, m, a, b, 3 - near, best3)
+    NEXT_WAY[direction] as usize
 }
 
-// The same in quarter q of fork p; a quarter's level is given. No offset there is below the larger of those of the quarter's near edges.
-fn seek_in(
-    table: &[u32],
-    east: u32,
-    south: u32,
-    p: usize,
-    level: u32,
-    a: u32,
-    b: u32,
-    q: usize,
-    best: u32,
-) -> u32
-    requires { ⌜ Spot (now table) (level + 1) p a b × (isFork (now table) p ≡ true) × (q < 4) ⌝ }
-    ensures { λ r. ⌜ r ≡ min best (offsetIn (now (table .entry)) east south level p a b q) ⌝ }
+// The direction in which the quarter opposite to the next one is searched.
+fn other_way(direction: usize) -> usize
+    requires { ⌜ direction < stay ⌝ }
+    ensures { λ r. ⌜ OtherWay direction r ⌝ }
 {
-    let half = quad::side(level);
-    let across = a + farther_by(east, q % 2, half);
-    let down = b + farther_by(south, q / 2, half);
-    let bound = larger(across, down);
-    if best <= bound {
-        return best;
+    OTHER_WAY[direction] as usize
+}
+
+// Where the next quarter begins: beside the nearest one along a side, and farther on at a corner.
+fn next_edge(direction: usize, at: u32, far: u32) -> u32
+    ensures { λ r. ⌜ r ≡ nextEdge direction at far ⌝ }
+{
+    if direction < 4 {
+        return at;
     }
-    let son = word_at(table, p, 1 + q);
-    let kind = word_at(table, son, 5);
+    far
+}
+
+// The least of best and the offsets of the white pixels under node p, whose block begins at an offset: a white leaf's nearest pixel is there.
+fn look(table: &[u32], direction: usize, p: usize, level: u32, at: u32, best: u32) -> u32
+    requires { ⌜ Spot (now table) level p at × (direction < stay) × (at ≤ best) ⌝ }
+    ensures { λ r. ⌜ r ≡ min best (offsetFrom (now (table .entry)) direction level p at) ⌝ }
+{
+    let kind = word_at(table, p, 5);
     if kind == 0 {
-        return bound;
+        return at;
     }
     if kind != quad::FORK {
         return best;
     }
-    seek(table, east, south, son, level, across, down, best)
+    seek(table, direction, p, level, at, best)
 }
 
-// The least of best and the offsets of the white pixels in the neighbour of leaf p in a direction. Off the sheet nothing is white.
+// The same under fork p: its quarters, the nearest first, until none that is left begins below the best.
+fn seek(table: &[u32], direction: usize, p: usize, level: u32, at: u32, best: u32) -> u32
+    requires { ⌜ Spot (now table) level p at × (isFork (now table) p ≡ true) × (direction < stay) × (at ≤ best) ⌝ }
+    ensures { λ r. ⌜ r ≡ min best (offsetFrom (now (table .entry)) direction level p at) ⌝ }
+{
+    let m = level - 1;
+    let far = at + quad::side(m);
+    let near = near_quarter(direction);
+    let first = word_at(table, p, 1 + near);
+    let best1 = look(table, direction, first, m, at, best);
+    let edge = next_edge(direction, at, far);
+    if best1 <= edge {
+        return best1;
+    }
+    let next = next_quarter(direction);
+    let second = word_at(table, p, 1 + next);
+    let best2 = look(table, next_way(direction), second, m, edge, best1);
+    if best2 <= far {
+        return best2;
+    }
+    let third = word_at(table, p, 1 + (3 - next));
+    let best3 = look(table, other_way(direction), third, m, far, best2);
+    if best3 <= far {
+        return best3;
+    }
+    let last = word_at(table, p, 1 + (3 - near));
+    look(table, direction, last, m, far, best3)
+}
+
+// The least of best and the offsets of the white pixels in the neighbour of leaf p in a direction. Off the sheet nothing is white; a leaf tells at once.
 fn beside(n: u32, table: &[u32], p: usize, level: u32, direction: usize, best: u32) -> u32
     requires { ⌜ AtLevel n (now table) p level × (direction < stay) ⌝ }
     ensures { λ r. ⌜ r ≡ min best (offsetBeside n (now (table .entry)) p direction) ⌝ }
@@ -176,16 +132,7 @@ fn beside(n: u32, table: &[u32], p: usize, level: u32, direction: usize, best: u
     if kind != quad::FORK {
         return best;
     }
-    seek(
-        table,
-        east_step(direction),
-        south_step(direction),
-        node,
-        its,
-        0,
-        0,
-        best,
-    )
+    seek(table, direction, node, its, 0, best)
 }
 
 // The least offset of a white pixel in the eight neighbours of a black leaf that has a father. It is below the side (document 001, Theorem 1), and none is
@@ -214,9 +161,9 @@ fn to_edge(side: u32, offset: u32) -> u32
     side + 2 * offset
 }
 
-// The distance of node p. A black root is the whole sheet: nothing is white.
-fn distance(n: u32, table: &[u32], p: usize) -> u32
-    requires { ⌜ Accepted n (now table) × (p < nodes (now table)) ⌝ }
+// The distance of node p, whose level is given. A black root is the whole sheet: nothing is white.
+fn distance(n: u32, table: &[u32], p: usize, level: u32) -> u32
+    requires { ⌜ AtLevel n (now table) p level ⌝ }
     ensures { λ r. ⌜ r ≡ distanceAt plainOutside n (now (table .entry)) p ⌝ }
 {
     let kind = word_at(table, p, 5);
@@ -229,18 +176,30 @@ fn distance(n: u32, table: &[u32], p: usize) -> u32
     if p == 0 {
         return MARK;
     }
-    let level = n - table::depth_to(table, n, p);
     to_edge(quad::side(level), around(n, table, p, level))
 }
 
-// Writes the distance of every node.
-fn fill(n: u32, table: &[u32], out: &mut [u32])
+// Writes the level of every node: one less than its father's, who stands before it.
+fn levels(n: u32, table: &[u32], out: &mut [u32])
     requires { ⌜ Accepted n (now table) × (length (now out) ≡ nodes (now table)) ⌝ }
+    ensures { λ _. ⌜ Levels n (now (table .entry)) (now (out .exit)) 0 (nodes (now (table .entry))) ⌝ }
+{
+    out[0] = n;
+    let mut p = 1;
+    while p < out.len() {
+        out[p] = out[word_at(table, p, 0)] - 1;
+        p += 1;
+    }
+}
+
+// Writes the distance of every node over its level.
+fn fill(n: u32, table: &[u32], out: &mut [u32])
+    requires { ⌜ Accepted n (now table) × (length (now out) ≡ nodes (now table)) × Levels n (now table) (now out) 0 (nodes (now table)) ⌝ }
     ensures { λ _. ⌜ now (out .exit) ≡ distancesOf plainOutside n (now (table .entry)) ⌝ }
 {
     let mut p = 0;
     while p < out.len() {
-        out[p] = distance(n, table, p);
+        out[p] = distance(n, table, p, out[p]);
         p += 1;
     }
 }
@@ -260,6 +219,7 @@ pub fn distances(n: u32, table: &[u32], out: &mut [u32]) -> Outcome
     if !answer::answered(checked) {
         return checked;
     }
+    levels(n, table, out);
     fill(n, table, out);
     Outcome::Answered { value: 0 }
 }

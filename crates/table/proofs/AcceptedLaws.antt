@@ -16,7 +16,7 @@ use Rattle.quad.proofs.TreeLaws.{by-quadrant, alike-leaves}
 use Rattle.table.specs.Table.{nodes, father, son, type, isFork}
 use Rattle.table.specs.Links.{SonsIn}
 use Rattle.table.specs.Rules.{depthTo, typeOk, fatherOk, timesNamed, onceOk, depthOk, allOf, sonAlike, mixedOk, Accepted, AtLevel}
-use Rattle.table.specs.Nodes.{sonType, treeAt}
+use Rattle.table.specs.Nodes.{sonType, treeAt, levelOf}
 use Rattle.table.proofs.RuleLaws.{depth-none, depth-root, depth-step, sons-in, sons-none, Passed, passed}
 use Rattle.table.proofs.FourLaws.{One, one-of-four}
 
@@ -216,6 +216,9 @@ root-at {n} {T} acc = record { accepted = acc; node = acc .sized .some; level = 
 module _ {n : ℕ} {T : List ℕ} {p l : ℕ} (h : AtLevel n T p l) where
   pub level-top : l ≤ topLevel
   level-top = omega (arith, h .level, h .accepted .sized .level)
+
+  pub level-is : l ≡ levelOf n T p
+  level-is = omega (arith, h .level)
 
   module _ (f : isFork T p ≡ true) where
     pub fork-above : 0 < l

@@ -1,7 +1,10 @@
 -- `distance::beside`: the neighbour and its level; a white leaf is at offset 0, a black one counts for nothing, a fork is searched. Assumes nothing.
 use native.Mathlib.Omega.{arith}
+use mathlib.Core.Path.{sym, _∙_}
 use borrow.Author.Needs.{needs}
-use Rattle.distance.proofs.AroundLaws.{beside-off, beside-white, beside-black, beside-at, found-node, found-spot}
+use borrow.Author.Tests.{eq-eqb}
+use Rattle.distance.proofs.SearchLaws.{at-white, at-black}
+use Rattle.distance.proofs.AroundLaws.{beside-off, beside-at, found-spot}
 use Rattle.distance.proofs.beside.Statement.{statement}
 use Rattle.distance.proofs.beside.Tie as tie
 
@@ -18,25 +21,19 @@ returns : tie.Need-returns
 returns c = beside-off _ _ _ _ _ (c .before .before .find .ensures) _ (omega arith) (c .enum-told .given .1)
 
 word-at-requires : tie.Need-word-at-requires
-word-at-requires c κs = (found-node _ _ _ _ _ (c .before .before .before .find .ensures) _ _ (c .before .found .given .1) _ (c .before .before .before .before .before .pre .0) (c .before .before .before .before .before .pre .1), omega arith)
+word-at-requires c κs = (found-spot _ _ _ _ _ (c .before .before .before .find .ensures) _ _ (c .before .found .given .1) _ (c .before .before .before .before .before .pre .0) (c .before .before .before .before .before .pre .1) .place .node, omega arith)
 
 returns-2 : tie.Need-returns-2
-returns-2 c = beside-white _ _ _ _ _ (c .before .before .before .before .before .find .ensures) _ _ (c .before .before .before .found .given .1) _ _ (omega arith) (c .before .word-at .ensures) (c .if1 .taken)
+returns-2 c = beside-at _ _ _ _ _ (c .before .before .before .before .before .find .ensures) _ _ (c .before .before .before .found .given .1) _ _ (at-white _ _ _ _ _ _ _ (c .before .word-at .ensures) (omega arith) (c .if1 .taken))
 
 returns-3 : tie.Need-returns-3
-returns-3 c = beside-black _ _ _ _ _ (c .before .before .before .before .before .before .find .ensures) _ _ (c .before .before .before .before .found .given .1) _ _ (omega arith) (c .before .before .word-at .ensures) (c .before .if1 .left) (c .if2 .taken)
-
-east-step-requires : tie.Need-east-step-requires
-east-step-requires c κs = search needs
-
-south-step-requires : tie.Need-south-step-requires
-south-step-requires c κs = search needs
+returns-3 c = beside-at _ _ _ _ _ (c .before .before .before .before .before .before .find .ensures) _ _ (c .before .before .before .before .found .given .1) _ _ (at-black _ _ _ _ _ _ _ (c .before .before .word-at .ensures) (omega arith) (c .before .if1 .left) (c .if2 .taken))
 
 seek-requires : tie.Need-seek-requires
-seek-requires c κs = found-spot _ _ _ _ _ (c .before .before .before .before .before .before .before .before .find .ensures) _ _ (c .before .before .before .before .before .before .found .given .1) _ (c .before .before .before .before .before .before .before .before .before .before .pre .0) (c .before .before .before .before .before .before .before .before .before .before .pre .1) _ (c .before .before .before .before .word-at .ensures) (c .before .before .if2 .left)
+seek-requires c κs = (found-spot _ _ _ _ _ (c .before .before .before .before .before .before .find .ensures) _ _ (c .before .before .before .before .found .given .1) _ (c .before .before .before .before .before .before .before .before .pre .0) (c .before .before .before .before .before .before .before .before .pre .1), eq-eqb _ _ (sym (c .before .before .word-at .ensures) ∙ c .if2 .left), c .before .before .before .before .before .before .before .before .pre .1, omega arith)
 
 returns-4 : tie.Need-returns-4
-returns-4 c = beside-at _ _ _ _ _ (c .before .before .before .before .before .before .before .before .before .find .ensures) _ _ (c .before .before .before .before .before .before .before .found .given .1) _ _ _ _ (c .before .before .east-step .ensures) (c .before .south-step .ensures) (c .seek .ensures)
+returns-4 c = beside-at _ _ _ _ _ (c .before .before .before .before .before .before .before .find .ensures) _ _ (c .before .before .before .before .before .found .given .1) _ _ (c .seek .ensures)
 
 pub beside-spec : {M : Type 1} → statement M
 beside-spec =
@@ -49,7 +46,5 @@ beside-spec =
     word-at-requires
     returns-2
     returns-3
-    east-step-requires
-    south-step-requires
     seek-requires
     returns-4)

@@ -1,4 +1,5 @@
 -- `distance::distances`: the tests in document 01's order, and the words only where all are passed. Assumes nothing.
+use native.Mathlib.Omega.{arith}
 use borrow.Author.Needs.{needs}
 use Rattle.table.proofs.CheckLaws.{sized-call}
 use Rattle.distance.proofs.CallLaws.{size-refused, words-refused, fault-refused, table-accepted, all-filled}
@@ -29,14 +30,17 @@ answered-requires-2 c κs = search needs
 returns-3 : tie.Need-returns-3
 returns-3 c = fault-refused _ _ _ _ _ (c .before .before .before .before .before .before .before .sizes .ensures) (c .before .before .before .before .before .before .answered .ensures) (c .before .before .before .before .before .if1 .left) _ (c .before .before .before .before .node-count .ensures) (c .before .before .before .if2 .left) _ _ (c .before .before .faults .ensures) (c .before .answered2 .ensures) (c .if3 .taken)
 
+levels-requires : tie.Need-levels-requires
+levels-requires c κs = table-accepted _ _ (c .before .before .before .before .before .before .before .before .before .before .before .args .out .now) _ _ (c .before .before .before .before .before .before .before .before .sizes .ensures) (c .before .before .before .before .before .before .before .answered .ensures) (c .before .before .before .before .before .before .if1 .left) _ (c .before .before .before .before .before .node-count .ensures) (c .before .before .before .before .if2 .left) _ _ (c .before .before .before .faults .ensures) (c .before .before .answered2 .ensures) (c .before .if3 .left)
+
 fill-requires : tie.Need-fill-requires
-fill-requires c κs = table-accepted _ _ (c .before .before .before .before .before .before .before .before .before .before .before .args .out .now) _ _ (c .before .before .before .before .before .before .before .before .sizes .ensures) (c .before .before .before .before .before .before .before .answered .ensures) (c .before .before .before .before .before .before .if1 .left) _ (c .before .before .before .before .before .node-count .ensures) (c .before .before .before .before .if2 .left) _ _ (c .before .before .before .faults .ensures) (c .before .before .answered2 .ensures) (c .before .if3 .left)
+fill-requires c κs = let a = table-accepted _ _ (c .before .before .before .before .before .before .before .before .before .before .before .before .before .before .before .args .out .now) _ _ (c .before .before .before .before .before .before .before .before .before .before .before .before .sizes .ensures) (c .before .before .before .before .before .before .before .before .before .before .before .answered .ensures) (c .before .before .before .before .before .before .before .before .before .before .if1 .left) _ (c .before .before .before .before .before .before .before .before .before .node-count .ensures) (c .before .before .before .before .before .before .before .before .if2 .left) _ _ (c .before .before .before .before .before .before .before .faults .ensures) (c .before .before .before .before .before .before .answered2 .ensures) (c .before .before .before .before .before .if3 .left) in (a .0, omega (arith, c .before .before .before .levels .kept, a .1), c .before .before .before .levels .ensures)
 
 same-length : tie.Need-same-length
 same-length c = search needs
 
 returns-4 : tie.Need-returns-4
-returns-4 c = all-filled _ _ _ _ _ (c .before .before .before .before .before .before .before .before .before .before .before .sizes .ensures) (c .before .before .before .before .before .before .before .before .before .before .answered .ensures) (c .before .before .before .before .before .before .before .before .before .if1 .left) _ (c .before .before .before .before .before .before .before .before .node-count .ensures) (c .before .before .before .before .before .before .before .if2 .left) _ _ (c .before .before .before .before .before .before .faults .ensures) (c .before .before .before .before .before .answered2 .ensures) (c .before .before .before .before .if3 .left) _ (c .before .before .fill .ensures)
+returns-4 c = all-filled _ _ _ _ _ (c .before .before .before .before .before .before .before .before .before .before .before .before .before .before .before .sizes .ensures) (c .before .before .before .before .before .before .before .before .before .before .before .before .before .before .answered .ensures) (c .before .before .before .before .before .before .before .before .before .before .before .before .before .if1 .left) _ (c .before .before .before .before .before .before .before .before .before .before .before .before .node-count .ensures) (c .before .before .before .before .before .before .before .before .before .before .before .if2 .left) _ _ (c .before .before .before .before .before .before .before .before .before .before .faults .ensures) (c .before .before .before .before .before .before .before .before .before .answered2 .ensures) (c .before .before .before .before .before .before .before .before .if3 .left) _ (c .before .before .fill .ensures)
 
 pub distances-spec : {M : Type 1} → statement M
 distances-spec =
@@ -50,6 +54,7 @@ distances-spec =
     faults-requires
     answered-requires-2
     returns-3
+    levels-requires
     fill-requires
     same-length
     returns-4)

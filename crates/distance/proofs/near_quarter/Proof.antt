@@ -1,25 +1,20 @@
--- `distance::near_quarter`: the near half along each axis. Assumes nothing.
-use Rattle.distance.specs.Search.{nearQuarter}
+-- `distance::near_quarter` reads the table, whose rule holds of every entry. Assumes nothing.
+use native.Mathlib.Omega.{arith}
 use borrow.Author.Needs.{needs}
+use Rattle.quad.specs.Direction.{eastStep, southStep}
+use Rattle.distance.proofs.SearchLaws.{near-lt}
+use Rattle.distance.proofs.WayLaws.{near-rule}
 use Rattle.distance.proofs.near_quarter.Statement.{statement}
 use Rattle.distance.proofs.near_quarter.Tie as tie
 
-near-half-requires : tie.Need-near-half-requires
-near-half-requires c κs = search needs
+array-read-result : tie.Need-array-read-result
+array-read-result c = search needs
 
-near-half-requires-2 : tie.Need-near-half-requires-2
-near-half-requires-2 c κs = search needs
-
-mul-result : tie.Need-mul-result
-mul-result c = search needs
-
-add-result : tie.Need-add-result
-add-result c = search needs
+cast-result : tie.Need-cast-result
+cast-result c = omega (arith, near-lt (eastStep (c .args .direction)) (southStep (c .args .direction)) (near-rule (c .args .direction) (search needs)))
 
 returns : tie.Need-returns
-unfolding nearQuarter
-returns c = search needs
+returns c = near-rule (c .args .direction) (search needs)
 
 pub near-quarter-spec : {M : Type 1} → statement M
-near-quarter-spec =
-    tie.close (tie.spec near-half-requires near-half-requires-2 mul-result add-result returns)
+near-quarter-spec = tie.close (tie.spec array-read-result cast-result returns)
