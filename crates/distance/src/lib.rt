@@ -35,7 +35,7 @@ fn near_quarter(direction: usize) -> usize
     requires { ⌜ direction < stay ⌝ }
     ensures { λ r. ⌜ r ≡ nearQuarter (eastStep direction) (southStep direction) ⌝ }
 {
-    NEAR[direction] as usize
+    quad::wide(NEAR[direction])
 }
 
 // The quarter that lies nearest but for that one.
@@ -43,7 +43,7 @@ fn next_quarter(direction: usize) -> usize
     requires { ⌜ direction < stay ⌝ }
     ensures { λ r. ⌜ r ≡ nextQuarter (eastStep direction) (southStep direction) ⌝ }
 {
-    NEXT[direction] as usize
+    quad::wide(NEXT[direction])
 }
 
 // The direction in which the next quarter is searched.
@@ -51,7 +51,7 @@ fn next_way(direction: usize) -> usize
     requires { ⌜ direction < stay ⌝ }
     ensures { λ r. ⌜ NextWay direction r ⌝ }
 {
-    NEXT_WAY[direction] as usize
+    quad::wide(NEXT_WAY[direction])
 }
 
 // The direction in which the quarter opposite to the next one is searched.
@@ -59,7 +59,7 @@ fn other_way(direction: usize) -> usize
     requires { ⌜ direction < stay ⌝ }
     ensures { λ r. ⌜ OtherWay direction r ⌝ }
 {
-    OTHER_WAY[direction] as usize
+    quad::wide(OTHER_WAY[direction])
 }
 
 // Where the next quarter begins: beside the nearest one along a side, and farther on at a corner.

@@ -33,12 +33,6 @@ pub enum Contents {
     Faulty { outcome: Outcome },
 }
 
-fn wide(byte: u8) -> usize
-    ensures { λ r. ⌜ r ≡ byte ⌝ }
-{
-    byte as usize
-}
-
 // The two mark bytes at a place: the first fault, or an answer.
 fn marks(file: &[u8], at: u32, second: u8) -> Outcome
     requires { ⌜ at + 1 < 4294967296 ⌝ }
@@ -86,7 +80,7 @@ fn read_record(file: &[u8], at: u32) -> Block
     if file.len() <= type_at {
         return Block::Bad(Outcome::Absent { place });
     }
-    let kind = wide(file[type_at]);
+    let kind = quad::wide(file[type_at]);
     if !is_type(kind) {
         return Block::Bad(Outcome::BadByte { place });
     }
@@ -214,7 +208,7 @@ fn type_of(file: &[u8], p: u32) -> usize
     ensures { λ r. ⌜ r ≡ getD (now (file .entry)) (placeOf p + 2) 0 ⌝ }
 {
     let at = 5 + 3 * (p as usize);
-    wide(file[at + 2])
+    quad::wide(file[at + 2])
 }
 
 // The second pass, for a block: its nodes from p on, in preorder, and the next node. A fork's words are written once its sons' numbers are known.

@@ -178,8 +178,9 @@ module _ (n : ℕ) (T : List ℕ) (p D C : ℕ) (z : Cornered n T p D C) where
       let em : holder T ρ ≡ m = cc in
       rw (deepen-block c k ρ, heldBy, corners-holder T c k ρ, ← em) (ap Answered (as-deep ρ (d .quadrants) (d .size)))
 
-  pub beyond-at : (m l : ℕ) → foundIn n T 0 (moved D (pathTo T n p)) ≡ At m l → Answered (cornerUnder n T (mirrorOf D C) m) ≡ leafBeyond n T p C D
-  beyond-at m l e = down-at (moved D (pathTo T n p)) landed m l e ∙ sym beyond-moved
+  pub beyond-at : (m l q r : ℕ) → foundIn n T 0 (moved D (pathTo T n p)) ≡ At m l → q ≡ mirrorOf D C → r ≡ cornerUnder n T q m
+      → Answered r ≡ leafBeyond n T p C D
+  beyond-at m l q r e eq er = rw (er, eq) (down-at (moved D (pathTo T n p)) landed m l e ∙ sym beyond-moved)
 
   off-at : (w : Where) → foundIn n T 0 w ≡ Off → NoBlock ≡ heldBy T (deepen (mirrorOf D C) (levelOf n T p) w)
   unfolding foundIn heldBy

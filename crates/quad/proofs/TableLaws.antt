@@ -3,9 +3,9 @@ use mathlib.Core.Path.{_≡_, refl}
 use mathlib.Core.Bool.{Bool, true, false, cond, not, false≢true}
 use mathlib.Core.List.{List, [], _∷_}
 use Prim.Native.Nat.{ℕ, _<_}
-use lib.Dec.{eqb, ltb}
+use lib.Dec.{eqb}
 use lib.ListN.{getD}
-use borrow.Author.Tests.{eqb-true, ltb-true}
+use borrow.Author.Tests.{eqb-true}
 use Rattle.base.proofs.AllLaws.{all-at, all2-at}
 use Rattle.quad.specs.Direction.{adjOf, reflectOf, opquadOf, commonSideOf}
 
@@ -45,12 +45,6 @@ module _ (i j : ℕ) (hi : i < 4) (hj : j < 4) where
 
   pub reflect-rule : entry reflectTable 0 i j ≡ reflectOf i j
   reflect-rule = eqb-true _ _ (all2-at (λ (i j : ℕ). eqb (entry reflectTable 0 i j) (reflectOf i j)) 4 4 refl i j hi hj)
-
-  pub reflect-small : entry reflectTable 0 i j < 4
-  reflect-small = ltb-true _ _ (all2-at (λ (i j : ℕ). ltb (entry reflectTable 0 i j) 4) 4 4 refl i j hi hj)
-
-  pub common-side-small : entry commonSideTable 0 i j < 5
-  common-side-small = ltb-true _ _ (all2-at (λ (i j : ℕ). ltb (entry commonSideTable 0 i j) 5) 4 4 refl i j hi hj)
 
   pub common-side-rule : entry commonSideTable 0 i j ≡ commonSideOf i j
   common-side-rule = eqb-true _ _ (all2-at (λ (i j : ℕ). eqb (entry commonSideTable 0 i j) (commonSideOf i j)) 4 4 refl i j hi hj)

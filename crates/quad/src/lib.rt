@@ -57,6 +57,13 @@ pub fn like_leaves(nw: usize, ne: usize, sw: usize, se: usize) -> bool
     nw == se
 }
 
+// A byte as a number that counts or places something.
+pub fn wide(byte: u8) -> usize
+    ensures { λ r. ⌜ r ≡ byte ⌝ }
+{
+    byte as usize
+}
+
 // Whether the quadrant touches that side of its father's block.
 pub fn adj(side: usize, quadrant: usize) -> bool
     requires { ⌜ (side < 4) × (quadrant < 4) ⌝ }
@@ -70,7 +77,7 @@ pub fn reflect(side: usize, quadrant: usize) -> usize
     requires { ⌜ (side < 4) × (quadrant < 4) ⌝ }
     ensures { λ r. ⌜ r ≡ reflectOf side quadrant ⌝ }
 {
-    REFLECT[side][quadrant] as usize
+    wide(REFLECT[side][quadrant])
 }
 
 // The quadrant opposite.
@@ -78,7 +85,7 @@ pub fn opquad(quadrant: usize) -> usize
     requires { ⌜ quadrant < 4 ⌝ }
     ensures { λ r. ⌜ r ≡ opquadOf quadrant ⌝ }
 {
-    OPQUAD[quadrant] as usize
+    wide(OPQUAD[quadrant])
 }
 
 // The side of their father's block that two quadrants share; 4 where they share none.
@@ -86,5 +93,5 @@ pub fn common_side(first: usize, second: usize) -> usize
     requires { ⌜ (first < 4) × (second < 4) ⌝ }
     ensures { λ r. ⌜ r ≡ commonSideOf first second ⌝ }
 {
-    COMMONSIDE[first][second] as usize
+    wide(COMMONSIDE[first][second])
 }

@@ -39,7 +39,8 @@ cast-t10 c =
 returns-2 : tie.Need-returns-2
 returns-2 c =
     let z = c .before .before .before .before .before .before .before .pre in
-    rw (c .corner-of .ensures, c .before .mirror .ensures) (beyond-at _ _ _ _ _ z _ _ (sym (c .before .before .before .before .before .seek .ensures) ∙ c .before .before .before .found .given .1))
+    let found = sym (c .before .before .before .before .before .seek .ensures) ∙ c .before .before .before .found .given .1 in
+    beyond-at _ _ _ _ _ z _ _ _ _ found (c .before .mirror .ensures) (c .corner-of .ensures)
 
 pub leaf-beyond-spec : {M : Type 1} → statement M
 leaf-beyond-spec =
