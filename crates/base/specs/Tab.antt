@@ -1,7 +1,7 @@
--- The list of a function's values, the least of them and their sum; a list written over the start of another.
+-- The list of a function's values, the least and the greatest of them and their sum; a list written over the start of another.
 use mathlib.Core.List.{List, [], _∷_, _++_}
 use lib.ListN.{length, drop}
-use Prim.Native.Nat.{ℕ, zero, suc, _+_, min}
+use Prim.Native.Nat.{ℕ, zero, suc, _+_, min, max}
 
 -- f i, f (i + 1), .., k of them
 unfoldable pub tabFrom : (ℕ → ℕ) → ℕ → ℕ → List ℕ
@@ -16,6 +16,11 @@ tab f k = tabFrom f k 0
 unfoldable pub least : ℕ → (ℕ → ℕ) → ℕ → ℕ
 least top f zero = top
 least top f (suc k) = min (f k) (least top f k)
+
+-- the greatest of f 0, .., f (k - 1), 0 where k is 0
+unfoldable pub greatest : (ℕ → ℕ) → ℕ → ℕ
+greatest f zero = 0
+greatest f (suc k) = max (f k) (greatest f k)
 
 -- f 0 + .. + f (k - 1)
 unfoldable pub sum : (ℕ → ℕ) → ℕ → ℕ
