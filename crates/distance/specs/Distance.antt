@@ -1,17 +1,17 @@
 -- The chessboard distance, in half pixels, from a black block's centre to the nearest white pixel of the whole raster (document 01, 'Distance';
 -- document 001). It is the least over all pixels, and says nothing of trees or neighbours. The outside's colour is named: the plain call's is BLACK.
-use mathlib.Core.Bool.{not, cond, _||_}
+use mathlib.Core.Bool.{cond, _||_}
 use mathlib.Core.List.{List}
 use Prim.Native.Nat.{ℕ, _+_, _-_, _*_, _^_, min, max}
 use lib.Dec.{eqb}
 use lib.ListN.{length}
 use Rattle.base.specs.Tab.{tab, least}
 use Rattle.answer.specs.declared.Outcome.{Outcome}
-use Rattle.answer.specs.declared.Outcome.the-variants.{Answered, WrongLength}
-use Rattle.answer.specs.Numbers.{andThen, unless, answers}
+use Rattle.answer.specs.declared.Outcome.the-variants.{Answered}
+use Rattle.answer.specs.Numbers.{andThen, answers}
 use Rattle.quad.specs.Numbers.{white, black, none}
 use Rattle.table.specs.Table.{nodes, type, isFork}
-use Rattle.table.specs.Rules.{sizesOf, faultsOf}
+use Rattle.table.specs.Rules.{eachNodeOf}
 use Rattle.table.specs.Nodes.{pixel, centreAcross, centreDown}
 
 -- the gap along an axis from a to the span lo .. hi: 0 inside it
@@ -46,8 +46,7 @@ distancesOf outside n T = tab (distanceAt outside n T) (nodes T)
 
 -- the call: refusals 1, 2 (table first), 3, 4, 5; `words` is the length of the slice that is lent
 unfoldable pub distanceOf : ℕ → List ℕ → ℕ → Outcome
-distanceOf n T words =
-    andThen (sizesOf n T) (andThen (unless (not (eqb words (nodes T))) (WrongLength 1)) (andThen (faultsOf n T) (Answered 0)))
+distanceOf n T words = andThen (eachNodeOf n T words) (Answered 0)
 
 -- the slice as the call leaves it
 unfoldable pub distancesAfter : ℕ → List ℕ → List ℕ → List ℕ

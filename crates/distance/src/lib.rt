@@ -208,16 +208,9 @@ fn fill(n: u32, table: &[u32], out: &mut [u32])
 pub fn distances(n: u32, table: &[u32], out: &mut [u32]) -> Outcome
     ensures { λ r. ⌜ Distances n (now (table .entry)) (now (out .entry)) r (now (out .exit)) ⌝ }
 {
-    let sized = table::sizes(n, table);
-    if !answer::answered(sized) {
-        return sized;
-    }
-    if out.len() != table::node_count(table) {
-        return Outcome::WrongLength { which: 1 };
-    }
-    let checked = table::faults(n, table);
-    if !answer::answered(checked) {
-        return checked;
+    let tested = table::each_node(n, table, out.len());
+    if !answer::answered(tested) {
+        return tested;
     }
     levels(n, table, out);
     fill(n, table, out);

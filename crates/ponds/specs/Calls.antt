@@ -1,6 +1,6 @@
 -- What the call owes for any level, words and slices (document 02, No. 1): the outcome, the numbers and the register. The register is of words, or of
 -- structs: they differ in how an entry is written and in what an entry takes.
-use mathlib.Core.Bool.{true, false, not}
+use mathlib.Core.Bool.{true, false}
 use mathlib.Core.List.{List}
 use mathlib.Core.Path.{_≡_}
 use Prim.Native.Nat.{ℕ, _*_}
@@ -8,11 +8,11 @@ use lib.Dec.{eqb}
 use lib.ListN.{length}
 use Rattle.base.specs.Tab.{sum, overlay}
 use Rattle.answer.specs.declared.Outcome.{Outcome}
-use Rattle.answer.specs.declared.Outcome.the-variants.{Answered, WrongLength}
-use Rattle.answer.specs.Numbers.{andThen, unless, room, answers}
+use Rattle.answer.specs.declared.Outcome.the-variants.{Answered}
+use Rattle.answer.specs.Numbers.{andThen, room, answers}
 use Rattle.quad.specs.Numbers.{black}
 use Rattle.table.specs.Table.{nodes, type}
-use Rattle.table.specs.Rules.{one, sizesOf, faultsOf}
+use Rattle.table.specs.Rules.{one, eachNodeOf}
 use Rattle.register.specs.declared.Pond.{Pond}
 use Rattle.register.specs.Entries.{entries, wordsOf}
 use Rattle.ponds.specs.Numbered.{Numbered}
@@ -23,11 +23,7 @@ blackLeaves T = sum (λ p. one (eqb (type T p) black)) (nodes T)
 
 -- the tests: 1, 2 (table first), 3, 4, 5, and 9 where the register is shorter than it need be; `words` is the length of the numbers
 unfoldable pub pondsTest : ℕ → List ℕ → ℕ → ℕ → ℕ → Outcome
-pondsTest n T words need have =
-    andThen (sizesOf n T)
-    (andThen (unless (not (eqb words (nodes T))) (WrongLength 1))
-    (andThen (faultsOf n T)
-    (room need have)))
+pondsTest n T words need have = andThen (eachNodeOf n T words) (room need have)
 
 -- what an answer leaves: the numbers, and one entry for each pond, written so; what lies beyond the last pond's stays
 pub record Answers {A : Type 0} (n : ℕ) (T : List ℕ) (written : List Pond → List A) (before : List A) (count : ℕ) (numbers : List ℕ) (after : List A) : Type 0 where

@@ -13,11 +13,11 @@ use Rattle.base.proofs.BoolLaws.{and-left, and-right, on}
 use Rattle.answer.specs.declared.Outcome.{Outcome}
 use Rattle.answer.specs.declared.Outcome.the-variants.{Answered, BadLevel, WrongLength, BadNode, TooDeep, NeedlessFork, NoNode}
 use Rattle.answer.proofs.OutcomeLaws.{then-go, both-answer, answers-unless}
-use Rattle.answer.specs.Numbers.{answers, unless}
+use Rattle.answer.specs.Numbers.{answers, andThen, unless}
 use Rattle.quad.specs.Numbers.{topLevel, maxWords}
 use Rattle.table.specs.Table.{nodes}
 use Rattle.table.proofs.RuleLaws.{from-none}
-use Rattle.table.specs.Rules.{faultAt, faulty, faultFrom, faultsOf, lengthOk, sizesOf, checkOf, askedOf, Sized, Accepted, Asked}
+use Rattle.table.specs.Rules.{faultAt, faulty, faultFrom, faultsOf, lengthOk, sizesOf, checkOf, eachNodeOf, askedOf, Sized, Accepted, Asked}
 
 module _ (n : ℕ) (T : List ℕ) where
   sized-length : lengthOk T ≡ true → (0 < nodes T) × (length T ≤ maxWords) × (length T ≡ 6 * nodes T)
@@ -129,6 +129,29 @@ module _ (n : ℕ) (T : List ℕ) where
   -- what a call of the check found
   pub accepted-call : (s : Outcome) (u : Bool) → s ≡ checkOf n T → u ≡ answers s → not u ≡ false → Accepted n T
   accepted-call s u e a h = accepted-of (ap answers (sym e) ∙ on u (answers s) a h)
+
+  -- a call that is lent one word for each node goes on exactly where the sheet is accepted and the words are as many
+  pub each-node-of : (words : ℕ) → answers (eachNodeOf n T words) ≡ true → Accepted n T × (words ≡ nodes T)
+  unfolding eachNodeOf checkOf
+  each-node-of words e =
+      let bad = not (eqb words (nodes T)) in
+      let h = both-answer (sizesOf n T) (andThen (unless bad (WrongLength 1)) (faultsOf n T)) e in
+      let k = both-answer (unless bad (WrongLength 1)) (faultsOf n T) (h .1) in
+      let w : not (eqb words (nodes T)) ≡ false = answers-unless bad (WrongLength 1) refl (k .0) in
+      (accepted-of (rw (checkOf, h .0) (k .1)), eqb-true words (nodes T) (on (eqb words (nodes T)) (eqb words (nodes T)) refl w))
+
+  pub each-node-call : (words : ℕ) (s : Outcome) (u : Bool) → s ≡ eachNodeOf n T words → u ≡ answers s → not u ≡ false → Accepted n T × (words ≡ nodes T)
+  each-node-call words s u e a h = each-node-of words (ap answers (sym e) ∙ on u (answers s) a h)
+
+  -- the returns of the tests themselves
+  module _ (words count : ℕ) (s : Outcome) (u : Bool) (e : s ≡ sizesOf n T) (a : u ≡ answers s) (h : not u ≡ false) (c : count ≡ nodes T) where
+    pub each-node-words : (words ≡ count → ⊥) → WrongLength 1 ≡ eachNodeOf n T words
+    unfolding eachNodeOf
+    each-node-words z = then-go (sizesOf n T) s _ u e a _ h (rw (ne-eqb words (nodes T) (λ q. z (q ∙ sym c))))
+
+    pub each-node-faults : (r : Outcome) → words ≡ count → r ≡ faultsOf n T → r ≡ eachNodeOf n T words
+    unfolding eachNodeOf
+    each-node-faults r z q = then-go (sizesOf n T) s _ u e a _ h (rw (eq-eqb words (nodes T) (z ∙ c)) q)
 
   -- a question about node p goes on exactly where p is a node of an accepted sheet
   pub asked-of : (p : ℕ) → answers (askedOf n T p) ≡ true → Asked n T p

@@ -97,6 +97,10 @@ sizesOf n T = andThen (unless (ltb topLevel n) (BadLevel 0)) (unless (not (lengt
 unfoldable pub checkOf : ℕ → List ℕ → Outcome
 checkOf n T = andThen (sizesOf n T) (faultsOf n T)
 
+-- the tests of a call that is lent one word for each node: 1, 2 (the table, then the `words`), the check
+unfoldable pub eachNodeOf : ℕ → List ℕ → ℕ → Outcome
+eachNodeOf n T words = andThen (sizesOf n T) (andThen (unless (not (eqb words (nodes T))) (WrongLength 1)) (faultsOf n T))
+
 -- the tests that every question about a node begins with: 1, 2, the check, 6
 unfoldable pub askedOf : ℕ → List ℕ → ℕ → Outcome
 askedOf n T p = andThen (checkOf n T) (unless (leb (nodes T) p) (NoNode p))

@@ -9,7 +9,7 @@ ghost use lib.ListN.{length};
 ghost use lib.Seq.{sets};
 ghost use Rattle.quad.specs.Numbers.{maxWords};
 ghost use Rattle.table.specs.Table.{word, nodes, father, son};
-ghost use Rattle.table.specs.Rules.{depthTo, allOf, one, typeOk, fatherOk, onceOk, sonOk, wordOk, sonsOk, depthOk, sonAlike, mixedOk, faultAt, faulty, faultsOf, lengthOk, sizesOf, checkOf, askedOf};
+ghost use Rattle.table.specs.Rules.{depthTo, allOf, one, typeOk, fatherOk, onceOk, sonOk, wordOk, sonsOk, depthOk, sonAlike, mixedOk, faultAt, faulty, faultsOf, lengthOk, sizesOf, checkOf, eachNodeOf, askedOf};
 ghost use Rattle.table.specs.Nodes.{sonType};
 ghost use Rattle.table.specs.Links.{Rising, SonsIn};
 
@@ -272,6 +272,20 @@ pub fn check(n: u32, table: &[u32]) -> Outcome
     let sized = sizes(n, table);
     if !answer::answered(sized) {
         return sized;
+    }
+    faults(n, table)
+}
+
+// The tests of a call that is lent one word for each node: 1, 2 (the table, then the words), the check.
+pub fn each_node(n: u32, table: &[u32], words: usize) -> Outcome
+    ensures { λ r. ⌜ r ≡ eachNodeOf n (now (table .entry)) words ⌝ }
+{
+    let sized = sizes(n, table);
+    if !answer::answered(sized) {
+        return sized;
+    }
+    if words != node_count(table) {
+        return Outcome::WrongLength { which: 1 };
     }
     faults(n, table)
 }
