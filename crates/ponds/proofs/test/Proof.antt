@@ -1,53 +1,37 @@
+-- `ponds::test`: the tests of one word for each node, then the room for the register. Assumes nothing.
+use native.Mathlib.Omega.{arith}
 use borrow.Author.Needs.{needs}
+use Rattle.answer.proofs.OutcomeLaws.{thens}
+use Rattle.table.proofs.CheckLaws.{each-node-call}
+use Rattle.ponds.specs.Calls.{pondsTest}
+use Rattle.ponds.proofs.BlackLaws.{need-few, no-room, all-passed}
 use Rattle.ponds.proofs.test.Statement.{statement}
 use Rattle.ponds.proofs.test.Tie as tie
-use Rattle.ponds.proofs.test.Reads as reads
-use Rattle.ponds.proofs.test.Lts as lts
-use Rattle.answer.proofs.answered.Reads as answered-reads
-use Rattle.ponds.proofs.black_leaves.Reads as black-leaves-reads
-use Rattle.table.proofs.each_node.Reads as each-node-reads
 
--- src/lib.rt:44:9
 each-node-requires : tie.Need-each-node-requires
 each-node-requires c κs = search needs
 
--- src/lib.rt:45:9
 answered-requires : tie.Need-answered-requires
 answered-requires c κs = search needs
 
--- src/lib.rt:46:9
 returns : tie.Need-returns
-returns c = ?
+unfolding pondsTest
+returns c = search (thens, needs)
 
--- src/lib.rt:48:23
 black-leaves-requires : tie.Need-black-leaves-requires
-black-leaves-requires c κs = ?
+black-leaves-requires c κs = each-node-call _ _ _ _ _ (c .before .before .each-node .ensures) (c .before .answered .ensures) (c .if1 .left) .0 .sized .few
 
--- src/lib.rt:48:16
 mul-need : tie.Need-mul-need
-mul-need c = ?
+mul-need c = omega (arith, need-few _ _ _ _ (each-node-call _ _ _ _ _ (c .before .before .before .each-node .ensures) (c .before .before .answered .ensures) (c .before .if1 .left) .0) (c .before .before .before .before .before .pre) (c .black-leaves .ensures))
 
--- src/lib.rt:50:42
 cast-t11 : tie.Need-cast-t11
-cast-t11 c = ?
+cast-t11 c = omega (arith, need-few _ _ _ _ (each-node-call _ _ _ _ _ (c .before .before .before .before .each-node .ensures) (c .before .before .before .answered .ensures) (c .before .before .if1 .left) .0) (c .before .before .before .before .before .before .pre) (c .before .black-leaves .ensures))
 
--- src/lib.rt:50:9
 returns-2 : tie.Need-returns-2
-returns-2 c = ?
+returns-2 c = search (no-room, needs)
 
--- src/lib.rt:40:1
 returns-3 : tie.Need-returns-3
-returns-3 c = ?
+returns-3 c = search (all-passed, needs)
 
 pub test-spec : {M : Type 1} → statement M
-test-spec =
-    tie.close
-    (tie.spec
-    each-node-requires
-    answered-requires
-    returns
-    black-leaves-requires
-    mul-need
-    cast-t11
-    returns-2
-    returns-3)
+test-spec = tie.close (tie.spec each-node-requires answered-requires returns black-leaves-requires mul-need cast-t11 returns-2 returns-3)
