@@ -1,0 +1,3 @@
+pub mod LeafLaws
+pub mod OneNumbering
+pub mod FewPonds
