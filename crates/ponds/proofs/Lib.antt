@@ -1,1 +1,4 @@
 pub mod BlackLaws
+pub mod LeafLaws
+pub mod OneNumbering
+pub mod FewPonds
