@@ -1,0 +1,55 @@
+-- Chains of black leaves: they begin and end at black leaves, one may go on where another ends, and each may be gone back.
+use mathlib.Core.List.{List}
+use mathlib.Core.Path.{_≡_}
+use Prim.Native.Nat.{ℕ, _+_, _-_, _<_}
+use native.Mathlib.Omega.{arith}
+use Rattle.quad.specs.Direction.{eastStep, southStep}
+use Rattle.quad.proofs.TreeLaws.{by-quadrant}
+use Rattle.neighbour.specs.Containing.{opposite}
+use Rattle.neighbour.proofs.BackLaws.{cancels}
+use Rattle.joins.specs.Chain.{Water, Shares, Chain, end, link}
+
+-- the direction back from a side is a side
+straight-back : (D : ℕ) → D < 4 → opposite D < 4
+unfolding opposite
+straight-back = by-quadrant (λ (D : ℕ). opposite D < 4) (omega arith) (omega arith) (omega arith) (omega arith)
+
+module _ (n : ℕ) (T : List ℕ) where
+  -- a length of side is shared both ways
+  pub shares-back : (p q : ℕ) → Shares n T p q → Shares n T q p
+  shares-back p q s =
+      let t = s .touch in
+      let D : ℕ = s .side in
+      let k = cancels D (omega (arith, s .straight)) in
+      let x : ℕ = s .x + eastStep D - 1 in
+      let y : ℕ = s .y + southStep D - 1 in
+      let bx : x + eastStep (opposite D) - 1 ≡ s .x = omega (arith, k .east, t .east) in
+      let by : y + southStep (opposite D) - 1 ≡ s .y = omega (arith, k .south, t .south) in
+      record {
+        side = opposite D;
+        x = x;
+        y = y;
+        straight = straight-back D (s .straight);
+        touch = record {
+          east = omega (arith, k .east, t .east);
+          south = omega (arith, k .south, t .south);
+          here = t .beyond;
+          beyond = rw (bx, by) (t .here);
+        };
+      }
+
+  pub chain-start : (p q : ℕ) → Chain n T p q → Water T p
+  chain-start p q (end w) = w
+  chain-start p q (link w s c) = w
+
+  pub chain-end : (p q : ℕ) → Chain n T p q → Water T q
+  chain-end p q (end w) = w
+  chain-end p q (link {q = k} w s c) = chain-end k q c
+
+  pub chain-joined : (p q r : ℕ) → Chain n T p q → Chain n T q r → Chain n T p r
+  chain-joined p q r (end w) d = d
+  chain-joined p q r (link {q = k} w s c) d = link w s (chain-joined k q r c d)
+
+  pub chain-back : (p q : ℕ) → Chain n T p q → Chain n T q p
+  chain-back p q (end w) = end w
+  chain-back p q (link {q = k} w s c) = chain-joined q k p (chain-back k q c) (link (chain-start k q c) (shares-back p k s) (end w))
