@@ -2,3 +2,4 @@ pub mod BlackLaws
 pub mod LeafLaws
 pub mod OneNumbering
 pub mod FewPonds
+pub mod CallLaws
