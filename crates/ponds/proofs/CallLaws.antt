@@ -40,12 +40,12 @@ numbers-of n T numbers count acc h = record {
 }
 
 module _ {A : Type 0} (n : ℕ) (T : List ℕ) (written : List Pond → List A) (need : ℕ) (numbers : List ℕ) (reg : List A) where
-  test : Outcome
+  abbrev test : Outcome
   test = pondsTest n T (length numbers) need (length reg)
 
   -- the tests are passed exactly where the sheet is accepted, the numbers are as many as its nodes, and the register has room
   pub passed : answers test ≡ true → Accepted n T × (length numbers ≡ nodes T) × (need ≤ length reg)
-  unfolding test pondsTest
+  unfolding pondsTest
   passed e =
       let h = both-answer (eachNodeOf n T (length numbers)) (room need (length reg)) e in
       let a = each-node-of n T (length numbers) (h .0) in
@@ -59,7 +59,6 @@ module _ {A : Type 0} (n : ℕ) (T : List ℕ) (written : List Pond → List A) 
     }
 
     pub passed-call : not u ≡ false → Accepted n T × (length numbers ≡ nodes T) × (need ≤ length reg)
-    unfolding test
     passed-call h = passed (ap answers (sym e) ∙ on u (answers s) a h)
 
     pub answered : not u ≡ false → (count : ℕ) (numbers' : List ℕ) (reg' : List A) → Numbered n T numbers' count
@@ -72,7 +71,6 @@ module _ {A : Type 0} (n : ℕ) (T : List ℕ) (written : List Pond → List A) 
   -- no second outcome
   pub one-finding : (o o' : Outcome) (a a' : List ℕ) (b b' : List A) → Finds n T written need numbers reg o a b → Finds n T written need numbers reg o' a' b'
       → (o ≡ o') × (a ≡ a') × (b ≡ b')
-  unfolding test
   one-finding o o' a a' b b' f g =
       ⊎-elim
       (λ (yes : answers test ≡ true).
