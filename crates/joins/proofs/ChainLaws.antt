@@ -10,7 +10,7 @@ use Rattle.neighbour.proofs.BackLaws.{cancels}
 use Rattle.joins.specs.Chain.{Water, Shares, Chain, end, link}
 
 -- the direction back from a side is a side
-straight-back : (D : ℕ) → D < 4 → opposite D < 4
+pub straight-back : (D : ℕ) → D < 4 → opposite D < 4
 unfolding opposite
 straight-back = by-quadrant (λ (D : ℕ). opposite D < 4) (omega arith) (omega arith) (omega arith) (omega arith)
 

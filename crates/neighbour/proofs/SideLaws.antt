@@ -74,7 +74,7 @@ rescale n d e x le ld =
 
 module _ (n : ℕ) (T : List ℕ) (acc : Accepted n T) where
   -- what a node contains is on the sheet
-  on-sheet : (m d x y : ℕ) → Contains n T m d x y → (x < 2 ^ d) × (y < 2 ^ d)
+  pub on-sheet : (m d x y : ℕ) → Contains n T m d x y → (x < 2 ^ d) × (y < 2 ^ d)
   on-sheet m d x y c =
       let i = c .inside in
       let e : ℕ = depthTo T n m in
@@ -92,7 +92,7 @@ module _ (n : ℕ) (T : List ℕ) (acc : Accepted n T) where
       holder-leaf T q qs (rw ih f) ∙ ih
 
   -- a leaf that contains a block holds it
-  leaf-holds : (m d x y : ℕ) → Contains n T m d x y → isFork T m ≡ false → holder T (pathOf d x y) ≡ m
+  pub leaf-holds : (m d x y : ℕ) → Contains n T m d x y → isFork T m ≡ false → holder T (pathOf d x y) ≡ m
   leaf-holds m d x y c f =
       let s = on-sheet m d x y c in
       let k : ℕ = d - depthTo T n m in

@@ -3,3 +3,4 @@ pub mod LeafLaws
 pub mod OneNumbering
 pub mod FewPonds
 pub mod CallLaws
+pub mod PathLaws
