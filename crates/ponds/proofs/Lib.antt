@@ -1,6 +1,6 @@
 pub mod BlackLaws
 pub mod LeafLaws
+pub mod PathLaws
 pub mod OneNumbering
 pub mod FewPonds
 pub mod CallLaws
-pub mod PathLaws

@@ -44,6 +44,13 @@ module _ (n : ℕ) (f : ℕ → ℕ → ℕ) where
       path-joined u v X Y x y (path-back X Y u v rest)
       (step (opposite D) (straight-back D side) (path-start X Y u v rest) (omega (arith, k .east)) (omega (arith, k .south)) (rw (bx, by) (stop w)))
 
+  -- a path of one picture is one of another that looks the same
+  pub same-path : (g : ℕ → ℕ → ℕ) → ((x y : ℕ) → x < 2 ^ n → y < 2 ^ n → f x y ≡ g x y) → (x y u v : ℕ) → Path n f x y u v → Path n g x y u v
+  same-path g same x y u v (stop w) = stop (record { across = w .across; down = w .down; wet = sym (same x y (w .across) (w .down)) ∙ w .wet })
+  same-path g same x y u v (step D side w east south rest) =
+      step D side (record { across = w .across; down = w .down; wet = sym (same x y (w .across) (w .down)) ∙ w .wet }) east south
+      (same-path g same (x + eastStep D - 1) (y + southStep D - 1) u v rest)
+
   -- pixels that follow one another on side D, the first k + 1 of them black
   slide : (D : ℕ) → D < 4 → (X Y : ℕ → ℕ) → ((j : ℕ) → 0 < X j + eastStep D) → ((j : ℕ) → 0 < Y j + southStep D)
       → ((j : ℕ) → X (suc j) ≡ X j + eastStep D - 1) → ((j : ℕ) → Y (suc j) ≡ Y j + southStep D - 1)
