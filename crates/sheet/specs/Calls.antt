@@ -11,6 +11,7 @@ use Rattle.table.specs.Rules.{checkOf}
 use Rattle.raster.specs.Raster.{buildOf, builtTable, decodeOf, decodedRaster}
 use Rattle.neighbour.specs.Neighbour.{neighbourOf, cornerLeafOf, diagonalLeafOf}
 use Rattle.distance.specs.Distance.{distanceOf, distancesAfter}
+use Rattle.ponds.specs.Calls.{FindsInWords}
 use Rattle.file.specs.File.{readOf, readTable, writeOf, writtenFile}
 use Rattle.ground.specs.declared.Ground.{Ground}
 use Rattle.ground.specs.Ground.{centreOf, centreAfter}
@@ -51,6 +52,12 @@ FindsDiagonalLeaf n T p C = Gives (diagonalLeafOf n T p C)
 -- sheet_distance: level, table, the words before, the number, the words after
 abbrev pub FindsDistances : ℕ → List ℕ → List ℕ → ℕ → List ℕ → Type 0
 FindsDistances n T before = Leaves (distanceOf n T (length before)) (distancesAfter n T before)
+
+-- sheet_ponds: level, table, the numbers and the register before, the number, the numbers and the register after
+pub record FindsPonds (n : ℕ) (T numbers reg : List ℕ) (r : ℕ) (numbers' reg' : List ℕ) : Type 0 where
+  pub outcome : Outcome
+  pub number : r ≡ numberOf outcome
+  pub slices : FindsInWords n T numbers reg outcome numbers' reg'
 
 -- sheet_read: file, the table before, the number, the table after
 abbrev pub ReadsFile : List ℕ → List ℕ → ℕ → List ℕ → Type 0
