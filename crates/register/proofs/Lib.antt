@@ -1,2 +1,4 @@
 pub mod GrownLaws
 pub mod GatheredLaws
+pub mod LeafPixels
+pub mod EntryLaws
