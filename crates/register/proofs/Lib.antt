@@ -2,3 +2,4 @@ pub mod GrownLaws
 pub mod GatheredLaws
 pub mod LeafPixels
 pub mod EntryLaws
+pub mod CountsSum
