@@ -1,2 +1,5 @@
 pub mod GrownLaws
 pub mod GatheredLaws
+pub mod LeafPixels
+pub mod EntryLaws
+pub mod CountsSum
