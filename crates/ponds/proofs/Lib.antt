@@ -1,3 +1,4 @@
 pub mod LeafLaws
 pub mod OneNumbering
 pub mod FewPonds
+pub mod CountedLaws
