@@ -2,3 +2,5 @@ pub mod LeafLaws
 pub mod OneNumbering
 pub mod FewPonds
 pub mod CountedLaws
+pub mod RowLaws
+pub mod SettledLaws

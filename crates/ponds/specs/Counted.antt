@@ -90,6 +90,16 @@ pub record Tells (T words : List ℕ) : Type 0 where
   pub low : (p : ℕ) → Water T p → leadOf words p ≤ p
   pub some : (p : ℕ) → Water T p → length words ≤ wordOf words (leadOf words p)
 
+-- the words once node p's is its number
+unfoldable pub settledAt : List ℕ → List ℕ → ℕ → List ℕ
+settledAt T words p = cond (eqb (type T p) black) (set words p (wordOf words (leadOf words p) - length words)) words
+
+-- node p's leader has its number
+pub record Settles (T words : List ℕ) (p : ℕ) : Type 0 where
+  pub node : p < nodes T
+  pub size : length words ≡ nodes T
+  pub some : Water T p → length words ≤ wordOf words (leadOf words p)
+
 -- the words from node p on are numbers, those below it are as they were
 pub record Settled (T before words : List ℕ) (p : ℕ) : Type 0 where
   pub size : length words ≡ length before
