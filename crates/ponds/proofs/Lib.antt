@@ -4,3 +4,6 @@ pub mod PathLaws
 pub mod OneNumbering
 pub mod FewPonds
 pub mod CallLaws
+pub mod CountedLaws
+pub mod RowLaws
+pub mod SettledLaws

@@ -1,0 +1,107 @@
+-- How the numbers are given (document 02, No. 1): row by row the pixels are passed, and a leader's word becomes N + k when its pond's first pixel is met as
+-- the k-th; then each black leaf's word becomes its leader's, less N. No other word changes, so the words tell a leaf's leader all the while.
+use mathlib.Core.Bool.{cond}
+use mathlib.Core.List.{List}
+use mathlib.Core.Path.{_≡_}
+use Prim.Native.Nat.{ℕ, _+_, _-_, _*_, _/_, _^_, _≤_, _<_}
+use lib.Dec.{eqb, ltb}
+use lib.ListN.{length, set}
+use Rattle.quad.specs.Numbers.{black}
+use Rattle.quad.specs.Block.{row}
+use Rattle.table.specs.Table.{nodes, type}
+use Rattle.table.specs.Rules.{AtLevel}
+use Rattle.table.specs.Nodes.{pathTo, leftOf}
+use Rattle.joins.specs.Chain.{Water}
+use Rattle.joins.specs.Led.{wordOf, Led}
+use Rattle.register.specs.Entries.{leafAt}
+
+-- the leader of a black leaf p: its word, or itself where its word is from N on
+unfoldable pub leadOf : List ℕ → ℕ → ℕ
+leadOf words p = cond (ltb (wordOf words p) (length words)) (wordOf words p) p
+
+-- the count, and the words, once leaf p is met: a black leaf's leader that has no number gets the next
+unfoldable pub metCount : List ℕ → List ℕ → ℕ → ℕ → ℕ
+metCount T words p k = cond (eqb (type T p) black) (cond (ltb (wordOf words (leadOf words p)) (length words)) (k + 1) k) k
+
+unfoldable pub metWords : List ℕ → List ℕ → ℕ → ℕ → List ℕ
+metWords T words p k =
+    cond (eqb (type T p) black)
+    (cond (ltb (wordOf words (leadOf words p)) (length words)) (set words (leadOf words p) (length words + k + 1)) words)
+    words
+
+-- one word for each node, and there is room in them for one number more
+pub record Meets (T words : List ℕ) (p k : ℕ) : Type 0 where
+  pub node : p < nodes T
+  pub size : length words ≡ nodes T
+  pub room : nodes T + k + 1 < 2 ^ 32
+
+-- the word of the leader at pixel i; `first` are the words as joining left them
+abbrev pub markAt : ℕ → List ℕ → List ℕ → List ℕ → ℕ → ℕ
+markAt n T first words i = wordOf words (wordOf first (leafAt n T i))
+
+-- p is a leader that has one of the numbers 1 to k
+pub record Marked (T first words : List ℕ) (p k : ℕ) : Type 0 where
+  pub water : Water T p
+  pub own : wordOf first p ≡ p
+  pub some : nodes T < wordOf words p
+  pub few : wordOf words p ≤ nodes T + k
+
+-- before pixel i there is one with number a
+pub record Shown (n : ℕ) (T first words : List ℕ) (i a : ℕ) : Type 0 where
+  pub pixel : ℕ
+  pub before : pixel < i
+  pub water : Water T (leafAt n T pixel)
+  pub number : markAt n T first words pixel ≡ nodes T + a
+
+-- with the pixels before i passed, k numbers are given: no word but a leader's changed, no two leaders have one number, each black leaf that was met has one,
+-- and before a pixel with a number there is one with each lower number
+pub record Counted (n : ℕ) (T first words : List ℕ) (i k : ℕ) : Type 0 where
+  pub size : length words ≡ nodes T
+  pub below : (p : ℕ) → p < nodes T → wordOf words p < nodes T → wordOf words p ≡ wordOf first p
+  pub above : (p : ℕ) → p < nodes T → nodes T ≤ wordOf words p → Marked T first words p k
+  pub apart : (p q : ℕ) → p < nodes T → q < nodes T → nodes T ≤ wordOf words p → wordOf words p ≡ wordOf words q → p ≡ q
+  pub met : (j : ℕ) → j < i → Water T (leafAt n T j) → nodes T ≤ markAt n T first words j
+  pub order : (j a : ℕ) → j < i → Water T (leafAt n T j) → 0 < a → nodes T + a < markAt n T first words j → Shown n T first words j a
+  pub all : (a : ℕ) → 0 < a → a ≤ k → Shown n T first words i a
+
+-- the same from some words that joining left
+pub record Counting (n : ℕ) (T words : List ℕ) (i k : ℕ) : Type 0 where
+  pub first : List ℕ
+  pub led : Led n T first
+  pub counted : Counted n T first words i k
+
+-- the first pixel in row y of node p's block
+unfoldable pub startOf : ℕ → List ℕ → ℕ → ℕ → ℕ
+startOf n T p y = y * 2 ^ n + leftOf n T p
+
+-- node p is of level l, and row y crosses its block
+pub record Crossed (n : ℕ) (T : List ℕ) (p l y : ℕ) : Type 0 where
+  pub place : AtLevel n T p l
+  pub down : y / 2 ^ l ≡ row (pathTo T n p)
+
+-- a node's number once all are given: its leader's word less N for a black leaf
+unfoldable pub numberOf : List ℕ → List ℕ → ℕ → ℕ
+numberOf T words p = cond (eqb (type T p) black) (wordOf words (leadOf words p) - length words) 0
+
+-- words of which each tells a leader that stands no higher and has a number, or is a white leaf's or a fork's 0
+pub record Tells (T words : List ℕ) : Type 0 where
+  pub size : length words ≡ nodes T
+  pub dry : (p : ℕ) → p < nodes T → (type T p ≡ black → ⊥) → wordOf words p ≡ 0
+  pub low : (p : ℕ) → Water T p → leadOf words p ≤ p
+  pub some : (p : ℕ) → Water T p → length words ≤ wordOf words (leadOf words p)
+
+-- the words once node p's is its number
+unfoldable pub settledAt : List ℕ → List ℕ → ℕ → List ℕ
+settledAt T words p = cond (eqb (type T p) black) (set words p (wordOf words (leadOf words p) - length words)) words
+
+-- node p's leader has its number
+pub record Settles (T words : List ℕ) (p : ℕ) : Type 0 where
+  pub node : p < nodes T
+  pub size : length words ≡ nodes T
+  pub some : Water T p → length words ≤ wordOf words (leadOf words p)
+
+-- the words from node p on are numbers, those below it are as they were
+pub record Settled (T before words : List ℕ) (p : ℕ) : Type 0 where
+  pub size : length words ≡ length before
+  pub done : (q : ℕ) → p ≤ q → q < nodes T → wordOf words q ≡ numberOf T before q
+  pub left : (q : ℕ) → q < p → wordOf words q ≡ wordOf before q
