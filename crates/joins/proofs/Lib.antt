@@ -1,2 +1,4 @@
 pub mod ChainLaws
 pub mod LeaderLaws
+pub mod JoinLaws
+pub mod SettleLaws
