@@ -19,7 +19,7 @@ use Rattle.joins.specs.Joining.{onward, leaderOf, Falling, Linked, Toget
 use Rattle.joins.proofs.ChainLaws.{chain-start, chain-end, chain-joined, chain-back}
 
 -- of two nodes: one, or not
-same-or-not : {A : Type 0} (i j : ℕ) → (i ≡ j → A) → ((i ≡ j → ⊥) → A) → A
+pub same-or-not : {A : Type 0} (i j : ℕ) → (i ≡ j → A) → ((i ≡ j → ⊥) → A) → A
 same-or-not i j f g = ⊎-elim (λ e. f (eqb-true i j e)) (λ e. g (eqb-false i j e)) (by-bool (eqb i j))
 
 module _ (W : List ℕ) where
@@ -153,7 +153,7 @@ pub kept-falling : (W W' : List ℕ) → Falling W → Kept W W' → Falling W'
 kept-falling W W' low k i = omega (arith, k .less i, low i)
 
 -- a chain joins each black leaf and its leader
-chain-leader : (n : ℕ) (T W : List ℕ) → Linked n T W → (i : ℕ) → Water T i → Chain n T i (leaderOf W i)
+pub chain-leader : (n : ℕ) (T W : List ℕ) → Linked n T W → (i : ℕ) → Water T i → Chain n T i (leaderOf W i)
 unfolding leaderOf onward
 chain-leader n T W l i w = go i i w
   where

@@ -1,0 +1,72 @@
+-- `joins::around`: the sides of a black leaf before this one have been looked at. The measure is the sides left. Assumes nothing.
+use Prim.Native.Nat.{_-_}
+use mathlib.Core.Path.{sym, _∙_}
+use native.Mathlib.Omega.{arith}
+use Rattle.table.proofs.AcceptedLaws.{depth-le}
+use Rattle.joins.proofs.MeetLaws.{rising, sides-dry, Looked, looked-none, looked-more, looked-all}
+use Rattle.joins.proofs.around.Statement.{statement}
+use Rattle.joins.proofs.around.Tie as tie
+
+abbrev Inv-loop : tie.InvT-loop
+Inv-loop n table words₀ p level side₀ words side = Looked n table words₀ words p side
+
+abbrev μ-loop : tie.MeasureT-loop
+μ-loop n table words₀ p level side₀ words side = 4 - side
+
+word-at-requires : tie.Need-word-at-requires Inv-loop μ-loop
+word-at-requires c κs = (c .before .before .pre .1, omega arith)
+
+returns : tie.Need-returns Inv-loop μ-loop
+returns c = sides-dry _ _ _ _ _ (c .before .before .before .before .pre .2) (c .before .word-at .ensures) (λ e. c .if1 .taken e)
+
+depth-to-requires : tie.Need-depth-to-requires Inv-loop μ-loop
+depth-to-requires c κs = (c .before .before .before .before .pre .1, rising _ _ (c .before .before .before .before .pre .0) _ (c .before .before .before .before .pre .1))
+
+sub-level : tie.Need-sub-level Inv-loop μ-loop
+sub-level c = let s = c .before .before .before .before .before .args in omega (arith, c .depth-to .ensures, depth-le (s .table .now) (s .n) (s .p))
+
+loop-holds : tie.Need-loop-holds Inv-loop μ-loop
+loop-holds c = looked-none _ _ _ _ (c .before .before .before .before .before .pre .2)
+
+across-requires : tie.Need-across-requires Inv-loop μ-loop
+across-requires c κs =
+    let s = c .before .before .before .before .before .before .before .before in
+    (record {
+      accepted = s .pre .0;
+      water = record { node = s .pre .1; wet = sym (c .before .before .before .before .before .word-at .ensures) ∙ c .before .before .before .before .if1 .left };
+      level = omega (arith, c .before .before .before .depth-to .ensures);
+      straight = omega arith;
+    }, c .before .before .loop .inv .further .wired)
+
+add-side : tie.Need-add-side Inv-loop μ-loop
+add-side c = omega arith
+
+loop-less : tie.Need-loop-less Inv-loop μ-loop
+loop-less c = omega arith
+
+loop-again : tie.Need-loop-again Inv-loop μ-loop
+loop-again c = looked-more _ _ _ _ _ _ (c .before .before .before .before .before .loop .inv) _ (omega arith) (c .before .before .across .ensures)
+
+same-length : tie.Need-same-length Inv-loop μ-loop
+same-length c = omega (arith, c .before .loop .inv .further .wired .each, c .before .before .before .before .before .before .before .pre .2 .each)
+
+returns-2 : tie.Need-returns-2 Inv-loop μ-loop
+returns-2 c = looked-all _ _ _ _ _ _ (c .before .loop .inv) (omega arith)
+
+pub around-spec : {M : Type 1} → statement M
+around-spec =
+    tie.close
+    (tie.spec
+    Inv-loop
+    μ-loop
+    word-at-requires
+    returns
+    depth-to-requires
+    sub-level
+    loop-holds
+    across-requires
+    add-side
+    loop-less
+    loop-again
+    same-length
+    returns-2)

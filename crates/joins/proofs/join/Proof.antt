@@ -1,0 +1,61 @@
+-- `joins::join`: two ways gone, and the higher leader put under the lower one. Assumes nothing.
+use native.Mathlib.Omega.{arith}
+use lib.ListN.{length-set}
+use borrow.Author.Needs.{needs}
+use Rattle.joins.proofs.LeaderLaws.{kept-falling}
+use Rattle.joins.proofs.JoinLaws.{first-within, second-within, first-under, second-under}
+use Rattle.joins.proofs.join.Statement.{statement}
+use Rattle.joins.proofs.join.Tie as tie
+
+root-requires : tie.Need-root-requires
+root-requires c κs = search needs
+
+root-requires-2 : tie.Need-root-requires-2
+root-requires-2 c κs = (omega (arith, c .before .before .before .root .kept, c .before .before .before .before .before .before .pre .1), kept-falling _ _ (c .before .before .before .before .before .before .pre .2) (c .before .before .before .root .ensures .0))
+
+cast-words : tie.Need-cast-words
+cast-words c = search needs
+
+mul-words : tie.Need-mul-words
+mul-words c = search needs
+
+slice-write-words : tie.Need-slice-write-words
+slice-write-words c = second-within _ _ _ _ _ _ _ (c .before .before .before .before .before .before .before .before .before .before .pre .2) (c .before .before .before .before .before .before .before .before .before .before .pre .0) (c .before .before .before .before .before .before .before .before .before .before .pre .1) (c .before .before .before .before .before .before .before .root .ensures .0) (c .before .before .before .before .before .before .before .root .ensures .1) (c .before .before .before .root2 .ensures .0) (c .before .before .before .root2 .ensures .1)
+
+same-length : tie.Need-same-length
+same-length c = simp length-set (omega (arith, c .before .before .before .before .before .before .before .root .kept, c .before .before .before .root2 .kept))
+
+returns : tie.Need-returns
+returns c = second-under _ _ _ _ _ _ _ (c .before .before .before .before .before .before .before .before .before .before .pre .2) (c .before .before .before .before .before .before .before .before .before .before .pre .0) (c .before .before .before .before .before .before .before .before .before .before .pre .1) (c .before .before .before .before .before .before .before .root .ensures .0) (c .before .before .before .before .before .before .before .root .ensures .1) (c .before .before .before .root2 .ensures .0) (c .before .before .before .root2 .ensures .1) (c .if1 .taken)
+
+cast-words-2 : tie.Need-cast-words-2
+cast-words-2 c = search needs
+
+mul-words-2 : tie.Need-mul-words-2
+mul-words-2 c = search needs
+
+slice-write-words-2 : tie.Need-slice-write-words-2
+slice-write-words-2 c = first-within _ _ _ _ _ _ _ (c .before .before .before .before .before .before .before .before .before .before .pre .2) (c .before .before .before .before .before .before .before .before .before .before .pre .0) (c .before .before .before .before .before .before .before .before .before .before .pre .1) (c .before .before .before .before .before .before .before .root .ensures .0) (c .before .before .before .before .before .before .before .root .ensures .1) (c .before .before .before .root2 .ensures .0) (c .before .before .before .root2 .ensures .1)
+
+same-length-2 : tie.Need-same-length-2
+same-length-2 c = simp length-set (omega (arith, c .before .before .before .before .before .before .before .root .kept, c .before .before .before .root2 .kept))
+
+returns-2 : tie.Need-returns-2
+returns-2 c = first-under _ _ _ _ _ _ _ (c .before .before .before .before .before .before .before .before .before .before .pre .2) (c .before .before .before .before .before .before .before .before .before .before .pre .0) (c .before .before .before .before .before .before .before .before .before .before .pre .1) (c .before .before .before .before .before .before .before .root .ensures .0) (c .before .before .before .before .before .before .before .root .ensures .1) (c .before .before .before .root2 .ensures .0) (c .before .before .before .root2 .ensures .1) (c .if1 .left)
+
+pub join-spec : {M : Type 1} → statement M
+join-spec =
+    tie.close
+    (tie.spec
+    root-requires
+    root-requires-2
+    cast-words
+    mul-words
+    slice-write-words
+    same-length
+    returns
+    cast-words-2
+    mul-words-2
+    slice-write-words-2
+    same-length-2
+    returns-2)
