@@ -51,6 +51,17 @@ module _ (n : ℕ) (f : ℕ → ℕ → ℕ) where
       step D side (record { across = w .across; down = w .down; wet = sym (same x y (w .across) (w .down)) ∙ w .wet }) east south
       (same-path g same (x + eastStep D - 1) (y + southStep D - 1) u v rest)
 
+  -- what does not change from one black pixel to the next does not change along a path
+  pub path-keeps : (g : ℕ → ℕ → ℕ)
+      → ((x y D : ℕ) → D < 4 → Wet n f x y → 0 < x + eastStep D → 0 < y + southStep D → Wet n f (x + eastStep D - 1) (y + southStep D - 1)
+      → g x y ≡ g (x + eastStep D - 1) (y + southStep D - 1))
+      → (x y u v : ℕ) → Path n f x y u v → g x y ≡ g u v
+  path-keeps g keeps x y u v (stop w) = refl
+  path-keeps g keeps x y u v (step D side w east south rest) =
+      let X : ℕ = x + eastStep D - 1 in
+      let Y : ℕ = y + southStep D - 1 in
+      keeps x y D side w east south (path-start X Y u v rest) ∙ path-keeps g keeps X Y u v rest
+
   -- pixels that follow one another on side D, the first k + 1 of them black
   slide : (D : ℕ) → D < 4 → (X Y : ℕ → ℕ) → ((j : ℕ) → 0 < X j + eastStep D) → ((j : ℕ) → 0 < Y j + southStep D)
       → ((j : ℕ) → X (suc j) ≡ X j + eastStep D - 1) → ((j : ℕ) → Y (suc j) ≡ Y j + southStep D - 1)
