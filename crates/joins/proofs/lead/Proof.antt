@@ -8,7 +8,7 @@ singles-requires : tie.Need-singles-requires
 singles-requires c κs = search needs
 
 meet-requires : tie.Need-meet-requires
-meet-requires c κs = (c .before .before .before .before .before .before .before .pre .0, own-wired _ _ _ (c .before .before .before .singles .ensures))
+meet-requires c κs = search (own-wired, needs)
 
 settle-requires : tie.Need-settle-requires
 settle-requires c κs = search needs
@@ -17,7 +17,7 @@ same-length : tie.Need-same-length
 same-length c = search needs
 
 returns : tie.Need-returns
-returns c = led _ _ _ (c .before .before .before .before .before .before .before .before .before .before .before .before .before .before .pre .0) (c .before .before .before .before .before .before .meet .ensures .1) _ (c .before .before .before .before .before .before .meet .ensures .0) (c .before .before .settle .ensures)
+returns c = search (led, needs)
 
 pub lead-spec : {M : Type 1} → statement M
 lead-spec = tie.close (tie.spec singles-requires meet-requires settle-requires same-length returns)

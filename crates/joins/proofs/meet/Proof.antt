@@ -27,7 +27,7 @@ loop-less : tie.Need-loop-less Inv-loop μ-loop
 loop-less c = omega (arith, c .before .before .around .kept)
 
 loop-again : tie.Need-loop-again Inv-loop μ-loop
-loop-again c = (c .before .before .around .ensures .0 .wired, met-more _ _ _ _ _ (c .before .before .before .before .before .loop .inv .1) (c .before .before .around .ensures))
+loop-again c = search (met-more, needs)
 
 same-length : tie.Need-same-length Inv-loop μ-loop
 same-length c = omega (arith, c .before .loop .inv .0 .each, c .before .before .before .before .pre .1 .each)
