@@ -24,12 +24,17 @@ cast-join : tie.Need-cast-join
 cast-join c = search needs
 
 cast-join-2 : tie.Need-cast-join-2
-cast-join-2 c = let z = c .before .before .before .before .before .before .before .before .before .pre in omega (arith, found-below _ _ _ _ _ (z .0) _ (c .before .before .before .before .before .before .find .ensures) _ _ (c .before .before .before .before .found .given .1), z .0 .accepted .sized .few)
+cast-join-2 c =
+    let z = c .before .before .before .before .before .before .before .before .before .pre in
+    let f = c .before .before .before .before in
+    let lt = found-below _ _ _ _ _ (z .0) _ (f .before .before .find .ensures) _ _ (f .found .given .1) in
+    omega (arith, z .0 .accepted .sized .few)
 
 join-requires : tie.Need-join-requires
 join-requires c κs =
     let z = c .before .before .before .before .before .before .before .before .before .pre in
-    let lt = found-below _ _ _ _ _ (z .0) _ (c .before .before .before .before .before .before .find .ensures) _ _ (c .before .before .before .before .found .given .1) in
+    let f = c .before .before .before .before in
+    let lt = found-below _ _ _ _ _ (z .0) _ (f .before .before .find .ensures) _ _ (f .found .given .1) in
     (omega (arith, z .1 .each, z .0 .water .node), omega (arith, z .1 .each), z .1 .falling)
 
 same-length : tie.Need-same-length

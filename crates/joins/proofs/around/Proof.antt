@@ -32,12 +32,15 @@ loop-holds c = search (looked-none, needs)
 across-requires : tie.Need-across-requires Inv-loop μ-loop
 across-requires c κs =
     let s = c .before .before .before .before .before .before .before .before in
-    (record {
-      accepted = s .pre .0;
-      water = record { node = s .pre .1; wet = sym (c .before .before .before .before .before .word-at .ensures) ∙ c .before .before .before .before .if1 .left };
-      level = omega (arith, c .before .before .before .depth-to .ensures);
-      straight = omega arith;
-    }, c .before .before .loop .inv .further .wired)
+    let b = c .before .before .before .before in (
+      record {
+        accepted = s .pre .0;
+        water = record { node = s .pre .1; wet = sym (b .before .word-at .ensures) ∙ b .if1 .left };
+        level = omega (arith, c .before .before .before .depth-to .ensures);
+        straight = omega arith;
+      },
+      c .before .before .loop .inv .further .wired,
+    )
 
 add-side : tie.Need-add-side Inv-loop μ-loop
 add-side c = omega arith

@@ -11,7 +11,7 @@ root-requires : tie.Need-root-requires
 root-requires c κs = search needs
 
 root-requires-2 : tie.Need-root-requires-2
-root-requires-2 c κs = (omega (arith, c .before .before .before .root .kept, c .before .before .before .before .before .before .pre .1), kept-falling _ _ (c .before .before .before .before .before .before .pre .2) (c .before .before .before .root .ensures .0))
+root-requires-2 c κs = search (kept-falling, needs)
 
 cast-words : tie.Need-cast-words
 cast-words c = search needs

@@ -18,7 +18,7 @@ loop-holds : tie.Need-loop-holds Inv-loop μ-loop
 loop-holds c = (c .before .before .pre .1, λ i l. absurd (omega arith))
 
 around-requires : tie.Need-around-requires Inv-loop μ-loop
-around-requires c κs = (c .before .before .before .before .before .pre .0, omega (arith, c .before .before .loop .inv .0 .each), c .before .before .loop .inv .0)
+around-requires c κs = search needs
 
 add-p : tie.Need-add-p Inv-loop μ-loop
 add-p c = search needs
@@ -30,7 +30,7 @@ loop-again : tie.Need-loop-again Inv-loop μ-loop
 loop-again c = search (met-more, needs)
 
 same-length : tie.Need-same-length Inv-loop μ-loop
-same-length c = omega (arith, c .before .loop .inv .0 .each, c .before .before .before .before .pre .1 .each)
+same-length c = search needs
 
 returns : tie.Need-returns Inv-loop μ-loop
 returns c = (c .before .loop .inv .0, λ i l. c .before .loop .inv .1 i (omega (arith, c .before .loop .inv .0 .each)))
