@@ -6,7 +6,8 @@ use native.Mathlib.Omega.{arith}
 use lib.ListN.{length, set}
 use Rattle.joins.specs.Led.{wordOf}
 use Rattle.joins.specs.Joining.{leaderOf, Falling, Kept, Joined}
-use Rattle.joins.proofs.LeaderLaws.{leader-own, leader-on, leader-low, leader-ends, changed, halved, kept-all, kept-on, kept-falling, joined-under, joined-back}
+use Rattle.joins.proofs.LeaderLaws.{leader-own, leader-on, leader-low, leader-ends}
+use Rattle.joins.proofs.LeaderLaws.{changed, halved, kept-all, kept-on, kept-falling, joined-under, joined-back}
 
 -- on the way from p the words have become W, and the way has come to q
 pub record OnWay (W₀ W : List ℕ) (p q : ℕ) : Type 0 where
@@ -41,8 +42,8 @@ module _ (W₀ W : List ℕ) (p q : ℕ) (low : Falling W₀) (lt : p < length W
             k .leaders (wordOf W (wordOf W q)) ∙ leader-on W f (wordOf W q) ∙ leader-on W f q ∙ o .same ∙ sym (k .leaders p);
       }
 
-  pub way-ends : wordOf W q ≡ q → Kept W₀ W × (q ≡ leaderOf W₀ p)
-  way-ends e = (o .kept, sym (leader-own W q e) ∙ o .same ∙ o .kept .leaders p)
+  pub way-ends : wordOf W q ≡ q → q ≡ leaderOf W₀ p
+  way-ends e = sym (leader-own W q e) ∙ o .same ∙ o .kept .leaders p
 
 -- two ways gone, from p to a and from q to b
 module _ (W₀ W₁ W₂ : List ℕ) (p q a b : ℕ) (low : Falling W₀) (lp : p < length W₀) (lq : q < length W₀)

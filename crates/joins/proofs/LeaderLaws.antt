@@ -1,6 +1,6 @@
 -- Leaders: where no word is above its node, the words from each node end at one that is its own word. A function that stays the same along the words, and
 -- is the node itself where they end, is the leader: so a word may go to its word's word, and a leader under a lower one.
-use mathlib.Core.Bool.{true, false, cond}
+use mathlib.Core.Bool.{cond}
 use mathlib.Core.List.{List}
 use mathlib.Core.Logic.{⊎-elim}
 use mathlib.Core.Path.{_≡_, refl, ap, sym, _∙_}
@@ -15,7 +15,7 @@ use Rattle.base.proofs.BoolLaws.{by-bool, lt-or-ge}
 use Rattle.base.proofs.CaseLaws.{cond-same}
 use Rattle.joins.specs.Chain.{Water, Chain, end}
 use Rattle.joins.specs.Led.{wordOf}
-use Rattle.joins.specs.Joining.{onward, leaderOf, Falling, Linked, Together, Kept, Joined}
+use Rattle.joins.specs.Joining.{onward, leaderOf, Falling, Linked, Kept, Joined}
 use Rattle.joins.proofs.ChainLaws.{chain-start, chain-end, chain-joined, chain-back}
 
 -- of two nodes: one, or not

@@ -30,43 +30,48 @@ pub met-still : (n : ℕ) (T W W' : List ℕ) (p D : ℕ) → Together W W' → 
 unfolding Met
 met-still n T W W' p D t h m l e b = t p m (h m l e b)
 
-module _ (n : ℕ) (T : List ℕ) (p l D : ℕ) (z : Beside n T p l D) (found : Found) (e : found ≡ neighbourFound n T p D) (W : List ℕ) (w : Wired n T W) where
-  pub met-off : found ≡ Off → Further n T W W × Met n T W p D
+-- beyond side D of the black leaf p
+module _ (n : ℕ) (T : List ℕ) (p l D : ℕ) (z : Beside n T p l D) (found : Found) (e : found ≡ neighbourFound n T p D) where
+  pub found-below : (m k : ℕ) → found ≡ At m k → m < nodes T
+  found-below m k f = found-facts n T (z .accepted) p D (z .water .node) (omega (arith, z .straight)) m k (sym e ∙ f) .below
+
+module _ (n : ℕ) (T W : List ℕ) (p D : ℕ) (found : Found) (e : found ≡ neighbourFound n T p D) where
+  pub met-off : found ≡ Off → Met n T W p D
   unfolding Met
-  met-off o = (further-none n T W w, λ m k f b. absurd (let x : _≡_ {A = ℕ} 0 1 = cc in omega arith))
+  met-off o m k f b = absurd (let x : _≡_ {A = ℕ} 0 1 = cc in omega arith)
 
-  -- a node m of that kind was found
-  module _ (m k kind : ℕ) (f : found ≡ At m k) (ek : kind ≡ type T m) where
-    pub found-below : m < nodes T
-    found-below = found-facts n T (z .accepted) p D (z .water .node) (omega (arith, z .straight)) m k (sym e ∙ f) .below
-
-    pub met-other : (kind ≡ black → ⊥) → Further n T W W × Met n T W p D
+  -- a node m was found
+  module _ (m k : ℕ) (f : found ≡ At m k) where
+    pub met-other : (kind : ℕ) → kind ≡ type T m → (kind ≡ black → ⊥) → Met n T W p D
     unfolding Met
-    met-other ne = (further-none n T W w, λ i j g b.
+    met-other kind ek ne i j g b =
         let a : m ≡ i = cc in
-        absurd (ne (ek ∙ ap (type T) a ∙ b)))
+        absurd (ne (ek ∙ ap (type T) a ∙ b))
 
-    met-water : kind ≡ black → Chain n T p m
-    met-water b =
-        let v : Water T m = record { node = found-below; wet = sym ek ∙ b } in
-        link (z .water) (found-shares n T (z .accepted) p D m k (z .water .node) (z .straight) (sym e ∙ f) (water-leaf T m v)) (end v)
-
-    pub met-black : (W' : List ℕ) → kind ≡ black → Joined W W' p m → Further n T W W' × Met n T W' p D
+    pub met-black : (W₀ : List ℕ) → Joined W₀ W p m → Met n T W p D
     unfolding Met
-    met-black W' b j = (
-      record {
-        wired = record {
-          each = j .long ∙ w .each;
-          falling = λ i. omega (arith, j .less i, w .falling i);
-          dry = λ i lt ne. omega (arith, j .less i, w .dry i lt ne);
-          linked = j .linked n T (met-water b) (w .linked);
-        };
-        together = j .together;
-      },
-      λ i q g h.
-          let a : m ≡ i = cc in
-          rw (← a) (j .one),
-    )
+    met-black W₀ j i q g h =
+        let a : m ≡ i = cc in
+        rw (← a) (j .one)
+
+-- a black leaf m was found, and joined
+module _ (n : ℕ) (T : List ℕ) (p l D : ℕ) (z : Beside n T p l D) (found : Found) (e : found ≡ neighbourFound n T p D)
+    (m k kind : ℕ) (f : found ≡ At m k) (ek : kind ≡ type T m) (b : kind ≡ black) where
+  met-water : Chain n T p m
+  met-water =
+      let v : Water T m = record { node = found-below n T p l D z found e m k f; wet = sym ek ∙ b } in
+      link (z .water) (found-shares n T (z .accepted) p D m k (z .water .node) (z .straight) (sym e ∙ f) (water-leaf T m v)) (end v)
+
+  pub further-black : (W W' : List ℕ) → Wired n T W → Joined W W' p m → Further n T W W'
+  further-black W W' w j = record {
+    wired = record {
+      each = j .long ∙ w .each;
+      falling = λ i. omega (arith, j .less i, w .falling i);
+      dry = λ i lt ne. omega (arith, j .less i, w .dry i lt ne);
+      linked = j .linked n T met-water (w .linked);
+    };
+    together = j .together;
+  }
 
 -- p's level is asked of an accepted table
 pub rising : (n : ℕ) (T : List ℕ) → Accepted n T → (p : ℕ) → p < nodes T → Rising T (p + 1)
@@ -74,8 +79,8 @@ unfolding Rising
 rising n T acc p lt k h pos = father-below n T acc k (omega arith) pos
 
 -- a node that is no black leaf has no side to look beyond
-pub sides-dry : (n : ℕ) (T W : List ℕ) (p kind : ℕ) → Wired n T W → kind ≡ type T p → (kind ≡ black → ⊥) → Further n T W W × MetSides n T W p 4
-sides-dry n T W p kind w e ne = (further-none n T W w, λ v. absurd (ne (e ∙ v .wet)))
+pub sides-dry : (n : ℕ) (T W : List ℕ) (p kind : ℕ) → kind ≡ type T p → (kind ≡ black → ⊥) → MetSides n T W p 4
+sides-dry n T W p kind e ne v = absurd (ne (e ∙ v .wet))
 
 -- the first k sides of p have been looked at, and the words W₀ have become W
 pub record Looked (n : ℕ) (T W₀ W : List ℕ) (p k : ℕ) : Type 0 where
@@ -98,8 +103,8 @@ module _ (n : ℕ) (T W₀ W : List ℕ) (p k : ℕ) (h : Looked n T W₀ W p k)
         (eq-or-lt-of-le (le-of-suc-le-suc (rw (add-one k) at l)));
   }
 
-  pub looked-all : 4 ≤ k → Further n T W₀ W × MetSides n T W p 4
-  looked-all le = (h .further, λ v D l. h .met D (omega arith))
+  pub looked-all : 4 ≤ k → MetSides n T W p 4
+  looked-all le v D l = h .met D (omega arith)
 
 -- the sides of one node more
 pub met-more : (n : ℕ) (T W W' : List ℕ) (p : ℕ) → MetAll n T W p → Further n T W W' × MetSides n T W' p 4 → MetAll n T W' (p + 1)

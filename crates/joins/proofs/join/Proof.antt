@@ -11,7 +11,7 @@ root-requires : tie.Need-root-requires
 root-requires c κs = search needs
 
 root-requires-2 : tie.Need-root-requires-2
-root-requires-2 c κs = (omega (arith, c .before .before .before .root .kept, c .before .before .before .before .before .before .pre .1), kept-falling _ _ (c .before .before .before .before .before .before .pre .2) (c .before .before .before .root .ensures .0))
+root-requires-2 c κs = search (kept-falling, needs)
 
 cast-words : tie.Need-cast-words
 cast-words c = search needs
@@ -20,13 +20,13 @@ mul-words : tie.Need-mul-words
 mul-words c = search needs
 
 slice-write-words : tie.Need-slice-write-words
-slice-write-words c = second-within _ _ _ _ _ _ _ (c .before .before .before .before .before .before .before .before .before .before .pre .2) (c .before .before .before .before .before .before .before .before .before .before .pre .0) (c .before .before .before .before .before .before .before .before .before .before .pre .1) (c .before .before .before .before .before .before .before .root .ensures .0) (c .before .before .before .before .before .before .before .root .ensures .1) (c .before .before .before .root2 .ensures .0) (c .before .before .before .root2 .ensures .1)
+slice-write-words c = search (second-within, needs)
 
 same-length : tie.Need-same-length
 same-length c = simp length-set (omega (arith, c .before .before .before .before .before .before .before .root .kept, c .before .before .before .root2 .kept))
 
 returns : tie.Need-returns
-returns c = second-under _ _ _ _ _ _ _ (c .before .before .before .before .before .before .before .before .before .before .pre .2) (c .before .before .before .before .before .before .before .before .before .before .pre .0) (c .before .before .before .before .before .before .before .before .before .before .pre .1) (c .before .before .before .before .before .before .before .root .ensures .0) (c .before .before .before .before .before .before .before .root .ensures .1) (c .before .before .before .root2 .ensures .0) (c .before .before .before .root2 .ensures .1) (c .if1 .taken)
+returns c = search (second-under, needs)
 
 cast-words-2 : tie.Need-cast-words-2
 cast-words-2 c = search needs
@@ -35,13 +35,13 @@ mul-words-2 : tie.Need-mul-words-2
 mul-words-2 c = search needs
 
 slice-write-words-2 : tie.Need-slice-write-words-2
-slice-write-words-2 c = first-within _ _ _ _ _ _ _ (c .before .before .before .before .before .before .before .before .before .before .pre .2) (c .before .before .before .before .before .before .before .before .before .before .pre .0) (c .before .before .before .before .before .before .before .before .before .before .pre .1) (c .before .before .before .before .before .before .before .root .ensures .0) (c .before .before .before .before .before .before .before .root .ensures .1) (c .before .before .before .root2 .ensures .0) (c .before .before .before .root2 .ensures .1)
+slice-write-words-2 c = search (first-within, needs)
 
 same-length-2 : tie.Need-same-length-2
 same-length-2 c = simp length-set (omega (arith, c .before .before .before .before .before .before .before .root .kept, c .before .before .before .root2 .kept))
 
 returns-2 : tie.Need-returns-2
-returns-2 c = first-under _ _ _ _ _ _ _ (c .before .before .before .before .before .before .before .before .before .before .pre .2) (c .before .before .before .before .before .before .before .before .before .before .pre .0) (c .before .before .before .before .before .before .before .before .before .before .pre .1) (c .before .before .before .before .before .before .before .root .ensures .0) (c .before .before .before .before .before .before .before .root .ensures .1) (c .before .before .before .root2 .ensures .0) (c .before .before .before .root2 .ensures .1) (c .if1 .left)
+returns-2 c = search (first-under, needs)
 
 pub join-spec : {M : Type 1} → statement M
 join-spec =

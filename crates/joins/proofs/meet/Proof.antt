@@ -1,42 +1,39 @@
+-- `joins::meet`: the sides of the nodes before p have been looked at. The measure is the words left. Assumes nothing.
+use Prim.Native.Nat.{_-_}
+use native.Mathlib.Omega.{arith}
+use lib.ListN.{length}
+use borrow.Author.Needs.{needs}
+use Rattle.joins.specs.Joining.{Wired, MetAll}
+use Rattle.joins.proofs.MeetLaws.{met-more}
 use Rattle.joins.proofs.meet.Statement.{statement}
 use Rattle.joins.proofs.meet.Tie as tie
-use Rattle.joins.proofs.meet.Reads as reads
-use Rattle.joins.proofs.meet.Lts as lts
-use Rattle.joins.proofs.around.Reads as around-reads
 
 abbrev Inv-loop : tie.InvT-loop
-Inv-loop n table words₀ p₀ words p = ?
+Inv-loop n table words₀ p₀ words p = Wired n table words × MetAll n table words p
 
 abbrev μ-loop : tie.MeasureT-loop
-μ-loop n table words₀ p₀ words p = ?
+μ-loop n table words₀ p₀ words p = length words - p
 
--- src/lib.rt:104:5
 loop-holds : tie.Need-loop-holds Inv-loop μ-loop
-loop-holds c = ?
+loop-holds c = (c .before .before .pre .1, λ i l. absurd (omega arith))
 
--- src/lib.rt:105:9
 around-requires : tie.Need-around-requires Inv-loop μ-loop
-around-requires c κs = ?
+around-requires c κs = search needs
 
--- src/lib.rt:106:9
 add-p : tie.Need-add-p Inv-loop μ-loop
-add-p c = ?
+add-p c = search needs
 
--- src/lib.rt:104:5
 loop-less : tie.Need-loop-less Inv-loop μ-loop
-loop-less c = ?
+loop-less c = omega (arith, c .before .before .around .kept)
 
--- src/lib.rt:104:5
 loop-again : tie.Need-loop-again Inv-loop μ-loop
-loop-again c = ?
+loop-again c = search (met-more, needs)
 
--- src/lib.rt:99:1
 same-length : tie.Need-same-length Inv-loop μ-loop
-same-length c = ?
+same-length c = search needs
 
--- src/lib.rt:99:1
 returns : tie.Need-returns Inv-loop μ-loop
-returns c = ?
+returns c = (c .before .loop .inv .0, λ i l. c .before .loop .inv .1 i (omega (arith, c .before .loop .inv .0 .each)))
 
 pub meet-spec : {M : Type 1} → statement M
 meet-spec =

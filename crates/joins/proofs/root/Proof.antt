@@ -1,7 +1,7 @@
 -- `joins::root`: on the way from p to its leader, halved as it is gone. The measure is the node, since no word is above its own. Assumes nothing.
 use native.Mathlib.Omega.{arith}
 use borrow.Author.Needs.{needs}
-use Rattle.joins.proofs.JoinLaws.{OnWay, way-start, way-here, way-next, way-fall, way-more, way-ends}
+use Rattle.joins.proofs.JoinLaws.{OnWay, way-start, way-next, way-fall, way-more, way-ends}
 use Rattle.joins.proofs.root.Statement.{statement}
 use Rattle.joins.proofs.root.Tie as tie
 
@@ -33,13 +33,13 @@ slice-read-next : tie.Need-slice-read-next Inv-loop μ-loop
 slice-read-next c = search needs
 
 cast-next-2 : tie.Need-cast-next-2 Inv-loop μ-loop
-cast-next-2 c = omega (arith, way-next _ _ _ _ (c .before .before .before .before .pre .1) (c .before .before .before .before .pre .0) (c .before .before .before .loop .inv))
+cast-next-2 c = let s = c .before .before .before .before .pre in omega (arith, way-next _ _ _ _ (s .1) (s .0) (c .before .before .before .loop .inv))
 
 mul-next-2 : tie.Need-mul-next-2 Inv-loop μ-loop
-mul-next-2 c = omega (arith, way-next _ _ _ _ (c .before .before .before .before .pre .1) (c .before .before .before .before .pre .0) (c .before .before .before .loop .inv))
+mul-next-2 c = let s = c .before .before .before .before .pre in omega (arith, way-next _ _ _ _ (s .1) (s .0) (c .before .before .before .loop .inv))
 
 slice-read-next-2 : tie.Need-slice-read-next-2 Inv-loop μ-loop
-slice-read-next-2 c = way-next _ _ _ _ (c .before .before .before .before .before .pre .1) (c .before .before .before .before .before .pre .0) (c .before .before .before .before .loop .inv)
+slice-read-next-2 c = search (way-next, needs)
 
 cast-words : tie.Need-cast-words Inv-loop μ-loop
 cast-words c = search needs
@@ -51,16 +51,16 @@ slice-write-words : tie.Need-slice-write-words Inv-loop μ-loop
 slice-write-words c = search needs
 
 loop-less : tie.Need-loop-less Inv-loop μ-loop
-loop-less c = way-fall _ _ _ _ (c .before .before .before .before .before .pre .1) (c .before .before .before .before .before .pre .0) (c .before .before .before .before .loop .inv) (λ e. c .before .before .if1 .taken e)
+loop-less c = search (way-fall, needs)
 
 loop-again : tie.Need-loop-again Inv-loop μ-loop
-loop-again c = way-more _ _ _ _ (c .before .before .before .before .before .pre .1) (c .before .before .before .before .before .pre .0) (c .before .before .before .before .loop .inv)
+loop-again c = search (way-more, needs)
 
 same-length : tie.Need-same-length Inv-loop μ-loop
 same-length c = search needs
 
 returns : tie.Need-returns Inv-loop μ-loop
-returns c = way-ends _ _ _ _ (c .before .before .before .pre .1) (c .before .before .before .pre .0) (c .before .before .loop .inv) (c .if1 .left)
+returns c = search (way-ends, needs)
 
 pub root-spec : {M : Type 1} → statement M
 root-spec =

@@ -29,7 +29,7 @@ mul-words-2 : tie.Need-mul-words-2 Inv-loop μ-loop
 mul-words-2 c = omega (arith, settled-next _ _ _ (c .before .before .before .pre) (c .before .before .loop .inv) (omega arith))
 
 slice-read-words-2 : tie.Need-slice-read-words-2 Inv-loop μ-loop
-slice-read-words-2 c = settled-next _ _ _ (c .before .before .before .before .pre) (c .before .before .before .loop .inv) (omega arith)
+slice-read-words-2 c = search (settled-next, needs)
 
 mul-words-3 : tie.Need-mul-words-3 Inv-loop μ-loop
 mul-words-3 c = search needs
@@ -44,13 +44,13 @@ loop-less : tie.Need-loop-less Inv-loop μ-loop
 loop-less c = simp length-set (omega arith)
 
 loop-again : tie.Need-loop-again Inv-loop μ-loop
-loop-again c = settled-more _ _ _ (c .before .before .before .before .pre) (c .before .before .before .loop .inv) (omega arith)
+loop-again c = search (settled-more, needs)
 
 same-length : tie.Need-same-length Inv-loop μ-loop
 same-length c = search needs
 
 returns : tie.Need-returns Inv-loop μ-loop
-returns c = settled-all _ _ _ (c .before .before .pre) (c .before .loop .inv) (omega arith)
+returns c = search (settled-all, needs)
 
 pub settle-spec : {M : Type 1} → statement M
 settle-spec =

@@ -21,7 +21,7 @@ loop-holds : tie.Need-loop-holds Inv-loop μ-loop
 loop-holds c = (omega arith, c .before .before .pre .1, filled-none _)
 
 own-requires : tie.Need-own-requires Inv-loop μ-loop
-own-requires c κs = (omega (arith, c .before .loop .inv .1), c .before .before .before .before .pre .0)
+own-requires c κs = search needs
 
 mul-words : tie.Need-mul-words Inv-loop μ-loop
 mul-words c = search needs
@@ -36,13 +36,15 @@ loop-less : tie.Need-loop-less Inv-loop μ-loop
 loop-less c = simp length-set (omega arith)
 
 loop-again : tie.Need-loop-again Inv-loop μ-loop
-loop-again c = (simp length-set (omega arith), simp length-set (c .before .before .loop .inv .1), filled-more _ _ _ _ (omega arith) (c .own .ensures) (c .before .before .loop .inv .2))
+loop-again c =
+    let v = c .before .before .loop .inv in
+    (simp length-set (omega arith), simp length-set (v .1), filled-more _ _ _ _ (omega arith) (c .own .ensures) (v .2))
 
 same-length : tie.Need-same-length Inv-loop μ-loop
-same-length c = omega (arith, c .before .loop .inv .1, c .before .before .before .before .pre .1)
+same-length c = search needs
 
 returns : tie.Need-returns Inv-loop μ-loop
-returns c = filled-all _ _ _ _ (c .before .loop .inv .1) (omega (arith, c .before .loop .inv .1)) (omega (arith, c .before .loop .inv .1)) (c .before .loop .inv .2)
+returns c = let v = c .before .loop .inv in filled-all _ _ _ _ (v .1) (omega (arith, v .1)) (omega (arith, v .1)) (v .2)
 
 pub singles-spec : {M : Type 1} → statement M
 singles-spec =
