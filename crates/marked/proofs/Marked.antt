@@ -7,7 +7,7 @@ use Rattle.answer.specs.Numbers.{numberOf}
 use Rattle.quad.specs.Block.{pathOf, column, row}
 use Rattle.quad.specs.Direction.{eastStep, southStep}
 use Rattle.quad.specs.Tree.{sameLeaf, sizeOf, sidesOf, typesOf, join, treeOf}
-use Rattle.table.specs.Rules.{depthTo, allOf, typeOk, fatherOk, onceOk, sonOk, wordOk, sonsOk, depthOk, sonAlike, mixedOk, faultAt, faultFrom, faultsOf, lengthOk, sizesOf, checkOf, askedOf}
+use Rattle.table.specs.Rules.{depthTo, allOf, typeOk, fatherOk, onceOk, sonOk, wordOk, sonsOk, depthOk, sonAlike, mixedOk, faultAt, faultFrom, faultsOf, lengthOk, sizesOf, eachNodeOf, checkOf, askedOf}
 use Rattle.table.specs.Nodes.{firstQuadrant, sonType, pathTo, holder, pixel, treeAt}
 use Rattle.table.specs.Preorder.{preorder}
 use Rattle.table.specs.SheetA.{rasterA, tableA, fileA}
@@ -21,7 +21,7 @@ use Rattle.walk.specs.Rows.{tally}
 use Rattle.marked.specs.Cases.{cases, allHold}
 
 pub marked : allHold cases ≡ true
-unfolding cases allHold trace tally badPlace insideOf outsideOf stepOf toOutside nearest distanceAt least openOf readOf beside neighbourOf cornerLeafOf rasterTree preorder firstQuadrant sonType pathTo holder pixel treeAt depthTo allOf typeOk fatherOk onceOk sonOk wordOk sonsOk depthOk sonAlike mixedOk faultAt faultFrom faultsOf lengthOk sizesOf checkOf askedOf sameLeaf sizeOf sidesOf join treeOf eastStep southStep pathOf column row buildOf pixelsFrom
+unfolding cases allHold trace tally badPlace insideOf outsideOf stepOf toOutside nearest distanceAt least openOf readOf beside neighbourOf cornerLeafOf rasterTree preorder firstQuadrant sonType pathTo holder pixel treeAt depthTo allOf typeOk fatherOk onceOk sonOk wordOk sonsOk depthOk sonAlike mixedOk faultAt faultFrom faultsOf lengthOk sizesOf eachNodeOf checkOf askedOf sameLeaf sizeOf sidesOf join treeOf eastStep southStep pathOf column row buildOf pixelsFrom
 marked = refl
 
 -- sheet A is one picture as raster, table and file, in every direction; and the numbers given back with them
@@ -37,7 +37,7 @@ pub record SheetA : Type 0 where
   pub distances : numberOf (distanceOf 2 tableA 9) ≡ 0
 
 pub sheet-A : SheetA
-unfolding distanceOf builtTable buildOf pixelsFrom decodedRaster decodeOf rasterOf writtenFile writeOf fileOf records readTable readOf openOf blockAt tabFrom rasterTree preorder treeOf join sameLeaf sizeOf typesOf holder pixel treeAt pathOf depthTo allOf typeOk fatherOk onceOk sonOk wordOk sonsOk depthOk sonAlike mixedOk faultAt faultFrom faultsOf lengthOk sizesOf checkOf
+unfolding distanceOf builtTable buildOf pixelsFrom decodedRaster decodeOf rasterOf writtenFile writeOf fileOf records readTable readOf openOf blockAt tabFrom rasterTree preorder treeOf join sameLeaf sizeOf typesOf holder pixel treeAt pathOf depthTo allOf typeOk fatherOk onceOk sonOk wordOk sonsOk depthOk sonAlike mixedOk faultAt faultFrom faultsOf lengthOk sizesOf eachNodeOf checkOf
 sheet-A = record {
   built = refl;
   decoded = refl;

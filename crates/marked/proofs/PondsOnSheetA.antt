@@ -2,15 +2,18 @@
 -- ponds, and no call that meets the statement gives another number, another word or another entry.
 use mathlib.Core.Bool.{Bool, true, cond, _&&_}
 use mathlib.Core.List.{List, [], _∷_}
+use mathlib.Core.Logic.{⊎-elim}
 use mathlib.Core.Path.{_≡_, refl, ap, sym, _∙_}
 use Prim.Native.Nat.{ℕ, _+_, _-_, _*_, _/_, _%_, _<_, _≤_}
+use native.Mathlib.Nat.{eq-zero-or-pos}
 use native.Mathlib.Omega.{arith}
 use lib.Dec.{eqb, ltb, leb}
-use lib.ListN.{getD, drop}
+use lib.ListN.{getD}
 use borrow.Author.Tests.{eq-eqb, ne-eqb, lt-ltb, eqb-true, leb-true, ltb-true}
 use Rattle.base.specs.All.{all, all2}
-use Rattle.base.specs.Tab.{tabFrom, sum, least, greatest}
+use Rattle.base.specs.Tab.{tabFrom, sum, least, greatest, overlay}
 use Rattle.base.proofs.AllLaws.{all-at, all2-at}
+use Rattle.base.proofs.BoolLaws.{and-left, and-right, lt-or-ge}
 use Rattle.answer.specs.Numbers.{answers, numberOf}
 use Rattle.answer.specs.declared.Outcome.the-variants.{Answered}
 use Rattle.quad.specs.Numbers.{black}
@@ -24,7 +27,7 @@ use Rattle.neighbour.proofs.SmallestLaws.{holder-contains}
 use Rattle.joins.specs.Chain.{Water, Chain, end}
 use Rattle.joins.specs.Led.{wordOf}
 use Rattle.joins.proofs.ChainLaws.{chain-start, chain-end}
-use Rattle.register.specs.Entries.{leafAt, numberAt, entryOf, entriesFrom, wordsOf}
+use Rattle.register.specs.Entries.{leafAt, numberAt, entryOf, entries, entriesFrom, wordsOf}
 use Rattle.ponds.specs.Numbered.{Numbered}
 use Rattle.ponds.specs.Calls.{blackLeaves, pondsTest}
 use Rattle.ponds.specs.Paths.{Wet}
@@ -97,8 +100,11 @@ same-number p q c =
 abbrev isBlack : ℕ → Bool
 isBlack p = eqb (type tableA p) black
 
-ruled : all (λ p. cond (isBlack p) (ltb 0 (wordOf numbersA p)) (eqb (wordOf numbersA p) 0)) 9 ≡ true
+ruled : all (λ p. leb (wordOf numbersA p) 2 && cond (isBlack p) (ltb 0 (wordOf numbersA p)) (eqb (wordOf numbersA p) 0)) 9 ≡ true
 ruled = refl
+
+rule : (p : ℕ) → p < 9 → leb (wordOf numbersA p) 2 && cond (isBlack p) (ltb 0 (wordOf numbersA p)) (eqb (wordOf numbersA p) 0) ≡ true
+rule = all-at (λ p. leb (wordOf numbersA p) 2 && cond (isBlack p) (ltb 0 (wordOf numbersA p)) (eqb (wordOf numbersA p) 0)) 9 ruled
 
 lone : all2 (λ p q. cond (isBlack p && (isBlack q && eqb (wordOf numbersA p) (wordOf numbersA q))) (eqb p q) true) 9 9 ≡ true
 lone = refl
@@ -114,13 +120,35 @@ first = refl
 numbered : Numbered 2 tableA numbersA 2
 numbered = record {
   each = refl;
-  dry = λ p lt d. eqb-true _ _ (rw (ne-eqb (type tableA p) black d) at (all-at _ 9 ruled p lt));
-  some = λ p w. ltb-true _ _ (rw (eq-eqb (type tableA p) black (w .wet)) at (all-at _ 9 ruled p (w .node)));
-  few = λ p w. ?;
+  dry = λ p lt d. eqb-true _ _ (rw (ne-eqb (type tableA p) black d) at (and-right (leb (wordOf numbersA p) 2) _ (rule p lt)));
+  some = λ p w. ltb-true _ _ (rw (eq-eqb (type tableA p) black (w .wet)) at (and-right (leb (wordOf numbersA p) 2) _ (rule p (w .node))));
+  few = λ p w. leb-true _ _ (and-left (leb (wordOf numbersA p) 2) _ (rule p (w .node)));
   one = same-number;
   apart = λ p q w v e.
-      let s : p ≡ q = eqb-true p q (rw (eq-eqb (type tableA p) black (w .wet), eq-eqb (type tableA q) black (v .wet), eq-eqb _ _ e) at (all2-at _ 9 9 lone p q (w .node) (v .node))) in
+      let s : p ≡ q = eqb-true p q
+      (rw (eq-eqb (type tableA p) black (w .wet), eq-eqb (type tableA q) black (v .wet), eq-eqb (wordOf numbersA p) (wordOf numbersA q) e) at
+      (all2-at (λ p q. cond (isBlack p && (isBlack q && eqb (wordOf numbersA p) (wordOf numbersA q))) (eqb p q) true) 9 9 lone p q (w .node) (v .node))) in
       rw (← s) (end w);
-  order = ?;
-  all = ?;
+  order = λ i a lt some less.
+      let high : numberAt 2 tableA numbersA i ≤ 2 = leb-true _ _ (all-at (λ i. leb (numberAt 2 tableA numbersA i) 2) 16 low i lt) in
+      let a1 : a ≡ 1 = omega arith in
+      (0, ⊎-elim (λ (z : i ≡ 0). absurd (omega (arith, first, ap (numberAt 2 tableA numbersA) z))) (λ l. l) (eq-zero-or-pos i), first ∙ sym a1);
+  all = λ a some few.
+      ⊎-elim
+      (λ (l : a < 2). let e : 1 ≡ a = omega arith in (1, record { node = omega arith; wet = refl }, e))
+      (λ (g : 2 ≤ a). let e : 2 ≡ a = omega arith in (6, record { node = omega arith; wet = refl }, e))
+      (lt-or-ge a 2);
 }
+
+-- what any library that meets the statement gives there
+pub ponds-on-A : (r : ℕ) (numbers reg : List ℕ) → FindsPonds 2 tableA (blank 9) (blank 12) r numbers reg
+    → (r ≡ 256 * 2) × (numbers ≡ numbersA) × (reg ≡ registerA)
+unfolding tabFrom entryOf entriesFrom wordsOf leafAt pathOf holder sum least greatest
+ponds-on-A r numbers reg f =
+    let a = f .slices .answered passes in
+    let same = one-numbering 2 tableA accepted numbers numbersA (a .0) 2 (a .2 .numbered) numbered in (
+      f .number ∙ ap numberOf (a .1) ∙ ap (λ (c : ℕ). numberOf (Answered c)) (same .1),
+      same .0,
+      a .2 .register ∙ ap (λ (m : List ℕ). overlay (wordsOf (entries 2 tableA m (a .0))) (blank 12)) (same .0)
+      ∙ ap (λ (c : ℕ). overlay (wordsOf (entries 2 tableA numbersA c)) (blank 12)) (same .1),
+    )

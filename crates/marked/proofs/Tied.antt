@@ -10,7 +10,7 @@ use Rattle.quad.specs.Numbers.{black, none}
 use Rattle.quad.specs.Block.{pathOf, column, row}
 use Rattle.quad.specs.Direction.{eastStep, southStep}
 use Rattle.quad.specs.Tree.{sameLeaf, sizeOf, join, treeOf}
-use Rattle.table.specs.Rules.{depthTo, allOf, typeOk, fatherOk, onceOk, sonOk, wordOk, sonsOk, depthOk, sonAlike, mixedOk, faultAt, faultFrom, faultsOf, lengthOk, sizesOf, checkOf, askedOf}
+use Rattle.table.specs.Rules.{depthTo, allOf, typeOk, fatherOk, onceOk, sonOk, wordOk, sonsOk, depthOk, sonAlike, mixedOk, faultAt, faultFrom, faultsOf, lengthOk, sizesOf, eachNodeOf, checkOf, askedOf}
 use Rattle.table.specs.Nodes.{firstQuadrant, sonType, pathTo, holder, pixel}
 use Rattle.table.specs.Preorder.{preorder}
 use Rattle.table.specs.SheetA.{tableA, tableK}
@@ -47,7 +47,7 @@ pub record Tied : Type 0 where
   pub l : (r : ℕ) (after : List ℕ) → ReadsFile [] [] r after → r ≡ 13
 
 pub tied : Tied
-unfolding toOutside nearest distanceAt distancesOf distanceOf distancesAfter least tabFrom openOf readOf beside neighbourOf cornerLeafOf rasterTree pixelsFrom buildOf preorder firstQuadrant sonType pathTo holder pixel depthTo allOf typeOk fatherOk onceOk sonOk wordOk sonsOk depthOk sonAlike mixedOk faultAt faultFrom faultsOf lengthOk sizesOf checkOf askedOf sameLeaf sizeOf join treeOf eastStep southStep pathOf column row
+unfolding toOutside nearest distanceAt distancesOf distanceOf distancesAfter least tabFrom openOf readOf beside neighbourOf cornerLeafOf rasterTree pixelsFrom buildOf preorder firstQuadrant sonType pathTo holder pixel depthTo allOf typeOk fatherOk onceOk sonOk wordOk sonsOk depthOk sonAlike mixedOk faultAt faultFrom faultsOf lengthOk sizesOf eachNodeOf checkOf askedOf sameLeaf sizeOf join treeOf eastStep southStep pathOf column row
 tied = record {
   b = λ r s. given _ r _ s refl;
   c = λ r s. given _ r _ s refl;
