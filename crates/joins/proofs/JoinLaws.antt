@@ -66,10 +66,10 @@ module _ (W₀ W₁ W₂ : List ℕ) (p q a b : ℕ) (low : Falling W₀) (lp : 
   own-b : wordOf W₂ b ≡ b
   own-b = rw from-q at (leader-ends W₂ falling q)
 
-  pub first-within : a < length W₂
+  first-within : a < length W₂
   first-within = omega (arith, from-p, leader-low W₂ falling p, both .long)
 
-  pub second-within : b < length W₂
+  second-within : b < length W₂
   second-within = omega (arith, from-q, leader-low W₂ falling q, both .long)
 
   from-start : (W₃ : List ℕ) → Joined W₂ W₃ p q → Joined W₀ W₃ p q

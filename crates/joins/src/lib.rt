@@ -38,7 +38,7 @@ fn singles(table: &[u32], words: &mut [u32])
 // The leader of p's set. On the way each second word goes to its word's word, so that the way is half as long the next time.
 fn root(words: &mut [u32], p: u32) -> u32
     requires { ⌜ (p < length (now words)) × Falling (now words) ⌝ }
-    ensures { λ r. ⌜ Kept (now (words .entry)) (now (words .exit)) × (r ≡ leaderOf (now (words .entry)) p) ⌝ }
+    ensures { λ r. ⌜ Kept (now (words .entry)) (now (words .exit)) × (r ≡ leaderOf (now (words .entry)) p) × (r ≤ p) ⌝ }
 {
     let mut q = p;
     while words[q as usize] != q {

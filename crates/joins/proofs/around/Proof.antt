@@ -1,6 +1,5 @@
 -- `joins::around`: the sides of a black leaf before this one have been looked at. The measure is the sides left. Assumes nothing.
 use Prim.Native.Nat.{_-_}
-use mathlib.Core.Path.{sym, _∙_}
 use native.Mathlib.Omega.{arith}
 use borrow.Author.Needs.{needs}
 use Rattle.table.proofs.AcceptedLaws.{depth-le}
@@ -18,7 +17,7 @@ word-at-requires : tie.Need-word-at-requires Inv-loop μ-loop
 word-at-requires c κs = search needs
 
 returns : tie.Need-returns Inv-loop μ-loop
-returns c = search (further-none, sides-dry, needs)
+returns c = (further-none _ _ _ (c .before .before .before .before .pre .2), sides-dry _ _ _ _ _ (c .before .word-at .ensures) (λ e. omega (arith, c .if1 .taken)))
 
 depth-to-requires : tie.Need-depth-to-requires Inv-loop μ-loop
 depth-to-requires c κs = search (rising, needs)
@@ -35,7 +34,7 @@ across-requires c κs =
     let b = c .before .before .before .before in (
       record {
         accepted = s .pre .0;
-        water = record { node = s .pre .1; wet = sym (b .before .word-at .ensures) ∙ b .if1 .left };
+        water = record { node = s .pre .1; wet = omega (arith, b .before .word-at .ensures, b .if1 .left) };
         level = omega (arith, c .before .before .before .depth-to .ensures);
         straight = omega arith;
       },

@@ -3,7 +3,7 @@ use native.Mathlib.Omega.{arith}
 use lib.ListN.{length-set}
 use borrow.Author.Needs.{needs}
 use Rattle.joins.proofs.LeaderLaws.{kept-falling}
-use Rattle.joins.proofs.JoinLaws.{first-within, second-within, first-under, second-under}
+use Rattle.joins.proofs.JoinLaws.{first-under, second-under}
 use Rattle.joins.proofs.join.Statement.{statement}
 use Rattle.joins.proofs.join.Tie as tie
 
@@ -20,7 +20,7 @@ mul-words : tie.Need-mul-words
 mul-words c = search needs
 
 slice-write-words : tie.Need-slice-write-words
-slice-write-words c = search (second-within, needs)
+slice-write-words c = search needs
 
 same-length : tie.Need-same-length
 same-length c = simp length-set (omega (arith, c .before .before .before .before .before .before .before .root .kept, c .before .before .before .root2 .kept))
@@ -35,7 +35,7 @@ mul-words-2 : tie.Need-mul-words-2
 mul-words-2 c = search needs
 
 slice-write-words-2 : tie.Need-slice-write-words-2
-slice-write-words-2 c = search (first-within, needs)
+slice-write-words-2 c = search needs
 
 same-length-2 : tie.Need-same-length-2
 same-length-2 c = simp length-set (omega (arith, c .before .before .before .before .before .before .before .root .kept, c .before .before .before .root2 .kept))
