@@ -4,3 +4,4 @@ pub mod FewPonds
 pub mod CountedLaws
 pub mod RowLaws
 pub mod SettledLaws
+pub mod MeetLaws

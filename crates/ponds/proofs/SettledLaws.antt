@@ -28,6 +28,16 @@ use Rattle.ponds.proofs.CountedLaws.{lead-is}
 pub settled-none : (T W : List ℕ) → length W ≡ nodes T → Settled T W W (length W)
 settled-none T W e = record { size = refl; done = λ q le lt. absurd (omega arith); left = λ q l. refl }
 
+-- all are once p has fallen to 0
+pub settled-all : {T B W : List ℕ} {p : ℕ} → Settled T B W p → p ≤ 0 → Settled T B W 0
+settled-all s h = record { size = s .size; done = λ q le lt. s .done q (omega arith) lt; left = λ q l. absurd (omega arith) }
+
+-- the next node down
+pub next-down : {T B W : List ℕ} {p : ℕ} → Settled T B W p → 0 < p → Settled T B W (p - 1 + 1)
+next-down {p} s pos =
+    let e : p - 1 + 1 ≡ p = omega arith in
+    rw e s
+
 -- one node more, from the last to the first
 module _ (T B W : List ℕ) (p : ℕ) (t : Tells T B) (lt : p < nodes T) (s : Settled T B W (p + 1)) where
   same-lead : leadOf W p ≡ leadOf B p
@@ -39,7 +49,7 @@ module _ (T B W : List ℕ) (p : ℕ) (t : Tells T B) (lt : p < nodes T) (s : Se
   lead-word w = rw same-lead (s .left (leadOf B p) (omega (arith, t .low p w)))
 
   pub settles : Settles T W p
-  settles = record { node = lt; size = s .size ∙ t .size; some = λ w. rw (lead-word w, s .size) (t .some p w) }
+  settles = record { node = lt; size = s .size ∙ t .size; few = t .few; some = λ w. rw (lead-word w, s .size) (t .some p w) }
 
   settled-black : (type T p ≡ black) → Settled T B (set W p (wordOf W (leadOf W p) - length W)) p
   unfolding numberOf
@@ -105,6 +115,7 @@ module _ (n : ℕ) (T first W : List ℕ) (k : ℕ) (acc : Accepted n T) (led : 
   all-tell : Tells T W
   all-tell = record {
     size = c .size;
+    few = omega (arith, acc .sized .few);
     dry = stays-dry;
     low = λ p w. rw (lead-is n T first led W (4 ^ n) k c p w) (led .low p w);
     some = λ p w. rw (lead-is n T first led W (4 ^ n) k c p w, c .size) (omega (arith, has-number p w .some));

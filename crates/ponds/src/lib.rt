@@ -1,1 +1,115 @@
 // The numbers of a sheet's ponds, in the order of their first pixel by rows, and the register of what each covers.
+use table::word_at;
+ghost use mathlib.Core.Path.{_≡_};
+ghost use Prim.Native.Nat.{_+_, _*_, _/_, _%_, _^_, _<_, _≤_};
+ghost use lib.ListN.{length};
+ghost use Rattle.quad.specs.Numbers.{topLevel};
+ghost use Rattle.table.specs.Rules.{Accepted};
+ghost use Rattle.joins.specs.Led.{Led};
+ghost use Rattle.ponds.specs.Numbered.{Numbered};
+ghost use Rattle.ponds.specs.Counted.{leadOf, metCount, metWords, Meets, Counting, startOf, Crossed, settledAt, Settles, Tells, Settled};
+
+// The type of a black leaf.
+const BLACK: usize = 1;
+
+// The leader that the words tell of a black leaf p.
+fn leader(words: &[u32], p: usize) -> usize
+    requires { ⌜ p < length (now words) ⌝ }
+    ensures { λ r. ⌜ r ≡ leadOf (now (words .entry)) p ⌝ }
+{
+    let word = words[p] as usize;
+    if word < words.len() {
+        return word;
+    }
+    p
+}
+
+// Meets leaf p: where it is black and its leader has no number, that gets the next. Gives the count.
+fn meet(table: &[u32], words: &mut [u32], p: usize, count: u32) -> u32
+    requires { ⌜ Meets (now table) (now words) p count ⌝ }
+    ensures { λ r. ⌜ (r ≡ metCount (now (table .entry)) (now (words .entry)) p count) × (now (words .exit) ≡ metWords (now (table .entry)) (now (words .entry)) p count) ⌝ }
+{
+    if word_at(table, p, 5) != BLACK {
+        return count;
+    }
+    let l = leader(words, p);
+    let nodes = words.len() as u32;
+    if nodes <= words[l] {
+        return count;
+    }
+    words[l] = nodes + count + 1;
+    count + 1
+}
+
+// The north-western or the south-western quadrant: the one of these that row y crosses in a block twice as wide as 2 to the `half`.
+fn crossed(y: u32, half: u32) -> usize
+    requires { ⌜ half ≤ topLevel ⌝ }
+    ensures { λ r. ⌜ r ≡ 2 * (y / 2 ^ half % 2) ⌝ }
+{
+    2 * ((y >> half) % 2) as usize
+}
+
+// Meets the leaves that row y crosses under node p, from west to east.
+fn row(n: u32, table: &[u32], words: &mut [u32], p: usize, level: u32, y: u32, count: u32) -> u32
+    requires { ⌜ Crossed n (now table) p level y × Counting n (now table) (now words) (startOf n (now table) p y) count ⌝ }
+    ensures { λ r. ⌜ Counting n (now (table .entry)) (now (words .exit)) (startOf n (now (table .entry)) p y + 2 ^ level) r ⌝ }
+{
+    if word_at(table, p, 5) != quad::FORK {
+        return meet(table, words, p, count);
+    }
+    let half = level - 1;
+    let q = crossed(y, half);
+    let west = word_at(table, p, 1 + q);
+    let east = word_at(table, p, 2 + q);
+    let met = row(n, table, words, west, half, y, count);
+    row(n, table, words, east, half, y, met)
+}
+
+// Meets the leaves of all rows, from the top: each leader gets its number. Gives the count.
+fn rows(n: u32, table: &[u32], words: &mut [u32]) -> u32
+    requires { ⌜ Accepted n (now table) × Led n (now table) (now words) ⌝ }
+    ensures { λ r. ⌜ Counting n (now (table .entry)) (now (words .exit)) (4 ^ n) r ⌝ }
+{
+    let across = quad::side(n);
+    let mut y = 0;
+    let mut count = 0;
+    while y < across {
+        count = row(n, table, words, 0, n, y, count);
+        y += 1;
+    }
+    count
+}
+
+// Node p's word becomes its number.
+fn settle_at(table: &[u32], words: &mut [u32], p: usize)
+    requires { ⌜ Settles (now table) (now words) p ⌝ }
+    ensures { λ _. ⌜ now (words .exit) ≡ settledAt (now (table .entry)) (now (words .entry)) p ⌝ }
+{
+    if word_at(table, p, 5) != BLACK {
+        return;
+    }
+    let l = leader(words, p);
+    words[p] = words[l] - words.len() as u32;
+}
+
+// Every word becomes its node's number, from the last node to the first.
+fn settle(table: &[u32], words: &mut [u32])
+    requires { ⌜ Tells (now table) (now words) ⌝ }
+    ensures { λ _. ⌜ Settled (now (table .entry)) (now (words .entry)) (now (words .exit)) 0 ⌝ }
+{
+    let mut p = words.len();
+    while 0 < p {
+        p -= 1;
+        settle_at(table, words, p);
+    }
+}
+
+// The numbers of the ponds that the words tell the leaders of. Gives how many there are.
+fn number(n: u32, table: &[u32], words: &mut [u32]) -> u32
+    requires { ⌜ Accepted n (now table) × Led n (now table) (now words) ⌝ }
+    ensures { λ r. ⌜ Numbered n (now (table .entry)) (now (words .exit)) r ⌝ }
+{
+    let count = rows(n, table, words);
+    settle(table, words);
+    count
+}
