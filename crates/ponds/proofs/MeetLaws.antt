@@ -1,16 +1,16 @@
 -- Meeting a leaf and settling a node, by their cases in the code.
 use mathlib.Core.List.{List}
 use mathlib.Core.Logic.{⊎-elim}
-use mathlib.Core.Path.{_≡_, refl, ap, sym, _∙_}
+use mathlib.Core.Path.{_≡_, sym, _∙_}
 use Prim.Native.Nat.{ℕ, _+_, _-_, _≤_, _<_}
 use native.Mathlib.Omega.{arith}
 use lib.ListN.{length, set}
 use borrow.Author.Tests.{eq-eqb, ne-eqb, lt-ltb, le-ltb}
 use Rattle.base.proofs.BoolLaws.{lt-or-ge}
 use Rattle.quad.specs.Numbers.{black}
-use Rattle.table.specs.Table.{nodes, type}
+use Rattle.table.specs.Table.{type}
 use Rattle.joins.specs.Led.{wordOf}
-use Rattle.ponds.specs.Counted.{leadOf, metCount, metWords, Settles, settledAt}
+use Rattle.ponds.specs.Counted.{leadOf, metCount, metWords, Met, Settles, settledAt}
 
 -- a leader is a node
 pub lead-below : (W : List ℕ) (p l m : ℕ) → l ≡ leadOf W p → p < m → length W ≡ m → l < length W
@@ -23,9 +23,9 @@ lead-below W p l m e lt s =
 
 module _ (T W : List ℕ) (p kind : ℕ) (is : kind ≡ type T p) where
   -- a white leaf
-  pub meet-white : (k : ℕ) → (kind ≡ black → ⊥) → (k ≡ metCount T W p k) × (W ≡ metWords T W p k)
+  pub meet-white : (k : ℕ) → (kind ≡ black → ⊥) → Met T W p k k W
   unfolding metCount metWords
-  meet-white k z = let e = ne-eqb (type T p) black (λ q. z (is ∙ q)) in (rw e, rw e)
+  meet-white k z = let e = ne-eqb (type T p) black (λ q. z (is ∙ q)) in record { count = rw e; words = rw e }
 
   pub settle-white : (kind ≡ black → ⊥) → W ≡ settledAt T W p
   unfolding settledAt
@@ -33,19 +33,19 @@ module _ (T W : List ℕ) (p kind : ℕ) (is : kind ≡ type T p) where
 
   module _ (wet : kind ≡ black) (l : ℕ) (lead : l ≡ leadOf W p) where
     -- a black one whose leader has a number, or has none
-    pub meet-old : (k : ℕ) → length W ≤ wordOf W l → (k ≡ metCount T W p k) × (W ≡ metWords T W p k)
+    pub meet-old : (k : ℕ) → length W ≤ wordOf W l → Met T W p k k W
     unfolding metCount metWords
     meet-old k h =
         let e = eq-eqb (type T p) black (sym is ∙ wet) in
         let f = le-ltb (wordOf W (leadOf W p)) (length W) (rw lead at h) in
-        (rw (e, f), rw (e, f))
+        record { count = rw (e, f); words = rw (e, f) }
 
-    pub meet-new : (k : ℕ) → wordOf W l < length W → (k + 1 ≡ metCount T W p k) × (set W l (length W + k + 1) ≡ metWords T W p k)
+    pub meet-new : (k : ℕ) → wordOf W l < length W → Met T W p k (k + 1) (set W l (length W + k + 1))
     unfolding metCount metWords
     meet-new k h =
         let e = eq-eqb (type T p) black (sym is ∙ wet) in
         let f = lt-ltb (wordOf W (leadOf W p)) (length W) (rw lead at h) in
-        (rw (e, f), rw (e, f, lead))
+        record { count = rw (e, f); words = rw (e, f, lead) }
 
     pub settle-black : set W p (wordOf W l - length W) ≡ settledAt T W p
     unfolding settledAt

@@ -41,7 +41,8 @@ module _ (n : ℕ) (T : List ℕ) (acc : Accepted n T) where
       let chain = na .apart (leafAt n T j) (leafAt n T i) v w (same j (o .1) ∙ o .2) in
       omega (arith, nb .one (leafAt n T j) (leafAt n T i) chain, o .2)
 
-  same-numbers : (a b : List ℕ) (c d : ℕ) → Numbered n T a c → Numbered n T b d → (k i : ℕ) → i < k → i < 4 ^ n → numberAt n T a i ≡ numberAt n T b i
+  same-numbers : (a b : List ℕ) (c d : ℕ) → Numbered n T a c → Numbered n T b d → (k i : ℕ) → i < k → i < 4 ^ n
+      → numberAt n T a i ≡ numberAt n T b i
   same-numbers a b c d na nb zero i h lt = absurd (omega arith)
   same-numbers a b c d na nb (suc k) i h lt =
       let same = same-numbers a b c d na nb k in

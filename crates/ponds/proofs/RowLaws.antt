@@ -1,7 +1,7 @@
 -- Numbering along a row: a leaf's pixels in the row are met at once; a fork's are those of the two sons that the row crosses, the western first.
 use mathlib.Core.Bool.{true, false}
 use mathlib.Core.List.{List}
-use mathlib.Core.Path.{_≡_, refl, ap, sym, _∙_}
+use mathlib.Core.Path.{_≡_, ap, sym, _∙_}
 use Prim.Native.Nat.{ℕ, suc, _+_, _-_, _*_, _/_, _%_, _^_, _≤_, _<_}
 use native.Mathlib.Nat.{add-comm, add-mul, mul-assoc, mul-comm, one-mul, zero-mul, div-eq-of-lt}
 use native.Mathlib.Omega.{arith}
@@ -11,20 +11,21 @@ use Rattle.base.proofs.PowLaws.{pow-less, four-pow}
 use Rattle.quad.specs.Numbers.{forkType}
 use Rattle.quad.specs.Block.{column, row}
 use Rattle.quad.proofs.PathLaws.{half-last}
-use Rattle.table.specs.Table.{word, nodes, son, type, isFork}
+use Rattle.table.specs.Table.{word, son, type, isFork}
 use Rattle.table.specs.Rules.{Accepted, AtLevel}
 use Rattle.table.specs.Nodes.{pathTo, levelOf, leftOf}
 use Rattle.table.proofs.AcceptedLaws.{root-at, level-is, fork-above, son-at}
 use Rattle.table.proofs.NodeLaws.{path-root}
 use Rattle.table.proofs.HolderLaws.{path-son}
 use Rattle.joins.specs.Led.{Led}
-use Rattle.ponds.specs.Counted.{metCount, metWords, Meets, Counting, startOf, Crossed}
+use Rattle.ponds.specs.Counted.{metCount, metWords, Meets, Met, Counting, startOf, Crossed}
 use Rattle.ponds.proofs.LeafLaws.{leaf-along}
 use Rattle.ponds.proofs.CountedLaws.{counted-none, counted-few, met-leaf}
 
 -- a half's left side, from its block's
 halved : (b C H : ℕ) → (b + 2 * C) * H ≡ C * (2 * H) + b * H
-halved b C H = add-mul b (2 * C) H ∙ add-comm (b * H) (2 * C * H) ∙ ap (λ (k : ℕ). k * H + b * H) (mul-comm 2 C) ∙ ap (λ (k : ℕ). k + b * H) (mul-assoc C 2 H)
+halved b C H =
+    add-mul b (2 * C) H ∙ add-comm (b * H) (2 * C * H) ∙ ap (λ (k : ℕ). k * H + b * H) (mul-comm 2 C) ∙ ap (λ (k : ℕ). k + b * H) (mul-assoc C 2 H)
 
 -- the root is crossed by every row, which begins where the row does
 pub crossed-root : {n : ℕ} {T : List ℕ} → Accepted n T → (y : ℕ) → y < 2 ^ n → Crossed n T 0 n y
@@ -102,8 +103,9 @@ halves {n} {T} {p} {l} {y} h kind q west east is fk eq ew ee =
 
 -- a leaf in the code's numbers
 pub row-leaf : {n : ℕ} {T W after : List ℕ} {p l y k r : ℕ} → Crossed n T p l y → (kind : ℕ) → kind ≡ type T p → (kind ≡ forkType → ⊥)
-    → Counting n T W (startOf n T p y) k → r ≡ metCount T W p k → after ≡ metWords T W p k → Counting n T after (startOf n T p y + 2 ^ l) r
-row-leaf {n} {T} {W} {after} {p} {l} {y} {k} h kind is z c e f = rw (e, f) (counting-leaf h (ne-eqb (type T p) forkType (λ q. z (is ∙ q))) c)
+    → Counting n T W (startOf n T p y) k → Met T W p k r after → Counting n T after (startOf n T p y + 2 ^ l) r
+row-leaf {n} {T} {W} {after} {p} {l} {y} {k} h kind is z c m =
+    rw (m .count, m .words) (counting-leaf h (ne-eqb (type T p) forkType (λ q. z (is ∙ q))) c)
 
 -- a fork is above the pixels
 pub fork-level : {n : ℕ} {T : List ℕ} {p l y : ℕ} → Crossed n T p l y → (kind : ℕ) → kind ≡ type T p → kind ≡ forkType → 0 < l

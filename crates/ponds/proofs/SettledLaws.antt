@@ -1,16 +1,16 @@
 -- Settling: once every leader has its number, each black leaf's word becomes its leader's number, from the last node to the first, so that the leader's word,
 -- which stands no higher, is still as it was. The numbers are then those of the sheet's ponds.
-use mathlib.Core.Bool.{true, false, cond}
+use mathlib.Core.Bool.{true, false}
 use mathlib.Core.List.{List}
 use mathlib.Core.Logic.{⊎-elim}
-use mathlib.Core.Path.{_≡_, refl, ap, sym, _∙_}
+use mathlib.Core.Path.{_≡_, refl, ap, _∙_}
 use Prim.Native.Nat.{ℕ, _+_, _-_, _^_, _≤_, _<_}
 use native.Mathlib.Nat.{eq-or-lt-of-le}
 use native.Mathlib.Omega.{arith}
-use lib.Dec.{eqb, ltb}
+use lib.Dec.{eqb}
 use lib.ListN.{length, set, length-set}
 use lib.Seq.{getD-set-same, getD-set-other}
-use borrow.Author.Tests.{eqb-true, eqb-false, eq-eqb, ne-eqb, lt-ltb, le-ltb}
+use borrow.Author.Tests.{eqb-true, eqb-false, eq-eqb, ne-eqb}
 use Rattle.base.proofs.BoolLaws.{by-bool, lt-or-ge}
 use Rattle.base.proofs.CaseLaws.{cond-case}
 use Rattle.quad.specs.Numbers.{black}
@@ -20,7 +20,7 @@ use Rattle.joins.specs.Chain.{Water, Chain, end, link}
 use Rattle.joins.specs.Led.{wordOf, Led}
 use Rattle.register.specs.Entries.{leafAt, numberAt}
 use Rattle.ponds.specs.Numbered.{Numbered}
-use Rattle.ponds.specs.Counted.{leadOf, markAt, Marked, Shown, Counted, Counting, numberOf, Tells, settledAt, Settles, Settled}
+use Rattle.ponds.specs.Counted.{leadOf, Marked, Counted, Counting, numberOf, Tells, settledAt, Settles, Settled}
 use Rattle.ponds.proofs.LeafLaws.{black-leaf, leaf-node, leaf-pixel}
 use Rattle.ponds.proofs.CountedLaws.{lead-is}
 

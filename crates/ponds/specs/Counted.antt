@@ -29,6 +29,10 @@ metWords T words p k =
     (cond (ltb (wordOf words (leadOf words p)) (length words)) (set words (leadOf words p) (length words + k + 1)) words)
     words
 
+pub record Met (T before : List ℕ) (p k r : ℕ) (after : List ℕ) : Type 0 where
+  pub count : r ≡ metCount T before p k
+  pub words : after ≡ metWords T before p k
+
 -- one word for each node, and there is room in them for one number more
 pub record Meets (T words : List ℕ) (p k : ℕ) : Type 0 where
   pub node : p < nodes T

@@ -7,7 +7,7 @@ ghost use Rattle.quad.specs.Numbers.{topLevel};
 ghost use Rattle.table.specs.Rules.{Accepted};
 ghost use Rattle.joins.specs.Led.{Led};
 ghost use Rattle.ponds.specs.Numbered.{Numbered};
-ghost use Rattle.ponds.specs.Counted.{leadOf, metCount, metWords, Meets, Counting, startOf, Crossed, settledAt, Settles, Tells, Settled};
+ghost use Rattle.ponds.specs.Counted.{leadOf, Meets, Met, Counting, startOf, Crossed, settledAt, Settles, Tells, Settled};
 
 // The type of a black leaf.
 const BLACK: usize = 1;
@@ -27,7 +27,7 @@ fn leader(words: &[u32], p: usize) -> usize
 // Meets leaf p: where it is black and its leader has no number, that gets the next. Gives the count.
 fn meet(table: &[u32], words: &mut [u32], p: usize, count: u32) -> u32
     requires { ⌜ Meets (now table) (now words) p count ⌝ }
-    ensures { λ r. ⌜ (r ≡ metCount (now (table .entry)) (now (words .entry)) p count) × (now (words .exit) ≡ metWords (now (table .entry)) (now (words .entry)) p count) ⌝ }
+    ensures { λ r. ⌜ Met (now (table .entry)) (now (words .entry)) p count r (now (words .exit)) ⌝ }
 {
     if word_at(table, p, 5) != BLACK {
         return count;
@@ -41,8 +41,8 @@ fn meet(table: &[u32], words: &mut [u32], p: usize, count: u32) -> u32
     count + 1
 }
 
-// The north-western or the south-western quadrant: the one of these that row y crosses in a block twice as wide as 2 to the `half`.
-fn crossed(y: u32, half: u32) -> usize
+// The western one of the two quadrants that row y crosses in a block; `half` is their level.
+fn western(y: u32, half: u32) -> usize
     requires { ⌜ half ≤ topLevel ⌝ }
     ensures { λ r. ⌜ r ≡ 2 * (y / 2 ^ half % 2) ⌝ }
 {
@@ -58,7 +58,7 @@ fn row(n: u32, table: &[u32], words: &mut [u32], p: usize, level: u32, y: u32, c
         return meet(table, words, p, count);
     }
     let half = level - 1;
-    let q = crossed(y, half);
+    let q = western(y, half);
     let west = word_at(table, p, 1 + q);
     let east = word_at(table, p, 2 + q);
     let met = row(n, table, words, west, half, y, count);

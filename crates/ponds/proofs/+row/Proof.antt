@@ -10,7 +10,7 @@ use borrow.Fn.PlainCycle.{Measures, is, falls, and}
 use Rattle.ponds.proofs.row.Reads as row
 use Rattle.ponds.proofs.row.Kinds as row-kinds
 use Rattle.ponds.proofs.+row.Lts-row as row-lts
-use Rattle.ponds.proofs.crossed.Reads as crossed-reads
+use Rattle.ponds.proofs.western.Reads as western-reads
 use Rattle.ponds.proofs.meet.Reads as meet-reads
 use Rattle.table.proofs.word_at.Reads as word-at-reads
 use Rattle.ponds.proofs.+row.{statement}
@@ -26,7 +26,7 @@ abbrev row-below : ℕ → In 2 row-kinds.ps
 row-below t = and 2 row-kinds.ps (falls 2 row-kinds.ps _<_ μ-row t) row.Pre
 
 abbrev calls : ℕ → row-lts.Claims
-calls t = (word-at-reads.Asked, word-at-reads.Learnt, meet-reads.Asked, meet-reads.Learnt, crossed-reads.Asked, crossed-reads.Learnt, row-below t, row.Post)
+calls t = (word-at-reads.Asked, word-at-reads.Learnt, meet-reads.Asked, meet-reads.Learnt, western-reads.Asked, western-reads.Learnt, row-below t, row.Post)
 
 row-word-at-requires : (t : ℕ) → row-lts.Need-word-at-requires (calls t) (row-at t) row.Post
 row-word-at-requires t c κs = (c .before .before .pre .1 .0 .place .node, omega arith)
@@ -38,42 +38,67 @@ row-same-length : (t : ℕ) → row-lts.Need-same-length (calls t) (row-at t) ro
 row-same-length t c = c .before .before .meet .kept .1 .0
 
 row-returns : (t : ℕ) → row-lts.Need-returns (calls t) (row-at t) row.Post
-row-returns t c = row-leaf (c .before .before .before .before .before .before .before .before .pre .1 .0) _ (c .before .before .before .before .before .word-at .ensures) (c .before .before .before .before .if1 .taken) (c .before .before .before .before .before .before .before .before .pre .1 .1) (c .before .before .meet .ensures .0) (c .before .before .meet .ensures .1)
+row-returns t c =
+    let m = c .before .before in
+    let leaf = m .before .before in
+    let kind = leaf .before in
+    let h = kind .before .before .before .pre .1 in
+    row-leaf (h .0) _ (kind .word-at .ensures) (leaf .if1 .taken) (h .1) (m .meet .ensures)
 
 row-sub-half : (t : ℕ) → row-lts.Need-sub-half (calls t) (row-at t) row.Post
-row-sub-half t c = omega (arith, fork-level (c .before .before .before .before .pre .1 .0) _ (c .before .word-at .ensures) (c .if1 .left))
+row-sub-half t c =
+    let kind = c .before in
+    omega (arith, fork-level (kind .before .before .before .pre .1 .0) _ (kind .word-at .ensures) (c .if1 .left))
 
-row-crossed-requires : (t : ℕ) → row-lts.Need-crossed-requires (calls t) (row-at t) row.Post
-row-crossed-requires t c κs = omega (arith, level-top (c .before .before .before .before .pre .1 .0 .place))
+row-western-requires : (t : ℕ) → row-lts.Need-western-requires (calls t) (row-at t) row.Post
+row-western-requires t c κs = omega (arith, level-top (c .before .before .before .before .pre .1 .0 .place))
 
 row-add-word-at : (t : ℕ) → row-lts.Need-add-word-at (calls t) (row-at t) row.Post
-row-add-word-at t c = omega (arith, c .crossed .ensures)
+row-add-word-at t c = omega (arith, c .western .ensures)
 
 row-word-at-requires-2 : (t : ℕ) → row-lts.Need-word-at-requires-2 (calls t) (row-at t) row.Post
-row-word-at-requires-2 t c κs = (c .before .before .before .before .before .pre .1 .0 .place .node, omega (arith, c .crossed .ensures))
+row-word-at-requires-2 t c κs = (c .before .before .before .before .before .pre .1 .0 .place .node, omega (arith, c .western .ensures))
 
 row-add-word-at-2 : (t : ℕ) → row-lts.Need-add-word-at-2 (calls t) (row-at t) row.Post
-row-add-word-at-2 t c = omega (arith, c .before .crossed .ensures)
+row-add-word-at-2 t c = omega (arith, c .before .western .ensures)
 
 row-word-at-requires-3 : (t : ℕ) → row-lts.Need-word-at-requires-3 (calls t) (row-at t) row.Post
-row-word-at-requires-3 t c κs = (c .before .before .before .before .before .before .pre .1 .0 .place .node, omega (arith, c .before .crossed .ensures))
+row-word-at-requires-3 t c κs = (c .before .before .before .before .before .before .pre .1 .0 .place .node, omega (arith, c .before .western .ensures))
 
 row-row-requires : (t : ℕ) → row-lts.Need-row-requires (calls t) (row-at t) row.Post
 row-row-requires t c κs =
-    let v = halves (c .before .before .before .before .before .before .before .before .pre .1 .0) _ _ _ _ (c .before .before .before .before .before .word-at .ensures) (c .before .before .before .before .if1 .left) (c .before .before .before .crossed .ensures) (c .before .before .word-at2 .ensures) (c .before .word-at3 .ensures) in
-    (omega (arith, c .before .before .before .before .before .before .before .before .pre .0, fork-level (c .before .before .before .before .before .before .before .before .pre .1 .0) _ (c .before .before .before .before .before .word-at .ensures) (c .before .before .before .before .if1 .left)), (v .left, rw (v .begin) (c .before .before .before .before .before .before .before .before .pre .1 .1)))
+    let east = c .before in
+    let west = east .before in
+    let q = west .before in
+    let fork = q .before in
+    let kind = fork .before in
+    let h = kind .before .before .before .pre in
+    let v = halves (h .1 .0) _ _ _ _ (kind .word-at .ensures) (fork .if1 .left) (q .western .ensures) (west .word-at2 .ensures) (east .word-at3 .ensures) in
+    (omega (arith, h .0, fork-level (h .1 .0) _ (kind .word-at .ensures) (fork .if1 .left)), (v .left, rw (v .begin) (h .1 .1)))
 
 row-row-requires-2 : (t : ℕ) → row-lts.Need-row-requires-2 (calls t) (row-at t) row.Post
 row-row-requires-2 t c κs =
-    let v = halves (c .before .before .before .before .before .before .before .before .before .before .before .before .pre .1 .0) _ _ _ _ (c .before .before .before .before .before .before .before .before .before .word-at .ensures) (c .before .before .before .before .before .before .before .before .if1 .left) (c .before .before .before .before .before .before .before .crossed .ensures) (c .before .before .before .before .before .before .word-at2 .ensures) (c .before .before .before .before .before .word-at3 .ensures) in
-    (omega (arith, c .before .before .before .before .before .before .before .before .before .before .before .before .pre .0, fork-level (c .before .before .before .before .before .before .before .before .before .before .before .before .pre .1 .0) _ (c .before .before .before .before .before .before .before .before .before .word-at .ensures) (c .before .before .before .before .before .before .before .before .if1 .left)), (v .right, rw (v .middle) (c .before .before .before .row .ensures)))
+    let east = c .before .before .before .before .before in
+    let west = east .before in
+    let q = west .before in
+    let fork = q .before in
+    let kind = fork .before in
+    let h = kind .before .before .before .pre in
+    let v = halves (h .1 .0) _ _ _ _ (kind .word-at .ensures) (fork .if1 .left) (q .western .ensures) (west .word-at2 .ensures) (east .word-at3 .ensures) in
+    (omega (arith, h .0, fork-level (h .1 .0) _ (kind .word-at .ensures) (fork .if1 .left)), (v .right, rw (v .middle) (c .before .before .before .row .ensures)))
 
 row-same-length-2 : (t : ℕ) → row-lts.Need-same-length-2 (calls t) (row-at t) row.Post
 row-same-length-2 t c = c .before .before .row2 .kept .1 .1 .0 ∙ c .before .before .before .before .before .before .row .kept .1 .1 .0
 
 row-returns-2 : (t : ℕ) → row-lts.Need-returns-2 (calls t) (row-at t) row.Post
 row-returns-2 t c =
-    let v = halves (c .before .before .before .before .before .before .before .before .before .before .before .before .before .before .before .pre .1 .0) _ _ _ _ (c .before .before .before .before .before .before .before .before .before .before .before .before .word-at .ensures) (c .before .before .before .before .before .before .before .before .before .before .before .if1 .left) (c .before .before .before .before .before .before .before .before .before .before .crossed .ensures) (c .before .before .before .before .before .before .before .before .before .word-at2 .ensures) (c .before .before .before .before .before .before .before .before .word-at3 .ensures) in
+    let east = c .before .before .before .before .before .before .before .before in
+    let west = east .before in
+    let q = west .before in
+    let fork = q .before in
+    let kind = fork .before in
+    let h = kind .before .before .before .pre in
+    let v = halves (h .1 .0) _ _ _ _ (kind .word-at .ensures) (fork .if1 .left) (q .western .ensures) (west .word-at2 .ensures) (east .word-at3 .ensures) in
     rw (v .finish) (c .before .before .row2 .ensures)
 
 pub +row-spec : {M : Type 1} → statement M
@@ -85,7 +110,7 @@ pub +row-spec : {M : Type 1} → statement M
     (row-same-length t)
     (row-returns t)
     (row-sub-half t)
-    (row-crossed-requires t)
+    (row-western-requires t)
     (row-add-word-at t)
     (row-word-at-requires-2 t)
     (row-add-word-at-2 t)

@@ -5,8 +5,6 @@ use Rattle.ponds.specs.Counted.{leadOf}
 use borrow.Author.Needs.{needs}
 use Rattle.ponds.proofs.leader.Statement.{statement}
 use Rattle.ponds.proofs.leader.Tie as tie
-use Rattle.ponds.proofs.leader.Reads as reads
-use Rattle.ponds.proofs.leader.Lts as lts
 
 mul-word : tie.Need-mul-word
 mul-word c = search needs

@@ -4,16 +4,12 @@ use Rattle.ponds.proofs.MeetLaws.{lead-below, meet-white, meet-old, mee
 use borrow.Author.Needs.{needs}
 use Rattle.ponds.proofs.meet.Statement.{statement}
 use Rattle.ponds.proofs.meet.Tie as tie
-use Rattle.ponds.proofs.meet.Reads as reads
-use Rattle.ponds.proofs.meet.Lts as lts
-use Rattle.ponds.proofs.leader.Reads as leader-reads
-use Rattle.table.proofs.word_at.Reads as word-at-reads
 
 word-at-requires : tie.Need-word-at-requires
 word-at-requires c κs = search needs
 
 returns : tie.Need-returns
-returns c = meet-white _ _ _ _ (c .before .word-at .ensures) _ (c .if1 .taken)
+returns c = search (meet-white, needs)
 
 leader-requires : tie.Need-leader-requires
 leader-requires c κs = search needs
@@ -31,7 +27,7 @@ same-length : tie.Need-same-length
 same-length c = search needs
 
 returns-2 : tie.Need-returns-2
-returns-2 c = meet-old _ _ _ _ (c .before .before .before .before .before .word-at .ensures) (c .before .before .before .before .if1 .left) _ (c .before .before .leader .ensures) _ (c .if2 .taken)
+returns-2 c = search (meet-old, needs)
 
 add-words : tie.Need-add-words
 add-words c = search needs
@@ -40,7 +36,10 @@ add-words-2 : tie.Need-add-words-2
 add-words-2 c = search needs
 
 mul-words : tie.Need-mul-words
-mul-words c = omega (arith, lead-below _ _ _ _ (c .before .before .leader .ensures) (c .before .before .before .before .before .before .before .before .pre .node) (c .before .before .before .before .before .before .before .before .pre .size), c .before .before .before .before .before .before .before .before .pre .size, c .before .before .before .before .before .before .before .before .pre .room)
+mul-words c =
+    let l = c .before .before in
+    let h = l .before .before .before .before .before .before .pre in
+    omega (arith, lead-below _ _ _ _ (l .leader .ensures) (h .node) (h .size), h .size, h .room)
 
 slice-write-words : tie.Need-slice-write-words
 slice-write-words c = search (lead-below, needs)
@@ -52,7 +51,7 @@ same-length-2 : tie.Need-same-length-2
 same-length-2 c = search needs
 
 returns-3 : tie.Need-returns-3
-returns-3 c = meet-new _ _ _ _ (c .before .before .before .before .before .word-at .ensures) (c .before .before .before .before .if1 .left) _ (c .before .before .leader .ensures) _ (c .if2 .left)
+returns-3 c = search (meet-new, needs)
 
 pub meet-spec : {M : Type 1} → statement M
 meet-spec =

@@ -3,10 +3,6 @@ use Rattle.ponds.proofs.SettledLaws.{tells, numbered-all}
 use borrow.Author.Needs.{needs}
 use Rattle.ponds.proofs.number.Statement.{statement}
 use Rattle.ponds.proofs.number.Tie as tie
-use Rattle.ponds.proofs.number.Reads as reads
-use Rattle.ponds.proofs.number.Lts as lts
-use Rattle.ponds.proofs.rows.Reads as rows-reads
-use Rattle.ponds.proofs.settle.Reads as settle-reads
 
 rows-requires : tie.Need-rows-requires
 rows-requires c κs = search needs
@@ -18,7 +14,10 @@ same-length : tie.Need-same-length
 same-length c = search needs
 
 returns : tie.Need-returns
-returns c = numbered-all (c .before .before .before .before .before .before .before .before .before .before .pre .0) (c .before .before .before .before .before .before .rows .ensures) (c .before .before .settle .ensures)
+returns c =
+    let s = c .before .before in
+    let r = s .before .before .before .before in
+    numbered-all (r .before .before .before .before .pre .0) (r .rows .ensures) (s .settle .ensures)
 
 pub number-spec : {M : Type 1} → statement M
 number-spec = tie.close (tie.spec rows-requires settle-requires same-length returns)

@@ -1,6 +1,6 @@
 -- `ponds::rows`: the pixels of the rows above y are passed. The measure is the rows left. Assumes nothing.
 use mathlib.Core.Path.{_≡_, refl, _∙_}
-use Prim.Native.Nat.{_*_, _-_, _^_, _≤_, _<_}
+use Prim.Native.Nat.{_*_, _-_, _^_, _≤_}
 use native.Mathlib.Omega.{arith}
 use lib.ListN.{length}
 use borrow.Author.Needs.{needs}
@@ -8,13 +8,10 @@ use Rattle.ponds.specs.Counted.{Counting}
 use Rattle.ponds.proofs.RowLaws.{crossed-root, rows-none, row-begins, row-ends, rows-all}
 use Rattle.ponds.proofs.rows.Statement.{statement}
 use Rattle.ponds.proofs.rows.Tie as tie
-use Rattle.ponds.proofs.rows.Reads as reads
-use Rattle.ponds.proofs.rows.Lts as lts
-use Rattle.ponds.proofs.row.Reads as row-reads
-use Rattle.quad.proofs.side.Reads as side-reads
 
 abbrev Inv-loop : tie.InvT-loop
-Inv-loop n table words₀ across y₀ count₀ words y count = (y ≤ across) × (across ≡ 2 ^ n) × (length words ≡ length words₀) × Counting n table words (y * 2 ^ n) count
+Inv-loop n table words₀ across y₀ count₀ words y count =
+    (y ≤ across) × (across ≡ 2 ^ n) × (length words ≡ length words₀) × Counting n table words (y * 2 ^ n) count
 
 abbrev μ-loop : tie.MeasureT-loop
 μ-loop n table words₀ across y₀ count₀ words y count = across - y
@@ -28,7 +25,8 @@ loop-holds c = (omega arith, c .side .ensures, refl, rows-none (c .before .befor
 row-requires : tie.Need-row-requires Inv-loop μ-loop
 row-requires c κs =
     let v = c .before .before .loop in
-    (crossed-root (c .before .before .before .before .before .before .pre .0) (v .y) (omega (arith, v .inv .1, c .before .loop-test .taken)), row-begins (v .y) (v .inv .3))
+    let acc = c .before .before .before .before .before .before .pre .0 in
+    (crossed-root acc (v .y) (omega (arith, v .inv .1, c .before .loop-test .taken)), row-begins (v .y) (v .inv .3))
 
 add-y : tie.Need-add-y Inv-loop μ-loop
 add-y c = search needs
@@ -38,8 +36,10 @@ loop-less c = search needs
 
 loop-again : tie.Need-loop-again Inv-loop μ-loop
 loop-again c =
-    let v = c .before .before .before .before .before .loop in
-    (omega (arith, c .before .before .before .before .loop-test .taken), v .inv .1, c .before .before .row .kept .1 .1 .0 ∙ v .inv .2, row-ends (v .y) (c .before .before .row .ensures))
+    let r = c .before .before .row in
+    let t = c .before .before .before .before in
+    let v = t .before .loop in
+    (omega (arith, t .loop-test .taken), v .inv .1, r .kept .1 .1 .0 ∙ v .inv .2, row-ends (v .y) (r .ensures))
 
 same-length : tie.Need-same-length Inv-loop μ-loop
 same-length c = c .before .loop .inv .2

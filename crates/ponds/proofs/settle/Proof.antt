@@ -1,6 +1,5 @@
 -- `ponds::settle`: the words from p on are their nodes' numbers. The measure is p. Assumes nothing.
-use mathlib.Core.Path.{_≡_}
-use Prim.Native.Nat.{_-_, _≤_, _<_}
+use Prim.Native.Nat.{_-_, _≤_}
 use native.Mathlib.Omega.{arith}
 use borrow.Author.Needs.{needs}
 use Rattle.table.specs.Table.{nodes}
@@ -8,9 +7,6 @@ use Rattle.ponds.specs.Counted.{Settled}
 use Rattle.ponds.proofs.SettledLaws.{settled-none, next-down, settles, settled-one, settled-all}
 use Rattle.ponds.proofs.settle.Statement.{statement}
 use Rattle.ponds.proofs.settle.Tie as tie
-use Rattle.ponds.proofs.settle.Reads as reads
-use Rattle.ponds.proofs.settle.Lts as lts
-use Rattle.ponds.proofs.settle_at.Reads as settle-at-reads
 
 abbrev Inv-loop : tie.InvT-loop
 Inv-loop table words₀ p₀ words p = (p ≤ nodes table) × Settled table words₀ words p
@@ -26,17 +22,22 @@ sub-p c = search needs
 
 settle-at-requires : tie.Need-settle-at-requires Inv-loop μ-loop
 settle-at-requires c κs =
-    let v = c .before .before .loop in
-    settles _ _ _ (v .p - 1) (c .before .before .before .before .before .pre) (omega (arith, v .inv .0, c .before .loop-test .taken)) (next-down (v .inv .1) (c .before .loop-test .taken))
+    let t = c .before in
+    let v = t .before .loop in
+    let h = t .before .before .before .before .pre in
+    settles _ _ _ (v .p - 1) h (omega (arith, v .inv .0, t .loop-test .taken)) (next-down (v .inv .1) (t .loop-test .taken))
 
 loop-less : tie.Need-loop-less Inv-loop μ-loop
 loop-less c = search needs
 
 loop-again : tie.Need-loop-again Inv-loop μ-loop
 loop-again c =
-    let v = c .before .before .before .before .before .loop in
-    let lt : v .p - 1 < nodes (c .before .before .before .before .before .before .before .before .args .table .now) = omega (arith, v .inv .0, c .before .before .before .before .loop-test .taken) in
-    (omega (arith, v .inv .0), rw (c .before .before .settle-at .ensures) (settled-one _ _ _ (v .p - 1) (c .before .before .before .before .before .before .before .before .pre) lt (next-down (v .inv .1) (c .before .before .before .before .loop-test .taken))))
+    let s = c .before .before .settle-at in
+    let t = c .before .before .before .before in
+    let v = t .before .loop in
+    let h = t .before .before .before .before .pre in
+    let one = settled-one _ _ _ (v .p - 1) h (omega (arith, v .inv .0, t .loop-test .taken)) (next-down (v .inv .1) (t .loop-test .taken)) in
+    (omega (arith, v .inv .0), rw (s .ensures) one)
 
 same-length : tie.Need-same-length Inv-loop μ-loop
 same-length c = c .before .loop .inv .1 .size

@@ -3,10 +3,6 @@ use Rattle.ponds.proofs.MeetLaws.{lead-below, settle-white, settle-blac
 use borrow.Author.Needs.{needs}
 use Rattle.ponds.proofs.settle_at.Statement.{statement}
 use Rattle.ponds.proofs.settle_at.Tie as tie
-use Rattle.ponds.proofs.settle_at.Reads as reads
-use Rattle.ponds.proofs.settle_at.Lts as lts
-use Rattle.ponds.proofs.leader.Reads as leader-reads
-use Rattle.table.proofs.word_at.Reads as word-at-reads
 
 word-at-requires : tie.Need-word-at-requires
 word-at-requires c κs = search needs
