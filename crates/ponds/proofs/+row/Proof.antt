@@ -3,8 +3,8 @@
 use mathlib.Core.Path.{_∙_}
 use native.Mathlib.Omega.{arith}
 use Rattle.table.proofs.AcceptedLaws.{level-top}
-use Rattle.ponds.proofs.RowLaws.{meets, row-leaf, fork-level, halves}
-use Prim.Native.Nat.{ℕ, _<_}
+use Rattle.ponds.proofs.RowLaws.{meets, row-leaf, fork-level, Halves, halves}
+use Prim.Native.Nat.{ℕ, _-_, _<_}
 use borrow.Fn.Kinds.{In}
 use borrow.Fn.PlainCycle.{Measures, is, falls, and}
 use Rattle.ponds.proofs.row.Reads as row
@@ -65,41 +65,35 @@ row-add-word-at-2 t c = omega (arith, c .before .western .ensures)
 row-word-at-requires-3 : (t : ℕ) → row-lts.Need-word-at-requires-3 (calls t) (row-at t) row.Post
 row-word-at-requires-3 t c κs = (c .before .before .before .before .before .before .pre .1 .0 .place .node, omega (arith, c .before .western .ensures))
 
+-- a fork's two sons that the row crosses are a level below it
+sons : (t : ℕ) (c : row-lts.After-word-at3 (calls t) (row-at t) row.Post) → (let a = c .before .before .before .before .before .before .before .args in
+    (a .level - 1 < t) × Halves (a .n) (a .table .now) (a .p) (a .level) (a .y) (c .before .word-at2 .result) (c .word-at3 .result))
+sons t c =
+    let q = c .before .before in
+    let fork = q .before in
+    let kind = fork .before .word-at .ensures in
+    let h = fork .before .before .before .before .pre in (
+      omega (arith, h .0, fork-level (h .1 .0) _ kind (fork .if1 .left)),
+      halves (h .1 .0) _ _ _ _ kind (fork .if1 .left) (q .western .ensures) (c .before .word-at2 .ensures) (c .word-at3 .ensures),
+    )
+
 row-row-requires : (t : ℕ) → row-lts.Need-row-requires (calls t) (row-at t) row.Post
 row-row-requires t c κs =
-    let east = c .before in
-    let west = east .before in
-    let q = west .before in
-    let fork = q .before in
-    let kind = fork .before in
-    let h = kind .before .before .before .pre in
-    let v = halves (h .1 .0) _ _ _ _ (kind .word-at .ensures) (fork .if1 .left) (q .western .ensures) (west .word-at2 .ensures) (east .word-at3 .ensures) in
-    (omega (arith, h .0, fork-level (h .1 .0) _ (kind .word-at .ensures) (fork .if1 .left)), (v .left, rw (v .begin) (h .1 .1)))
+    let s = sons t (c .before) in
+    (s .0, (s .1 .left, rw (s .1 .begin) (c .before .before .before .before .before .before .before .before .pre .1 .1)))
 
 row-row-requires-2 : (t : ℕ) → row-lts.Need-row-requires-2 (calls t) (row-at t) row.Post
 row-row-requires-2 t c κs =
-    let east = c .before .before .before .before .before in
-    let west = east .before in
-    let q = west .before in
-    let fork = q .before in
-    let kind = fork .before in
-    let h = kind .before .before .before .pre in
-    let v = halves (h .1 .0) _ _ _ _ (kind .word-at .ensures) (fork .if1 .left) (q .western .ensures) (west .word-at2 .ensures) (east .word-at3 .ensures) in
-    (omega (arith, h .0, fork-level (h .1 .0) _ (kind .word-at .ensures) (fork .if1 .left)), (v .right, rw (v .middle) (c .before .before .before .row .ensures)))
+    let s = sons t (c .before .before .before .before .before) in
+    (s .0, (s .1 .right, rw (s .1 .middle) (c .before .before .before .row .ensures)))
 
 row-same-length-2 : (t : ℕ) → row-lts.Need-same-length-2 (calls t) (row-at t) row.Post
 row-same-length-2 t c = c .before .before .row2 .kept .1 .1 .0 ∙ c .before .before .before .before .before .before .row .kept .1 .1 .0
 
 row-returns-2 : (t : ℕ) → row-lts.Need-returns-2 (calls t) (row-at t) row.Post
 row-returns-2 t c =
-    let east = c .before .before .before .before .before .before .before .before in
-    let west = east .before in
-    let q = west .before in
-    let fork = q .before in
-    let kind = fork .before in
-    let h = kind .before .before .before .pre in
-    let v = halves (h .1 .0) _ _ _ _ (kind .word-at .ensures) (fork .if1 .left) (q .western .ensures) (west .word-at2 .ensures) (east .word-at3 .ensures) in
-    rw (v .finish) (c .before .before .row2 .ensures)
+    let s = sons t (c .before .before .before .before .before .before .before .before) in
+    rw (s .1 .finish) (c .before .before .row2 .ensures)
 
 pub +row-spec : {M : Type 1} → statement M
 +row-spec = close μ-row λ t. row-lts.spec (calls t)
