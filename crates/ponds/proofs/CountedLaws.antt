@@ -1,21 +1,20 @@
 -- Numbering along the pixels, one at a time: none is passed at the start; a pixel whose leader has a number is passed as it is; a pixel whose leader has none
 -- gives it the next; and a leaf is met once for all of its pixels in a row.
-use mathlib.Core.Bool.{true, false, cond}
+use mathlib.Core.Bool.{true, false}
 use mathlib.Core.List.{List}
 use mathlib.Core.Logic.{_⊎_, inl, inr, ⊎-elim}
 use mathlib.Core.Path.{_≡_, refl, ap, sym, _∙_}
 use Prim.Native.Nat.{ℕ, zero, suc, _+_, _-_, _≤_, _<_}
 use native.Mathlib.Nat.{add-zero, eq-or-lt-of-le}
 use native.Mathlib.Omega.{arith}
-use lib.Dec.{eqb, ltb}
+use lib.Dec.{eqb}
 use lib.ListN.{length, set, length-set}
 use lib.Seq.{getD-set-same, getD-set-other}
-use borrow.Author.Tests.{eqb-true, eqb-false, eq-eqb, ne-eqb, lt-ltb, le-ltb}
+use borrow.Author.Tests.{eqb-true, eqb-false, lt-ltb, le-ltb}
 use Rattle.base.proofs.BoolLaws.{by-bool, lt-or-ge}
 use Rattle.base.proofs.SumLaws.{sum-ones}
 use Rattle.quad.specs.Numbers.{black}
 use Rattle.table.specs.Table.{nodes, type}
-use Rattle.table.specs.Rules.{Accepted}
 use Rattle.joins.specs.Chain.{Water}
 use Rattle.joins.specs.Led.{wordOf, Led}
 use Rattle.register.specs.Entries.{leafAt}
@@ -65,7 +64,8 @@ module _ (n : ℕ) (T first : List ℕ) (led : Led n T first) where
         (wordOf first (leafAt n T (s .pixel)), led .leader (leafAt n T (s .pixel)) (s .water) .node, refl, omega (arith, s .number))))
 
     -- a number that is given stands before pixel i
-    given : (j a : ℕ) → j ≡ i → Water T (leafAt n T j) → 0 < a → nodes T + a < markAt n T first W j → nodes T ≤ markAt n T first W j → Shown n T first W j a
+    given : (j a : ℕ) → j ≡ i → Water T (leafAt n T j) → 0 < a → nodes T + a < markAt n T first W j → nodes T ≤ markAt n T first W j
+        → Shown n T first W j a
     given j a e w pos h g =
         let l = led .leader (leafAt n T j) w in
         rw e (c .all a pos (omega (arith, c .above (wordOf first (leafAt n T j)) (l .node) g .few)))
@@ -78,7 +78,11 @@ module _ (n : ℕ) (T first : List ℕ) (led : Led n T first) where
       above = c .above;
       apart = c .apart;
       met = λ j l w. ⊎-elim (λ (e : j ≡ i). rw e (m (rw e at w))) (λ (l : j < i). c .met j l w) (eq-or-lt-of-le (omega arith));
-      order = λ j a l w pos h. ⊎-elim (λ (e : j ≡ i). given j a e w pos h (rw e (m (rw e at w)))) (λ (l : j < i). c .order j a l w pos h) (eq-or-lt-of-le (omega arith));
+      order = λ j a l w pos h.
+          ⊎-elim
+          (λ (e : j ≡ i). given j a e w pos h (rw e (m (rw e at w))))
+          (λ (l : j < i). c .order j a l w pos h)
+          (eq-or-lt-of-le (omega arith));
       all = λ a pos h. shown-on i (i + 1) (omega arith) (c .all a pos h);
     }
 
@@ -194,19 +198,19 @@ module _ (n : ℕ) (T first : List ℕ) (led : Led n T first) where
   passed-more W i k p (suc width) c m h =
       passed-one W i k p width (passed-more W i k p width c m (λ j l. h j (omega arith))) m (h width (omega arith))
 
-  -- what a leaf's first pixel leaves
-  record Met (W : List ℕ) (i k p : ℕ) : Type 0 where
+  -- a leaf's first pixel is passed
+  record Begun (W : List ℕ) (i k p : ℕ) : Type 0 where
     next : Counted n T first W (i + 1) k
     mark : Water T p → nodes T ≤ wordOf W (wordOf first p)
 
   module _ (W : List ℕ) (i k p : ℕ) (c : Counted n T first W i k) (lt : p < nodes T) (at : leafAt n T i ≡ p) where
-    met-white : eqb (type T p) black ≡ false → Met (metWords T W p k) i (metCount T W p k) p
+    met-white : eqb (type T p) black ≡ false → Begun (metWords T W p k) i (metCount T W p k) p
     unfolding metWords metCount
     met-white e =
         let dry : Water T p → nodes T ≤ wordOf W (wordOf first p) = λ w. absurd (eqb-false (type T p) black e (w .wet)) in
         rw e (record { next = passed W i k c (λ w. rw at (dry (rw at at w))); mark = dry })
 
-    met-black : eqb (type T p) black ≡ true → Met (metWords T W p k) i (metCount T W p k) p
+    met-black : eqb (type T p) black ≡ true → Begun (metWords T W p k) i (metCount T W p k) p
     unfolding metWords metCount
     met-black e =
         let w : Water T p = record { node = lt; wet = eqb-true (type T p) black e } in
@@ -222,7 +226,7 @@ module _ (n : ℕ) (T first : List ℕ) (led : Led n T first) where
         (record { next = passed W i k c (λ u. rw at has); mark = λ u. has }))
         (lt-or-ge (wordOf W (wordOf first p)) (length W))
 
-    met-pixel : Met (metWords T W p k) i (metCount T W p k) p
+    met-pixel : Begun (metWords T W p k) i (metCount T W p k) p
     met-pixel = ⊎-elim met-black met-white (by-bool (eqb (type T p) black))
 
   -- a leaf that is met once for its pixels in a row

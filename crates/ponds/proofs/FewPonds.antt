@@ -33,7 +33,8 @@ term-le f (suc k) i h =
     (eq-or-lt-of-le (le-of-suc-le-suc h))
 
 -- k numbers, each of which is the value of f at one of the places below m that are counted
-pub no-more-than : (f : ℕ → ℕ) (b : ℕ → Bool) (m k : ℕ) → ((a : ℕ) → a < k → (p : ℕ) × (p < m) × (b p ≡ true) × (f p ≡ a)) → k ≤ sum (λ p. one (b p)) m
+pub no-more-than : (f : ℕ → ℕ) (b : ℕ → Bool) (m k : ℕ)
+    → ((a : ℕ) → a < k → (p : ℕ) × (p < m) × (b p ≡ true) × (f p ≡ a)) → k ≤ sum (λ p. one (b p)) m
 no-more-than f b m k h =
     let hits : ℕ → ℕ → ℕ = λ p a. cond (eqb (f p) a) (one (b p)) 0 in
     let each : sum (λ a. 1) k ≤ sum (λ a. sum (λ p. hits p a) m) k =

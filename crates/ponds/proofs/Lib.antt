@@ -7,3 +7,4 @@ pub mod CallLaws
 pub mod CountedLaws
 pub mod RowLaws
 pub mod SettledLaws
+pub mod MeetLaws

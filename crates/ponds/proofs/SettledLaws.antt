@@ -1,16 +1,16 @@
 -- Settling: once every leader has its number, each black leaf's word becomes its leader's number, from the last node to the first, so that the leader's word,
 -- which stands no higher, is still as it was. The numbers are then those of the sheet's ponds.
-use mathlib.Core.Bool.{true, false, cond}
+use mathlib.Core.Bool.{true, false}
 use mathlib.Core.List.{List}
 use mathlib.Core.Logic.{⊎-elim}
-use mathlib.Core.Path.{_≡_, refl, ap, sym, _∙_}
+use mathlib.Core.Path.{_≡_, refl, ap, _∙_}
 use Prim.Native.Nat.{ℕ, _+_, _-_, _^_, _≤_, _<_}
 use native.Mathlib.Nat.{eq-or-lt-of-le}
 use native.Mathlib.Omega.{arith}
-use lib.Dec.{eqb, ltb}
+use lib.Dec.{eqb}
 use lib.ListN.{length, set, length-set}
 use lib.Seq.{getD-set-same, getD-set-other}
-use borrow.Author.Tests.{eqb-true, eqb-false, eq-eqb, ne-eqb, lt-ltb, le-ltb}
+use borrow.Author.Tests.{eqb-true, eqb-false, eq-eqb, ne-eqb}
 use Rattle.base.proofs.BoolLaws.{by-bool, lt-or-ge}
 use Rattle.base.proofs.CaseLaws.{cond-case}
 use Rattle.quad.specs.Numbers.{black}
@@ -20,13 +20,23 @@ use Rattle.joins.specs.Chain.{Water, Chain, end, link}
 use Rattle.joins.specs.Led.{wordOf, Led}
 use Rattle.register.specs.Entries.{leafAt, numberAt}
 use Rattle.ponds.specs.Numbered.{Numbered}
-use Rattle.ponds.specs.Counted.{leadOf, markAt, Marked, Shown, Counted, Counting, numberOf, Tells, settledAt, Settles, Settled}
+use Rattle.ponds.specs.Counted.{leadOf, Marked, Counted, Counting, numberOf, Tells, settledAt, Settles, Settled}
 use Rattle.ponds.proofs.LeafLaws.{black-leaf, leaf-node, leaf-pixel}
 use Rattle.ponds.proofs.CountedLaws.{lead-is}
 
 -- no node is settled at the start
 pub settled-none : (T W : List ℕ) → length W ≡ nodes T → Settled T W W (length W)
 settled-none T W e = record { size = refl; done = λ q le lt. absurd (omega arith); left = λ q l. refl }
+
+-- all are once p has fallen to 0
+pub settled-all : {T B W : List ℕ} {p : ℕ} → Settled T B W p → p ≤ 0 → Settled T B W 0
+settled-all s h = record { size = s .size; done = λ q le lt. s .done q (omega arith) lt; left = λ q l. absurd (omega arith) }
+
+-- the next node down
+pub next-down : {T B W : List ℕ} {p : ℕ} → Settled T B W p → 0 < p → Settled T B W (p - 1 + 1)
+next-down {p} s pos =
+    let e : p - 1 + 1 ≡ p = omega arith in
+    rw e s
 
 -- one node more, from the last to the first
 module _ (T B W : List ℕ) (p : ℕ) (t : Tells T B) (lt : p < nodes T) (s : Settled T B W (p + 1)) where
@@ -39,7 +49,7 @@ module _ (T B W : List ℕ) (p : ℕ) (t : Tells T B) (lt : p < nodes T) (s : Se
   lead-word w = rw same-lead (s .left (leadOf B p) (omega (arith, t .low p w)))
 
   pub settles : Settles T W p
-  settles = record { node = lt; size = s .size ∙ t .size; some = λ w. rw (lead-word w, s .size) (t .some p w) }
+  settles = record { node = lt; size = s .size ∙ t .size; few = t .few; some = λ w. rw (lead-word w, s .size) (t .some p w) }
 
   settled-black : (type T p ≡ black) → Settled T B (set W p (wordOf W (leadOf W p) - length W)) p
   unfolding numberOf
@@ -105,6 +115,7 @@ module _ (n : ℕ) (T first W : List ℕ) (k : ℕ) (acc : Accepted n T) (led : 
   all-tell : Tells T W
   all-tell = record {
     size = c .size;
+    few = omega (arith, acc .sized .few);
     dry = stays-dry;
     low = λ p w. rw (lead-is n T first led W (4 ^ n) k c p w) (led .low p w);
     some = λ p w. rw (lead-is n T first led W (4 ^ n) k c p w, c .size) (omega (arith, has-number p w .some));

@@ -29,6 +29,10 @@ metWords T words p k =
     (cond (ltb (wordOf words (leadOf words p)) (length words)) (set words (leadOf words p) (length words + k + 1)) words)
     words
 
+pub record Met (T before : List ℕ) (p k r : ℕ) (after : List ℕ) : Type 0 where
+  pub count : r ≡ metCount T before p k
+  pub words : after ≡ metWords T before p k
+
 -- one word for each node, and there is room in them for one number more
 pub record Meets (T words : List ℕ) (p k : ℕ) : Type 0 where
   pub node : p < nodes T
@@ -86,6 +90,7 @@ numberOf T words p = cond (eqb (type T p) black) (wordOf words (leadOf words p) 
 -- words of which each tells a leader that stands no higher and has a number, or is a white leaf's or a fork's 0
 pub record Tells (T words : List ℕ) : Type 0 where
   pub size : length words ≡ nodes T
+  pub few : nodes T < 2 ^ 32
   pub dry : (p : ℕ) → p < nodes T → (type T p ≡ black → ⊥) → wordOf words p ≡ 0
   pub low : (p : ℕ) → Water T p → leadOf words p ≤ p
   pub some : (p : ℕ) → Water T p → length words ≤ wordOf words (leadOf words p)
@@ -98,6 +103,7 @@ settledAt T words p = cond (eqb (type T p) black) (set words p (wordOf words (le
 pub record Settles (T words : List ℕ) (p : ℕ) : Type 0 where
   pub node : p < nodes T
   pub size : length words ≡ nodes T
+  pub few : nodes T < 2 ^ 32
   pub some : Water T p → length words ≤ wordOf words (leadOf words p)
 
 -- the words from node p on are numbers, those below it are as they were

@@ -2,20 +2,128 @@
 use answer::Outcome;
 use table::word_at;
 ghost use mathlib.Core.Path.{_≡_};
-ghost use lib.ListN.{length};
+ghost use Prim.Native.Nat.{_+_, _*_, _/_, _%_, _^_, _<_, _≤_};
 ghost use lib.Dec.{eqb};
-ghost use Prim.Native.Nat.{_*_, _≤_, _<_};
-ghost use Rattle.quad.specs.Numbers.{black, maxWords};
+ghost use lib.ListN.{length};
+ghost use Rattle.quad.specs.Numbers.{black, topLevel, maxWords};
 ghost use Rattle.table.specs.Table.{nodes, type};
-ghost use Rattle.table.specs.Rules.{one};
-ghost use Rattle.ponds.specs.Calls.{blackLeaves, pondsTest};
+ghost use Rattle.table.specs.Rules.{one, Accepted};
+ghost use Rattle.joins.specs.Led.{Led};
+ghost use Rattle.ponds.specs.Numbered.{Numbered};
+ghost use Rattle.ponds.specs.Counted.{leadOf, Meets, Met, Counting, startOf, Crossed, settledAt, Settles, Tells, Settled};
+ghost use Rattle.ponds.specs.Calls.{blackLeaves, pondsTest, FindsInWords};
+
+// The type of a black leaf.
+const BLACK: usize = 1;
+
+// The leader that the words tell of a black leaf p.
+fn leader(words: &[u32], p: usize) -> usize
+    requires { ⌜ p < length (now words) ⌝ }
+    ensures { λ r. ⌜ r ≡ leadOf (now (words .entry)) p ⌝ }
+{
+    let word = words[p] as usize;
+    if word < words.len() {
+        return word;
+    }
+    p
+}
+
+// Meets leaf p: where it is black and its leader has no number, that gets the next. Gives the count.
+fn meet(table: &[u32], words: &mut [u32], p: usize, count: u32) -> u32
+    requires { ⌜ Meets (now table) (now words) p count ⌝ }
+    ensures { λ r. ⌜ Met (now (table .entry)) (now (words .entry)) p count r (now (words .exit)) ⌝ }
+{
+    if word_at(table, p, 5) != BLACK {
+        return count;
+    }
+    let l = leader(words, p);
+    let nodes = words.len() as u32;
+    if nodes <= words[l] {
+        return count;
+    }
+    words[l] = nodes + count + 1;
+    count + 1
+}
+
+// The western one of the two quadrants that row y crosses in a block; `half` is their level.
+fn western(y: u32, half: u32) -> usize
+    requires { ⌜ half ≤ topLevel ⌝ }
+    ensures { λ r. ⌜ r ≡ 2 * (y / 2 ^ half % 2) ⌝ }
+{
+    2 * ((y >> half) % 2) as usize
+}
+
+// Meets the leaves that row y crosses under node p, from west to east.
+fn row(n: u32, table: &[u32], words: &mut [u32], p: usize, level: u32, y: u32, count: u32) -> u32
+    requires { ⌜ Crossed n (now table) p level y × Counting n (now table) (now words) (startOf n (now table) p y) count ⌝ }
+    ensures { λ r. ⌜ Counting n (now (table .entry)) (now (words .exit)) (startOf n (now (table .entry)) p y + 2 ^ level) r ⌝ }
+{
+    if word_at(table, p, 5) != quad::FORK {
+        return meet(table, words, p, count);
+    }
+    let half = level - 1;
+    let q = western(y, half);
+    let west = word_at(table, p, 1 + q);
+    let east = word_at(table, p, 2 + q);
+    let met = row(n, table, words, west, half, y, count);
+    row(n, table, words, east, half, y, met)
+}
+
+// Meets the leaves of all rows, from the top: each leader gets its number. Gives the count.
+fn rows(n: u32, table: &[u32], words: &mut [u32]) -> u32
+    requires { ⌜ Accepted n (now table) × Led n (now table) (now words) ⌝ }
+    ensures { λ r. ⌜ Counting n (now (table .entry)) (now (words .exit)) (4 ^ n) r ⌝ }
+{
+    let across = quad::side(n);
+    let mut y = 0;
+    let mut count = 0;
+    while y < across {
+        count = row(n, table, words, 0, n, y, count);
+        y += 1;
+    }
+    count
+}
+
+// Node p's word becomes its number.
+fn settle_at(table: &[u32], words: &mut [u32], p: usize)
+    requires { ⌜ Settles (now table) (now words) p ⌝ }
+    ensures { λ _. ⌜ now (words .exit) ≡ settledAt (now (table .entry)) (now (words .entry)) p ⌝ }
+{
+    if word_at(table, p, 5) != BLACK {
+        return;
+    }
+    let l = leader(words, p);
+    words[p] = words[l] - words.len() as u32;
+}
+
+// Every word becomes its node's number, from the last node to the first.
+fn settle(table: &[u32], words: &mut [u32])
+    requires { ⌜ Tells (now table) (now words) ⌝ }
+    ensures { λ _. ⌜ Settled (now (table .entry)) (now (words .entry)) (now (words .exit)) 0 ⌝ }
+{
+    let mut p = words.len();
+    while 0 < p {
+        p -= 1;
+        settle_at(table, words, p);
+    }
+}
+
+// The numbers of the ponds that the words tell the leaders of. Gives how many there are.
+fn number(n: u32, table: &[u32], words: &mut [u32]) -> u32
+    requires { ⌜ Accepted n (now table) × Led n (now table) (now words) ⌝ }
+    ensures { λ r. ⌜ Numbered n (now (table .entry)) (now (words .exit)) r ⌝ }
+{
+    let count = rows(n, table, words);
+    settle(table, words);
+    count
+}
 
 // 1 for a black leaf, else 0.
 fn black(table: &[u32], p: usize) -> usize
     requires { ⌜ p < nodes (now table) ⌝ }
     ensures { λ r. ⌜ r ≡ one (eqb (type (now (table .entry)) p) black) ⌝ }
 {
-    if word_at(table, p, 5) == 1 {
+    if word_at(table, p, 5) == BLACK {
         return 1;
     }
     0
@@ -50,4 +158,26 @@ fn test(n: u32, table: &[u32], words: usize, wide: usize, have: usize) -> Outcom
         return Outcome::NoRoom { needed: need as u32 };
     }
     Outcome::Answered { value: 0 }
+}
+
+// Numbers the ponds of an accepted sheet, in one word for each node. Gives how many there are.
+fn numbered(n: u32, table: &[u32], numbers: &mut [u32]) -> u32
+    requires { ⌜ Accepted n (now table) × (length (now numbers) ≡ nodes (now table)) ⌝ }
+    ensures { λ r. ⌜ Numbered n (now (table .entry)) (now (numbers .exit)) r ⌝ }
+{
+    joins::lead(n, table, numbers);
+    number(n, table, numbers)
+}
+
+// The ponds of a sheet, for any level, words and slices: one number for each node, and a register of five words for each pond.
+pub fn ponds(n: u32, table: &[u32], numbers: &mut [u32], reg: &mut [u32]) -> Outcome
+    ensures { λ r. ⌜ FindsInWords n (now (table .entry)) (now (numbers .entry)) (now (reg .entry)) r (now (numbers .exit)) (now (reg .exit)) ⌝ }
+{
+    let tested = test(n, table, numbers.len(), 5, reg.len());
+    if !answer::answered(tested) {
+        return tested;
+    }
+    let count = numbered(n, table, numbers);
+    register::fill(n, table, numbers, reg, count as usize);
+    Outcome::Answered { value: count }
 }
