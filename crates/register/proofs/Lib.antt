@@ -3,3 +3,4 @@ pub mod GatheredLaws
 pub mod LeafPixels
 pub mod EntryLaws
 pub mod CountsSum
+pub mod WordLaws
