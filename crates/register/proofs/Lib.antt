@@ -1,2 +1,4 @@
 pub mod GrownLaws
 pub mod GatheredLaws
+pub mod SliceLaws
+pub mod WalkLaws

@@ -4,6 +4,8 @@ ghost use mathlib.Core.Path.{_≡_};
 ghost use Prim.Native.Nat.{min, max};
 ghost use Rattle.register.specs.Gathered.{emptyPond, grownOf, Fitting};
 
+pub mod slice;
+
 pub struct Pond {
     pub pixels: u32,
     pub top: u32,
