@@ -7,3 +7,6 @@ pub mod PowLaws
 pub mod SetsLaws
 pub mod SumLaws
 pub mod TabLaws
+pub mod RasterSums
+pub mod GreatestLaws
+pub mod PartLaws

@@ -1,4 +1,7 @@
 pub mod GrownLaws
 pub mod GatheredLaws
+pub mod LeafPixels
+pub mod EntryLaws
+pub mod CountsSum
 pub mod SliceLaws
 pub mod WalkLaws
