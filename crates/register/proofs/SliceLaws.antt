@@ -14,8 +14,10 @@ use Rattle.table.specs.Table.{nodes}
 use Rattle.table.specs.Rules.{Asked}
 use Rattle.table.specs.Blocks.{blockOf}
 use Rattle.register.specs.declared.Pond.{Pond}
+use Rattle.register.specs.Entries.{entries}
 use Rattle.register.specs.Gathered.{emptyPond, grownOf, gatherings, Fitting, Numbers}
 use Rattle.register.proofs.GatheredLaws.{gatherings-length, gatherings-at, gatherings-none, gatherings-same, gatherings-more, gathered-fits}
+use Rattle.register.proofs.EntryLaws.{gatherings-entries}
 
 -- what `grown` asks and gives, where the block was computed
 pub fitting-as : (e : Pond) (b c : _) → b ≡ c → Fitting e c → Fitting e b
@@ -76,9 +78,9 @@ module _ (n : ℕ) (table numbers : List ℕ) (count : ℕ) (before : List Pond)
   filled-length p h = simp (length-append, length-drop, gatherings-length) (omega arith)
 
   -- once the last node is passed
-  pub filled-all : (p : ℕ) → p ≡ nodes table → filled p ≡ overlay (gatherings n table numbers (nodes table) count) before
+  pub filled-all : Numbers n table numbers count → (p : ℕ) → p ≡ nodes table → filled p ≡ overlay (entries n table numbers count) before
   unfolding filled
-  filled-all p e = rw e
+  filled-all s p e = rw (e, gatherings-entries n table numbers count s count 1 (omega arith))
 
   pub filled-same : (p k : ℕ) → k ≡ getD numbers p 0 → k ≡ 0 → filled p ≡ filled (p + 1)
   unfolding filled

@@ -4,10 +4,10 @@ ghost use mathlib.Core.Path.{_≡_};
 ghost use Prim.Native.Nat.{_<_, _≤_};
 ghost use lib.ListN.{length, getD};
 ghost use Rattle.base.specs.Tab.{overlay};
-ghost use Rattle.table.specs.Table.{nodes};
 ghost use Rattle.table.specs.Rules.{Asked};
 ghost use Rattle.table.specs.Blocks.{blockOf};
-ghost use Rattle.register.specs.Gathered.{grownOf, gatherings, Fitting, Numbers};
+ghost use Rattle.register.specs.Entries.{entries};
+ghost use Rattle.register.specs.Gathered.{grownOf, Fitting, Numbers};
 
 // The number of node p.
 fn number_at(numbers: &[u32], p: usize) -> usize
@@ -28,7 +28,7 @@ fn grown_at(n: u32, table: &[u32], p: usize, e: Pond) -> Pond
 // One entry for each pond, from the nodes' numbers: all begin empty, and each node's block is gathered by its pond's.
 pub fn fill(n: u32, table: &[u32], numbers: &[u32], reg: &mut [Pond], count: usize)
     requires { ⌜ Numbers n (now table) (now numbers) count × (count ≤ length (now reg)) ⌝ }
-    ensures { λ _. ⌜ now (reg .exit) ≡ overlay (gatherings n (now (table .entry)) (now (numbers .entry)) (nodes (now (table .entry))) count) (now (reg .entry)) ⌝ }
+    ensures { λ _. ⌜ now (reg .exit) ≡ overlay (entries n (now (table .entry)) (now (numbers .entry)) count) (now (reg .entry)) ⌝ }
 {
     let mut i: usize = 0;
     while i < count {

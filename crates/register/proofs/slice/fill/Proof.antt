@@ -57,7 +57,8 @@ use Rattle.table.specs.Table.{nodes}
 use Rattle.table.specs.Rules.{Asked}
 use Rattle.table.specs.Blocks.{blockOf}
 use Rattle.register.specs.declared.Pond.{Pond}
-use Rattle.register.specs.Gathered.{emptyPond, grownOf, gatherings, Fitting, Numbers}
+use Rattle.register.specs.Entries.{entries}
+use Rattle.register.specs.Gathered.{emptyPond, grownOf, Fitting, Numbers}
 use Rattle.register.proofs.SliceLaws.{cleared, cleared-none, cleared-length, cleared-more, filled, filled-none, filled-length, filled-all, filled-same, filled-more, filled-fits, some-pond, no-pond}
 use Rattle.register.proofs.WalkLaws.{Upto, Nearer, nearer-wf, rooms, deaths, homes, frees-all, called}
 use Rattle.register.proofs.Pond as T
@@ -143,7 +144,7 @@ module _ {M : Type 1} (𝓤 : URA M) (H : Heap 𝓤) (A : Atoms 𝓤) (W : Given
   abbrev AtEnd : List Pond → List (Item 𝓤)
   AtEnd zs = ‵ (fobs γ (codedHoleys T.the-row .code (heres T.the-row zs))) ∷ ‵ (fbor κ₂ (Held T.the-row (length zs) b o γ)) ∷ ‵ (flft κ₂ q₂) ∷ ‵ (flft κ₁ q₁) ∷ ‵ nums ∷ ‵ (flft κ₀ q₀) ∷ ‵ tab ∷ []
 
-  exits : (zs : List Pond) → zs ≡ overlay (gatherings n (table .now) (numbers .now) (nodes (table .now)) count) ys → length zs ≡ length ys → ent 𝓤 (⋆ 𝓤 H A (AtEnd zs)) (Post vunit)
+  exits : (zs : List Pond) → zs ≡ overlay (entries n (table .now) (numbers .now) count) ys → length zs ≡ length ys → ent 𝓤 (⋆ 𝓤 H A (AtEnd zs)) (Post vunit)
   exits zs is long =
       qed W (AtEnd zs) ∵
       suffices ! _ (ends-at 𝓤 H A fill.ended stayed (fill.clauses 𝓤 H A at-mem run) W bound vunit tt (tt, (tt, (tt, (zs, (tt, tt))))) (tt, (tt, (tt, (long, (tt, tt)))))) $ says ! is $
@@ -333,8 +334,8 @@ module _ {M : Type 1} (𝓤 : URA M) (H : Heap 𝓤) (A : Atoms 𝓤) (W : Given
         long : length (reg (p .0)) ≡ length ys
         long = filled-length n (table .now) (numbers .now) count ys (p .0) enough
 
-        is : reg (p .0) ≡ overlay (gatherings n (table .now) (numbers .now) (nodes (table .now)) count) ys
-        is = filled-all n (table .now) (numbers .now) count ys (p .0) (le-antisymm (p .1) over ∙ sheet .words)
+        is : reg (p .0) ≡ overlay (entries n (table .now) (numbers .now) count) ys
+        is = filled-all n (table .now) (numbers .now) count ys sheet (p .0) (le-antisymm (p .1) over ∙ sheet .words)
 
     -- ---- the first loop: i entries are empty
     abbrev Cleared : Upto count → List (Item 𝓤)
