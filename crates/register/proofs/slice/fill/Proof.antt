@@ -60,7 +60,7 @@ use Rattle.register.specs.declared.Pond.{Pond}
 use Rattle.register.specs.Entries.{entries}
 use Rattle.register.specs.Gathered.{emptyPond, grownOf, Fitting, Numbers}
 use Rattle.register.proofs.SliceLaws.{cleared, cleared-none, cleared-length, cleared-more, filled, filled-none, filled-length, filled-all, filled-same, filled-more, filled-fits, some-pond, no-pond}
-use Rattle.register.proofs.WalkLaws.{Upto, Nearer, nearer-wf, rooms, deaths, homes, frees-all, called}
+use Rattle.register.proofs.WalkLaws.{Upto, Nearer, nearer-wf, rooms, deaths, homes, frees-all, its, begins, called}
 use Rattle.register.proofs.Pond as T
 use Rattle.register.proofs.Pond.Laws as T′
 use Rattle.register.proofs.empty as empty
@@ -260,7 +260,7 @@ module _ {M : Type 1} (𝓤 : URA M) (H : Heap 𝓤) (A : Atoms 𝓤) (W : Given
         → Sq W (State (reg (p .0 + 1)) (‵ (froom word l₆ 0)) (‵ (fat fullShare word l₇ 0 (vint w64 (p .0))))) (runs C Λ En onward (anyQ (Gathers p)))
     unfolding afterTurn
     goes-on p less =
-        assigns-last ! (bin ! (load ! (from ! (stop !)) (look ! 6 refl)) (lit ! tt) fits) (from ! (stop !)) (store ! 6 refl (tt, fits)) $
+        assigns-last ! (bin ! (its ! 6 refl) (lit ! tt) fits) (from ! (stop !)) (store ! 6 refl (tt, fits)) $
         again ! (Nearer (length (numbers .now))) Gathered p (p .0 + 1, add-one-le less) (add-one-dec (length (numbers .now)) (p .0) less)
       where
         fits : Fits w64 (p .0 + 1)
@@ -269,40 +269,40 @@ module _ {M : Type 1} (𝓤 : URA M) (H : Heap 𝓤) (A : Atoms 𝓤) (W : Given
     gathers : (p : Upto (length (numbers .now))) → p .0 < length (numbers .now) → Sq W (Gathered p) (runs C Λ En pieces.turn-2 (anyQ (Gathers p)))
     unfolding afterTurn
     gathers p less =
-        assigns ! (of-opd ! (load ! (from ! (fld ! refl (stop !))) (look-in ! 23 (sub ! 1 refl (whole !))))) (from ! (stop !)) (init ! 13 refl (tt, record { fits = gs .0 })) $
-        assigns ! (bin ! (load ! (from ! (stop !)) (look ! 6 refl)) (load ! (from ! (stop !)) (look ! 13 refl)) tt) (from ! (stop !)) (init ! 14 refl (tt, tt)) $
-        rewrite ! 14 (λ (t : Bool). ‵ (fat fullShare tyBool l₁₅ 0 (vbool t))) (lt-ltb (p .0) (length (numbers .now)) less) refl $ stays ! (load ! (from ! (stop !)) (look ! 14 refl)) $
+        begins ! 13 (of-opd ! (load ! (from ! (fld ! refl (stop !))) (look-in ! 23 (sub ! 1 refl (whole !))))) refl (tt, record { fits = gs .0 }) $
+        begins ! 14 (bin ! (its ! 6 refl) (its ! 13 refl) tt) refl (tt, tt) $
+        rewrite ! 14 (λ (t : Bool). ‵ (fat fullShare tyBool l₁₅ 0 (vbool t))) (lt-ltb (p .0) (length (numbers .now)) less) refl $ stays ! (its ! 14 refl) $
         -- the node's number, k
         move ! (2 ∷ []) $ use1 W (‵ nums ⊛ ‵ nums) (shr-slice-copy 𝓤 H A W (named 1) κ₁ u32 .twice numbers (slice-vals numbers)) $ split ! $ move ! (3 ∷ 0 ∷ []) $
         use2 W (raw (Number 𝓤 H A at-mem run .pre (to-number (p .0)))) (asks-number (p .0) small less) $
-        calls-at ! fm (Number 𝓤 H A at-mem run) (known .is-number) (to-number (p .0)) (and-then ! (load ! (from ! (stop !)) (look ! 23 refl)) (and-then ! (load ! (from ! (stop !)) (look ! 6 refl)) (no-more !))) (λ v.
+        calls-at ! fm (Number 𝓤 H A at-mem run) (known .is-number) (to-number (p .0)) (and-then ! (its ! 23 refl) (and-then ! (its ! 6 refl) (no-more !))) (λ v.
         use1 W (later (some (λ (k : ℕ). given ((k ≡ getD (numbers .now) (p .0) 0) × Is usize k (v ∷ [])) (‵ (flft κ₁ q₁) ⊛ ‵ ftrue))))
         (called 𝓤 H A W number.ended (number.clauses 𝓤 H A at-mem run) (to-number (p .0)) (λ k. k ≡ getD (numbers .now) (p .0) 0) (number-is (p .0)) v) $
         await ! tt $ pick ! (λ k. learn ! (λ g. split ! $ move ! (1 ∷ []) $ drop ! $ move ! (2 ∷ []) $
         land ! (from ! (stop !)) (init ! 7 refl (subst (λ (u : Val). Holds (hasTy word u) × WT u) (sym (ap only (g .1 .0))) (tt, record { fits = g .1 .1 }))) $
         rewrite ! 7 (λ (u : Val). ‵ (fat fullShare word l₈ 0 u)) (ap only (g .1 .0)) refl $
-        assigns ! (bin ! (load ! (from ! (stop !)) (look ! 7 refl)) (lit ! tt) tt) (from ! (stop !)) (store ! 14 refl (tt, tt)) $
-        first ! $ branches ! (load ! (from ! (stop !)) (look ! 14 refl))
+        assigns ! (bin ! (its ! 7 refl) (lit ! tt) tt) (from ! (stop !)) (store ! 14 refl (tt, tt)) $
+        first ! $ branches ! (its ! 14 refl)
         (λ yes′. let pond : 0 < k = some-pond k yes′ in
-        assigns ! (bin ! (load ! (from ! (stop !)) (look ! 7 refl)) (lit ! tt) pond) (from ! (stop !)) (init ! 8 refl (tt, record { fits = omega (arith, g .1 .1) })) $
-        assigns ! (bin ! (load ! (from ! (stop !)) (look ! 8 refl)) (lit ! tt) (place-fits (p .0) k less (g .0) pond)) (from ! (stop !)) (init ! 16 refl (tt, place-fits (p .0) k less (g .0) pond)) $
-        assigns ! (bin ! (load ! (from ! (fld ! refl (stop !))) (look-in ! 24 (sub ! 0 refl (whole !)))) (load ! (from ! (stop !)) (look ! 16 refl)) tt) (from ! (stop !)) (init ! 17 refl (tt, tt)) $
+        begins ! 8 (bin ! (its ! 7 refl) (lit ! tt) pond) refl (tt, record { fits = omega (arith, g .1 .1) }) $
+        begins ! 16 (bin ! (its ! 8 refl) (lit ! tt) (place-fits (p .0) k less (g .0) pond)) refl (tt, place-fits (p .0) k less (g .0) pond) $
+        begins ! 17 (bin ! (load ! (from ! (fld ! refl (stop !))) (look-in ! 24 (sub ! 0 refl (whole !)))) (its ! 16 refl) tt) refl (tt, tt) $
         rewrite ! 17 (λ (x : ℕ). ‵ (fat fullShare tyPtr l₁₈ 0 (vptr b x))) (sym (place-is 20 o (k - 1))) refl $
         elem-out ! T.the-row (Is T.the-row) (shows 𝓤 H A T.the-row) (LL.vals T.the-type T′.the-laws) (LL.tells T.the-type T′.the-laws) fullShare (reg (p .0)) (k - 1) emptyPond b o (within (p .0) k less (g .0) pond) (λ ge.
         -- [reg[j]; what it owns; the others; the rest two further]
-        assigns ! (of-opd ! (load ! (from ! (hop ! (look ! 19 refl) (stop !))) (look-raw ! 0 refl))) (from ! (stop !)) (init ! 20 refl (typed (old (p .0) k) _ ge)) $
+        begins ! 20 (of-opd ! (load ! (from ! (hop ! (look ! 19 refl) (stop !))) (look-raw ! 0 refl))) refl (typed (old (p .0) k) _ ge) $
         move ! (6 ∷ []) $ use1 W (‵ tab ⊛ ‵ tab) (shr-slice-copy 𝓤 H A W (named 0) κ₀ u32 .twice table (slice-vals table)) $ split ! $ move ! (7 ∷ 0 ∷ []) $
         use2 W (raw (Grown 𝓤 H A at-mem run .pre (to-grown (p .0) (old (p .0) k)))) (asks-grown (p .0) (old (p .0) k) small ge (grown-fits (p .0) k less (g .0) pond)) $
-        calls-at ! fm (Grown 𝓤 H A at-mem run) (known .is-grown) (to-grown (p .0) (old (p .0) k)) (and-then ! (load ! (from ! (stop !)) (look ! 23 refl)) (and-then ! (load ! (from ! (stop !)) (look ! 24 refl))
-        (and-then ! (load ! (from ! (stop !)) (look ! 8 refl)) (and-then ! (load ! (from ! (stop !)) (look ! 20 refl)) (no-more !))))) (λ w.
+        calls-at ! fm (Grown 𝓤 H A at-mem run) (known .is-grown) (to-grown (p .0) (old (p .0) k)) (and-then ! (its ! 23 refl) (and-then ! (its ! 24 refl)
+        (and-then ! (its ! 8 refl) (and-then ! (its ! 20 refl) (no-more !))))) (λ w.
         use1 W (later (some (λ (r : Pond). given ((r ≡ grownOf (old (p .0) k) (blockOf n (table .now) (p .0))) × Is T.the-row r (w ∷ [])) (‵ (flft κ₀ q₀) ⊛ ‵ ftrue))))
         (called 𝓤 H A W grown.ended (grown.clauses 𝓤 H A at-mem run) (to-grown (p .0) (old (p .0) k)) (λ r. r ≡ grownOf (old (p .0) k) (blockOf n (table .now) (p .0))) (grown-is (p .0) (old (p .0) k)) w) $
         await ! tt $ pick ! (λ r. learn ! (λ f. split ! $ move ! (1 ∷ []) $ drop ! $ land ! (from ! (stop !)) (init ! 17 refl (typed r w (f .1))) $
         -- [the token; the table; reg[j]; what it owned; the others; the numbers' token; the numbers; the rest two further]
-        assigns ! (bin ! (load ! (from ! (stop !)) (look ! 10 refl)) (lit ! tt) (place-fits (p .0) k less (g .0) pond)) (from ! (stop !)) (init ! 21 refl (tt, place-fits (p .0) k less (g .0) pond)) $
-        assigns ! (bin ! (load ! (from ! (fld ! refl (stop !))) (look-in ! 26 (sub ! 0 refl (whole !)))) (load ! (from ! (stop !)) (look ! 21 refl)) tt) (from ! (stop !)) (init ! 22 refl (tt, tt)) $
+        begins ! 21 (bin ! (its ! 10 refl) (lit ! tt) (place-fits (p .0) k less (g .0) pond)) refl (tt, place-fits (p .0) k less (g .0) pond) $
+        begins ! 22 (bin ! (load ! (from ! (fld ! refl (stop !))) (look-in ! 26 (sub ! 0 refl (whole !)))) (its ! 21 refl) tt) refl (tt, tt) $
         rewrite ! 22 (λ (x : ℕ). ‵ (fat fullShare tyPtr l₂₁ 0 (vptr b x))) (sym (place-is 20 o (k - 1))) refl $
-        assigns-last ! (of-opd ! (load ! (from ! (stop !)) (look ! 17 refl))) (from ! (hop ! (look ! 22 refl) (stop !))) (store-raw ! 2 refl (typed r w (f .1))) $
+        assigns-last ! (of-opd ! (its ! 17 refl)) (from ! (hop ! (look ! 22 refl) (stop !))) (store-raw ! 2 refl (typed r w (f .1))) $
         move ! (3 ∷ []) $ drop ! $ owned ! T.the-row (Is T.the-row) ((LL.makes T.the-type T′.the-plain) 𝓤 H A) r _ (f .1) $ move ! (3 ∷ 0 ∷ 4 ∷ []) $
         elem-put ! T.the-row fullShare (reg (p .0)) (k - 1) r (w ∷ []) b o (within (p .0) k less (g .0) pond) $ move ! (0 ∷ 3 ∷ 4 ∷ []) $
         forget ! 7 refl $ forget ! 8 refl $ forget ! 13 refl $ forget ! 14 refl $ forget ! 15 refl $ forget ! 16 refl $ forget ! 17 refl $ forget ! 18 refl $ forget ! 19 refl $ forget ! 20 refl $
@@ -319,10 +319,10 @@ module _ {M : Type 1} (𝓤 : URA M) (H : Heap 𝓤) (A : Atoms 𝓤) (W : Given
     gathered-all : (p : Upto (length (numbers .now))) → length (numbers .now) ≤ p .0 → Sq W (Gathered p) (runs C Λ En pieces.turn-2 (anyQ (Gathers p)))
     unfolding afterTurn
     gathered-all p over =
-        assigns ! (of-opd ! (load ! (from ! (fld ! refl (stop !))) (look-in ! 23 (sub ! 1 refl (whole !))))) (from ! (stop !)) (init ! 13 refl (tt, record { fits = gs .0 })) $
-        assigns ! (bin ! (load ! (from ! (stop !)) (look ! 6 refl)) (load ! (from ! (stop !)) (look ! 13 refl)) tt) (from ! (stop !)) (init ! 14 refl (tt, tt)) $
+        begins ! 13 (of-opd ! (load ! (from ! (fld ! refl (stop !))) (look-in ! 23 (sub ! 1 refl (whole !))))) refl (tt, record { fits = gs .0 }) $
+        begins ! 14 (bin ! (its ! 6 refl) (its ! 13 refl) tt) refl (tt, tt) $
         rewrite ! 14 (λ (t : Bool). ‵ (fat fullShare tyBool l₁₅ 0 (vbool t))) (le-ltb (p .0) (length (numbers .now)) over) refl $
-        leaves-loop ! (load ! (from ! (stop !)) (look ! 14 refl)) $ exec ! C Λ En pieces.t-5 (atRet En Post) $
+        leaves-loop ! (its ! 14 refl) $ exec ! C Λ En pieces.t-5 (atRet En Post) $
         move ! (0 ∷ 27 ∷ 28 ∷ 29 ∷ []) $ closes-slice ! tt T.the-row ys (reg (p .0)) long b o $
         -- [obs; the borrow; the token; the rest two further]
         assigns ! (of-opd ! (unit-lit !)) (from ! (stop !)) (init ! 28 refl (tt, tt)) $ returns ! (look ! 28 refl) $
@@ -347,20 +347,20 @@ module _ {M : Type 1} (𝓤 : URA M) (H : Heap 𝓤) (A : Atoms 𝓤) (W : Given
     clears : (i : Upto count) → i .0 < count → Sq W (Cleared i) (runs C Λ En pieces.turn-1 (anyQ (Clears i)))
     unfolding afterTurn
     clears i less =
-        assigns ! (bin ! (load ! (from ! (stop !)) (look ! 5 refl)) (load ! (from ! (stop !)) (look ! 25 refl)) tt) (from ! (stop !)) (init ! 9 refl (tt, tt)) $
-        rewrite ! 9 (λ (t : Bool). ‵ (fat fullShare tyBool l₁₀ 0 (vbool t))) (lt-ltb (i .0) count less) refl $ stays ! (load ! (from ! (stop !)) (look ! 9 refl)) $
+        begins ! 9 (bin ! (its ! 5 refl) (its ! 25 refl) tt) refl (tt, tt) $
+        rewrite ! 9 (λ (t : Bool). ‵ (fat fullShare tyBool l₁₀ 0 (vbool t))) (lt-ltb (i .0) count less) refl $ stays ! (its ! 9 refl) $
         nothing ! $ use1 W (raw (Empty 𝓤 H A at-mem run .pre to-empty)) asks-empty $ calls-at ! fm (Empty 𝓤 H A at-mem run) (known .is-empty) to-empty (no-more !) (λ v.
         use1 W (later (some (λ (r : Pond). given ((r ≡ emptyPond) × Is T.the-row r (v ∷ [])) (‵ ftrue)))) (called 𝓤 H A W empty.ended (empty.clauses 𝓤 H A at-mem run) to-empty (λ r. r ≡ emptyPond) empty-is v) $
         await ! tt $ pick ! (λ r. learn ! (λ g. drop ! $ land ! (from ! (stop !)) (init ! 10 refl (typed r v (g .1))) $
-        assigns ! (bin ! (load ! (from ! (stop !)) (look ! 5 refl)) (lit ! tt) fits) (from ! (stop !)) (init ! 11 refl (tt, fits)) $
-        assigns ! (bin ! (load ! (from ! (fld ! refl (stop !))) (look-in ! 24 (sub ! 0 refl (whole !)))) (load ! (from ! (stop !)) (look ! 11 refl)) tt) (from ! (stop !)) (init ! 12 refl (tt, tt)) $
+        begins ! 11 (bin ! (its ! 5 refl) (lit ! tt) fits) refl (tt, fits) $
+        begins ! 12 (bin ! (load ! (from ! (fld ! refl (stop !))) (look-in ! 24 (sub ! 0 refl (whole !)))) (its ! 11 refl) tt) refl (tt, tt) $
         rewrite ! 12 (λ (p : ℕ). ‵ (fat fullShare tyPtr l₁₃ 0 (vptr b p))) (sym (place-is 20 o (i .0))) refl $
         elem-out ! T.the-row (Is T.the-row) (shows 𝓤 H A T.the-row) (LL.vals T.the-type T′.the-laws) (LL.tells T.the-type T′.the-laws) fullShare (cleared ys (i .0)) (i .0) emptyPond b o within (λ _.
         -- [reg[i]; what it owns; the others; the rest two further]
-        assigns ! (of-opd ! (load ! (from ! (stop !)) (look ! 12 refl))) (from ! (hop ! (look ! 14 refl) (stop !))) (store-raw ! 0 refl (typed r v (g .1))) $
+        assigns ! (of-opd ! (its ! 12 refl)) (from ! (hop ! (look ! 14 refl) (stop !))) (store-raw ! 0 refl (typed r v (g .1))) $
         move ! (1 ∷ []) $ drop ! $ owned ! T.the-row (Is T.the-row) ((LL.makes T.the-type T′.the-plain) 𝓤 H A) r _ (g .1) $ move ! (1 ∷ 0 ∷ []) $
         elem-put ! T.the-row fullShare (cleared ys (i .0)) (i .0) r (v ∷ []) b o within $
-        assigns-last ! (bin ! (load ! (from ! (stop !)) (look ! 5 refl)) (lit ! tt) (record { fits = omega arith })) (from ! (stop !)) (store ! 5 refl (tt, record { fits = omega arith })) $
+        assigns-last ! (bin ! (its ! 5 refl) (lit ! tt) (record { fits = omega arith })) (from ! (stop !)) (store ! 5 refl (tt, record { fits = omega arith })) $
         forget ! 9 refl $ forget ! 10 refl $ forget ! 11 refl $ forget ! 12 refl $
         rewrite ! 0 (λ (zs : List Pond). ‵ (row T.the-row fullShare zs b o)) (cleared-more ys (i .0) r (omega arith) (g .0)) refl $
         again ! (Nearer count) Cleared i (i .0 + 1, add-one-le less) (add-one-dec count (i .0) less)))))
@@ -374,11 +374,11 @@ module _ {M : Type 1} (𝓤 : URA M) (H : Heap 𝓤) (A : Atoms 𝓤) (W : Given
     cleared-all : (i : Upto count) → count ≤ i .0 → Sq W (Cleared i) (runs C Λ En pieces.turn-1 (anyQ (Clears i)))
     unfolding afterTurn
     cleared-all i over =
-        assigns ! (bin ! (load ! (from ! (stop !)) (look ! 5 refl)) (load ! (from ! (stop !)) (look ! 25 refl)) tt) (from ! (stop !)) (init ! 9 refl (tt, tt)) $
-        rewrite ! 9 (λ (t : Bool). ‵ (fat fullShare tyBool l₁₀ 0 (vbool t))) (le-ltb (i .0) count over) refl $ leaves-loop ! (load ! (from ! (stop !)) (look ! 9 refl)) $
+        begins ! 9 (bin ! (its ! 5 refl) (its ! 25 refl) tt) refl (tt, tt) $
+        rewrite ! 9 (λ (t : Bool). ‵ (fat fullShare tyBool l₁₀ 0 (vbool t))) (le-ltb (i .0) count over) refl $ leaves-loop ! (its ! 9 refl) $
         exec ! C Λ En pieces.t-3 (atRet En Post) $ forget ! 5 refl $ forget ! 9 refl $
         rewrite ! 0 (λ (zs : List Pond). ‵ (row T.the-row fullShare zs b o)) (ap (cleared ys) (le-antisymm (i .1) over) ∙ filled-none n (table .now) (numbers .now) count ys) refl $
-        assigns ! (of-opd ! (lit ! tt)) (from ! (stop !)) (init ! 6 refl (tt, record { fits = lit< tt })) $
+        begins ! 6 (of-opd ! (lit ! tt)) refl (tt, record { fits = lit< tt }) $
         first ! $ blocks ! $ loops ! 𝓣 (Nearer (length (numbers .now))) (nearer-wf (length (numbers .now))) Gathered
         (λ p. ⊎-elim (gathers p) (gathered-all p) (lt-or-ge (p .0) (length (numbers .now)))) (0, zero-le)
 
@@ -393,7 +393,7 @@ module _ {M : Type 1} (𝓤 : URA M) (H : Heap 𝓤) (A : Atoms 𝓤) (W : Given
       alloc0 ! $ params1 ! $ pass1 ! (init ! 40 refl (tt, record { fits = gn })) $ pass1 ! (init ! 38 refl (tt, (tt, (record { fits = gt .0 }, tt)))) $
       pass1 ! (init ! 36 refl (tt, (tt, (record { fits = gs .0 }, tt)))) $ pass1 ! (init ! 34 refl (tt, (tt, (record { fits = room .0 }, tt)))) $ pass1 ! (init ! 32 refl (tt, record { fits = gc })) $ pass0 ! $
       -- [_21; …; _20; …; _0; …; the tokens; what the parameters own]
-      assigns ! (of-opd ! (lit ! tt)) (from ! (stop !)) (init ! 30 refl (tt, record { fits = lit< tt })) $
+      begins ! 30 (of-opd ! (lit ! tt)) refl (tt, record { fits = lit< tt }) $
       move ! (45 ∷ []) $ fsplit ! $ drop ! $ fsplit ! $ move ! (1 ∷ []) $ fsplit ! $ move ! (1 ∷ []) $ fsplit ! $ fsplit ! $ drop ! $ fsplit ! $
       move ! (49 ∷ []) $ split ! $ move ! (1 ∷ []) $ split ! $ move ! (1 ∷ []) $ split ! $ move ! (4 ∷ 5 ∷ 0 ∷ []) $ opens-slice ! tt T.the-row ys b o $
       -- [the entries; the open borrow; obs; auth; true; κ₁'s token; κ₀'s; count's; the numbers; the table; _21; …]
