@@ -4,3 +4,5 @@ pub mod LeafPixels
 pub mod EntryLaws
 pub mod CountsSum
 pub mod WordLaws
+pub mod SliceLaws
+pub mod WalkLaws

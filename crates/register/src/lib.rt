@@ -9,6 +9,8 @@ ghost use Rattle.register.specs.Entries.{entries, wordsOf};
 ghost use Rattle.register.specs.Gathered.{emptyPond, grownOf, Fitting, Numbers};
 ghost use Rattle.register.specs.Words.{pondAt, putAt, passedOf, Passing};
 
+pub mod slice;
+
 pub struct Pond {
     pub pixels: u32,
     pub top: u32,

@@ -1,0 +1,47 @@
+// The register in a lent slice of structs, one entry for each pond.
+use super::Pond;
+ghost use mathlib.Core.Path.{_≡_};
+ghost use Prim.Native.Nat.{_<_, _≤_};
+ghost use lib.ListN.{length, getD};
+ghost use Rattle.base.specs.Tab.{overlay};
+ghost use Rattle.table.specs.Rules.{Asked};
+ghost use Rattle.table.specs.Blocks.{blockOf};
+ghost use Rattle.register.specs.Entries.{entries};
+ghost use Rattle.register.specs.Gathered.{grownOf, Fitting, Numbers};
+
+// The number of node p.
+fn number_at(numbers: &[u32], p: usize) -> usize
+    requires { ⌜ p < length (now numbers) ⌝ }
+    ensures { λ r. ⌜ r ≡ getD (now (numbers .entry)) p 0 ⌝ }
+{
+    numbers[p] as usize
+}
+
+// An entry with node p's block.
+fn grown_at(n: u32, table: &[u32], p: usize, e: Pond) -> Pond
+    requires { ⌜ Asked n (now table) p × Fitting e (blockOf n (now table) p) ⌝ }
+    ensures { λ r. ⌜ r ≡ grownOf e (blockOf n (now (table .entry)) p) ⌝ }
+{
+    super::grown(e, table::block::block_of(n, table, p))
+}
+
+// One entry for each pond, from the nodes' numbers: all begin empty, and each node's block is gathered by its pond's.
+pub fn fill(n: u32, table: &[u32], numbers: &[u32], reg: &mut [Pond], count: usize)
+    requires { ⌜ Numbers n (now table) (now numbers) count × (count ≤ length (now reg)) ⌝ }
+    ensures { λ _. ⌜ now (reg .exit) ≡ overlay (entries n (now (table .entry)) (now (numbers .entry)) count) (now (reg .entry)) ⌝ }
+{
+    let mut i: usize = 0;
+    while i < count {
+        reg[i] = super::empty();
+        i += 1;
+    }
+    let mut p: usize = 0;
+    while p < numbers.len() {
+        let k = number_at(numbers, p);
+        if k != 0 {
+            let j = k - 1;
+            reg[j] = grown_at(n, table, p, reg[j]);
+        }
+        p += 1;
+    }
+}
