@@ -8,7 +8,7 @@
 #include "plain/plain.h"
 #include "plain/search.h"
 
-enum { WHITE = 0, BLACK = 1, EAST = 1, SOUTH = 2, MOST_PIXELS = 128 * 128 };
+enum { WHITE = 0, BLACK = 1, FORK = 2, EAST = 1, SOUTH = 2, MOST_PIXELS = 128 * 128 };
 
 /* A leader's word is LEADS with the pond's first pixel, and later with the
  * pond's number; the word of any other black leaf is one of its pond. */
@@ -24,6 +24,17 @@ struct sheet {
     const uint32_t *table;
     uint32_t n, count, *numbers, *reg;
 };
+
+static inline uint32_t type_of(const struct sheet *s, uint32_t p)
+{
+    return plain_node(s->table, p)[5];
+}
+
+/* A leaf's word, while each black leaf is a pond of its own. */
+static inline uint32_t leaf_word(const struct sheet *s, uint32_t p, uint32_t pixel)
+{
+    return type_of(s, p) == BLACK ? LEADS | pixel : 0;
+}
 
 static uint32_t leader(uint32_t *numbers, uint32_t p)
 {
@@ -46,40 +57,72 @@ static void join(uint32_t *numbers, uint32_t p, uint32_t q)
         numbers[p] = q;
 }
 
-/* Joins the black leaves below a and b that touch across the border between
- * them; b lies east or south of a. */
-static void join_across(const struct sheet *s, uint32_t a, uint32_t b, uint32_t way)
+/* ---- joining: 'way' is the border that is crossed, and a constant in each use */
+
+static void join_east(const struct sheet *s, uint32_t a, uint32_t b);
+static void join_south(const struct sheet *s, uint32_t a, uint32_t b);
+
+/* Joins the black leaves in a and b that touch across the border between them;
+ * b lies east or south of a. */
+static inline void join_across(const struct sheet *s, uint32_t a, uint32_t b, uint32_t way)
 {
-    const uint32_t *first = plain_node(s->table, a), *second = plain_node(s->table, b);
-    if (first[5] == WHITE || second[5] == WHITE)
+    uint32_t first = type_of(s, a), second = type_of(s, b);
+    if (first == WHITE || second == WHITE)
         return;
-    if (first[5] == BLACK && second[5] == BLACK) {
+    if (first == BLACK && second == BLACK)
         join(s->numbers, a, b);
-        return;
-    }
-    int first_fork = first[5] != BLACK, second_fork = second[5] != BLACK;
-    join_across(s, first_fork ? first[1 + way] : a, second_fork ? second[1] : b, way);
-    join_across(s, first_fork ? first[1 + 3] : a, second_fork ? second[1 + (way ^ 3)] : b, way);
+    else if (way == EAST)
+        join_east(s, a, b);
+    else
+        join_south(s, a, b);
 }
 
-/* Gives each black leaf below p its word, and joins those that touch; 'pixel'
- * is p's first. */
-static void join_below(const struct sheet *s, uint32_t p, uint32_t pixel, uint32_t side)
+/* The same where one of the two is a fork at least. */
+static inline void join_halves(const struct sheet *s, uint32_t a, uint32_t b, uint32_t way)
 {
-    const uint32_t *node = plain_node(s->table, p);
-    uint32_t half = side / 2;
-    s->numbers[p] = node[5] == BLACK ? LEADS | pixel : 0;
-    if (node[5] <= BLACK)
-        return;
-    join_below(s, node[1], pixel, half);
-    join_below(s, node[2], pixel + half, half);
-    join_below(s, node[3], pixel + (half << s->n), half);
-    join_below(s, node[4], pixel + (half << s->n) + half, half);
-    join_across(s, node[1], node[2], EAST);
-    join_across(s, node[3], node[4], EAST);
-    join_across(s, node[1], node[3], SOUTH);
-    join_across(s, node[2], node[4], SOUTH);
+    uint32_t a_near = a, a_far = a, b_near = b, b_far = b;
+    if (type_of(s, a) == FORK) {
+        a_near = plain_son(s->table, a, way);
+        a_far = plain_son(s->table, a, EAST | SOUTH);
+    }
+    if (type_of(s, b) == FORK) {
+        b_near = plain_son(s->table, b, 0);
+        b_far = plain_son(s->table, b, way ^ (EAST | SOUTH));
+    }
+    join_across(s, a_near, b_near, way);
+    join_across(s, a_far, b_far, way);
 }
+
+static void join_east(const struct sheet *s, uint32_t a, uint32_t b)
+{
+    join_halves(s, a, b, EAST);
+}
+
+static void join_south(const struct sheet *s, uint32_t a, uint32_t b)
+{
+    join_halves(s, a, b, SOUTH);
+}
+
+/* Gives each black leaf below fork p its word, and joins those that touch;
+ * 'pixel' is p's first, and half its side is 'half'. */
+static void join_below(const struct sheet *s, uint32_t p, uint32_t pixel, uint32_t half)
+{
+    const uint32_t *sons = plain_node(s->table, p) + 1;
+    s->numbers[p] = 0;
+    for (uint32_t quadrant = 0; quadrant < 4; quadrant++) {
+        uint32_t son = sons[quadrant], first = pixel + (quadrant & 1) * half + ((quadrant >> 1) * half << s->n);
+        if (type_of(s, son) == FORK)
+            join_below(s, son, first, half / 2);
+        else
+            s->numbers[son] = leaf_word(s, son, first);
+    }
+    join_across(s, sons[0], sons[1], EAST);
+    join_across(s, sons[2], sons[3], EAST);
+    join_across(s, sons[0], sons[2], SOUTH);
+    join_across(s, sons[1], sons[3], SOUTH);
+}
+
+/* ---- the ponds in order */
 
 static uint32_t bits_of(uint64_t word)
 {
@@ -99,7 +142,8 @@ static uint32_t find_firsts(const struct sheet *s, struct firsts *f)
         }
     for (uint32_t i = 0; i < words; i++) {
         f->before[i] = ponds;
-        ponds += bits_of(f->bits[i]);
+        if (f->bits[i] != 0)
+            ponds += bits_of(f->bits[i]);
     }
     return ponds;
 }
@@ -137,34 +181,42 @@ static void enter(uint32_t *entry, uint32_t left, uint32_t top, uint32_t side)
     entry[4] = higher_of(entry[4], left + side - 1);
 }
 
-/* Gives each black leaf below p its pond's number, still with LEADS, and puts
- * its pixels into the pond's entry. */
-static void enter_below(const struct sheet *s, uint32_t p, uint32_t left, uint32_t top, uint32_t side)
+/* Gives a black leaf its pond's number, still with LEADS, and puts its pixels
+ * into the pond's entry. */
+static inline void enter_leaf(const struct sheet *s, uint32_t p, uint32_t left, uint32_t top, uint32_t side)
 {
-    const uint32_t *node = plain_node(s->table, p);
-    if (node[5] == WHITE)
-        return;
-    if (node[5] == BLACK) {
-        uint32_t word = s->numbers[leader(s->numbers, p)];
-        s->numbers[p] = word;
-        enter(s->reg + 5 * ((word ^ LEADS) - 1), left, top, side);
-        return;
+    uint32_t word = s->numbers[leader(s->numbers, p)];
+    s->numbers[p] = word;
+    enter(s->reg + 5 * ((word ^ LEADS) - 1), left, top, side);
+}
+
+static void enter_below(const struct sheet *s, uint32_t p, uint32_t left, uint32_t top, uint32_t half)
+{
+    const uint32_t *sons = plain_node(s->table, p) + 1;
+    for (uint32_t quadrant = 0; quadrant < 4; quadrant++) {
+        uint32_t son = sons[quadrant], type = type_of(s, son);
+        uint32_t son_left = left + (quadrant & 1) * half, son_top = top + (quadrant >> 1) * half;
+        if (type == FORK)
+            enter_below(s, son, son_left, son_top, half / 2);
+        else if (type == BLACK)
+            enter_leaf(s, son, son_left, son_top, half);
     }
-    uint32_t half = side / 2;
-    enter_below(s, node[1], left, top, half);
-    enter_below(s, node[2], left + half, top, half);
-    enter_below(s, node[3], left, top + half, half);
-    enter_below(s, node[4], left + half, top + half, half);
 }
 
 static uint64_t number_ponds(const struct sheet *s)
 {
     struct firsts f;
-    uint32_t side = UINT32_C(1) << s->n;
-    join_below(s, 0, 0, side);
+    uint32_t side = UINT32_C(1) << s->n, is_fork = type_of(s, 0) == FORK;
+    if (is_fork)
+        join_below(s, 0, 0, side / 2);
+    else
+        s->numbers[0] = leaf_word(s, 0, 0);
     uint32_t ponds = find_firsts(s, &f);
     number_leaders(s, &f);
-    enter_below(s, 0, 0, 0, side);
+    if (is_fork)
+        enter_below(s, 0, 0, 0, side / 2);
+    else if (ponds > 0)
+        enter_leaf(s, 0, 0, 0, side);
     for (uint32_t p = 0; p < s->count; p++)
         s->numbers[p] &= ~LEADS;
     return 256 * (uint64_t)ponds;
