@@ -101,8 +101,8 @@ extern "C" {
 #define SHEET_OK 0
 /* The level n is above 7. Value 0; in a file 2, the place of n's byte. */
 #define SHEET_BAD_LEVEL 1
-/* A slice has a wrong length. Value 0: the table; 1: the raster or the
- * distances. */
+/* A slice has a wrong length. Value 0: the table; 1: the raster, the distances
+ * or the ponds' numbers. */
 #define SHEET_BAD_LENGTH 2
 /* A node's type, father word or son words are wrong (rules 1 to 4 of
  * sheet_check). Value: the node. */
@@ -481,6 +481,84 @@ uint64_t sheet_diagonal_leaf(uint32_t n, const uint32_t *table, size_t table_len
  */
 uint64_t sheet_distance(uint32_t n, const uint32_t *table, size_t table_len, uint32_t *distances,
                         size_t distances_len);
+
+/* ---- sheet_ponds ------------------------------------------------------- */
+
+/*
+ * The register of a sheet's ponds is a slice of words, five for each pond. The
+ * pond of number k has the words reg[5 * (k - 1)] to reg[5 * (k - 1) + 4]:
+ *
+ *     pixel count  first row  last row  first column  last column
+ */
+#define SHEET_POND_WORDS       5     /* the words of one pond                 */
+#define SHEET_LONGEST_REGISTER 61440 /* room enough for every sheet, in words */
+
+/* Where a pond's words stand among its five. */
+#define SHEET_PIXELS_WORD       0
+#define SHEET_FIRST_ROW_WORD    1
+#define SHEET_LAST_ROW_WORD     2
+#define SHEET_FIRST_COLUMN_WORD 3
+#define SHEET_LAST_COLUMN_WORD  4
+
+/*
+ * Which pond each black leaf is part of, and how large each pond is.
+ *
+ * Two black leaves are in the same pond if a chain of black leaves joins them in
+ * which each shares a length of side with the next; a corner does not join. So
+ * what lies under a grey neighbour is in the pond only if it touches. Ponds
+ * count from 1 in the order of their first pixel, by rows: a pond comes before
+ * another if its highest row is higher or, in the same row, its leftmost pixel
+ * of that row is further left. Each black leaf gets the number of its pond,
+ * white leaves and forks get 0. The numbering of the nodes makes no difference.
+ *
+ * The register gets the entries of all ponds: how many pixels the pond has, and
+ * the first and the last row and column in which it has one. Rows and columns
+ * count from 0. The pixel counts add up to the black pixels of the raster.
+ *
+ * The tests, in this order; the first that fails decides:
+ *
+ *   SHEET_BAD_LEVEL      value 0     n is above 7
+ *   SHEET_BAD_LENGTH     value 0     table_len is wrong, as in sheet_check
+ *   SHEET_BAD_LENGTH     value 1     numbers_len is not N = table_len / 6
+ *   SHEET_BAD_NODE, SHEET_TOO_DEEP or SHEET_NEEDLESS_FORK
+ *                        value p     sheet_check's first fault, at node p
+ *   SHEET_NO_ROOM        value 5B    reg_len is below 5B, B being the number of
+ *                                    black leaves
+ *
+ * If none fails the answer is
+ *
+ *   SHEET_OK             value: the number of ponds, 0 where no pixel is black.
+ *
+ * The register needs only room: any reg_len from 5B on will do. There are never
+ * more ponds than black leaves, and seldom as many; the room is asked for all
+ * the same, so that it can be told before the ponds are.
+ *
+ * Buffers:   on SHEET_OK numbers[p] is written for every node p, and with P
+ *            ponds reg[0] to reg[5P - 1] are their entries; the words beyond
+ *            stay as they were. On a refusal all words of both stay. The table
+ *            is only read.
+ * Pointers:  with table_len 0 the table may be NULL, with numbers_len 0 the
+ *            numbers; the answer is then a refusal. With reg_len 0 the register
+ *            may be NULL; the answer is then a refusal, or SHEET_OK with value 0
+ *            for a sheet that has no black pixel.
+ * Cost:      sheet_check's, and then for each black leaf a search of its four
+ *            neighbours, and for each row a link or two for each leaf that it
+ *            crosses, with no memory that grows with N.
+ *
+ * Example: the table of sheet_check's example, which is called 'table'.
+ *
+ *     uint32_t numbers[9], reg[2 * SHEET_POND_WORDS];
+ *     uint64_t answer = sheet_ponds(2, table, 54, numbers, 9, reg, 10);
+ *
+ *     sheet_code(answer)  is SHEET_OK
+ *     sheet_value(answer) is 2, the number of ponds
+ *     numbers             is 0, 1, 0, 0, 0, 0, 2, 0, 0
+ *     reg                 is 4, 0, 1, 0, 1, and then 1, 1, 1, 3, 3
+ *
+ * With room for 9 words the answer is SHEET_NO_ROOM with value 10.
+ */
+uint64_t sheet_ponds(uint32_t n, const uint32_t *table, size_t table_len, uint32_t *numbers, size_t numbers_len,
+                     uint32_t *reg, size_t reg_len);
 
 /* ---- The sheet file ---------------------------------------------------- */
 

@@ -118,6 +118,9 @@ east of the pond: node 2, grey
 touching it in the north-east: node 3, dry
 touching it in the south-east: node 5, dry
 west of the pond: code 20
+ponds: 2
+pond 1: 16 pixels, rows 0 to 3, columns 0 to 3, nodes 1
+pond 2: 8 pixels, rows 0 to 3, columns 6 to 7, nodes 4 6
 END
     same "the two ponds do not touch" "$work/printed" "$work/wanted"
 }

@@ -36,6 +36,11 @@ static void check_numbers(void)
     report_check("directions", SHEET_N == 0 && SHEET_E == 1 && SHEET_S == 2 && SHEET_W == 3 && SHEET_NW == 4 &&
                                    SHEET_NE == 5 && SHEET_SW == 6 && SHEET_SE == 7);
     report_check("the distance where no pixel is white", SHEET_NO_WHITE == (uint32_t)-1);
+    report_check("the words of a pond", SHEET_POND_WORDS == 5 && SHEET_PIXELS_WORD == 0 && SHEET_FIRST_ROW_WORD == 1 &&
+                                            SHEET_LAST_ROW_WORD == 2 && SHEET_FIRST_COLUMN_WORD == 3 &&
+                                            SHEET_LAST_COLUMN_WORD == 4);
+    report_check("the longest register: three black pixels under each lowest fork",
+                 SHEET_LONGEST_REGISTER == SHEET_POND_WORDS * 3 * (1 << 2 * (SHEET_HIGHEST_LEVEL - 1)));
     report_check("the longest file", SHEET_LONGEST_FILE == 5 + 3 * (SHEET_LONGEST_TABLE / SHEET_NODE_WORDS));
     report_check("codes of the check", SHEET_OK == 0 && SHEET_BAD_LEVEL == 1 && SHEET_BAD_LENGTH == 2 &&
                                            SHEET_BAD_NODE == 3 && SHEET_TOO_DEEP == 4 && SHEET_NEEDLESS_FORK == 5);

@@ -17,6 +17,7 @@ static ucontext_t here, there;
 
 static uint8_t raster[SIDE * SIDE], decoded[SIDE * SIDE];
 static uint32_t table[SHEET_LONGEST_TABLE], distances[SHEET_LONGEST_TABLE / SHEET_NODE_WORDS];
+static uint32_t numbers[SHEET_LONGEST_TABLE / SHEET_NODE_WORDS], reg[SHEET_LONGEST_REGISTER];
 static uint8_t file[SHEET_LONGEST_FILE];
 static size_t length, file_length;
 static double place[2];
@@ -67,6 +68,11 @@ static void call_distance(void)
     answer = sheet_distance(N, table, length, distances, length / SHEET_NODE_WORDS);
 }
 
+static void call_ponds(void)
+{
+    answer = sheet_ponds(N, table, length, numbers, length / SHEET_NODE_WORDS, reg, SHEET_LONGEST_REGISTER);
+}
+
 static void call_centre(void)
 {
     answer = sheet_centre(N, table, length, (uint32_t)(length / SHEET_NODE_WORDS - 1), 0, 0, 1, place, 2);
@@ -112,6 +118,7 @@ int main(void)
     stays_small("sheet_corner_leaf", call_corner_leaf);
     stays_small("sheet_diagonal_leaf", call_diagonal_leaf);
     stays_small("sheet_distance", call_distance);
+    stays_small("sheet_ponds", call_ponds);
     stays_small("sheet_centre", call_centre);
     return report_end();
 }

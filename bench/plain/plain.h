@@ -38,6 +38,13 @@ uint64_t plain_two_pass(uint32_t n, const uint32_t *table, size_t table_len, uin
 uint64_t plain_two_pass_rows(uint32_t n, const uint32_t *table, size_t table_len, uint32_t *distances,
                              size_t distances_len);
 
+/* The ponds' numbers and the register, by joining black leaves in the tree, and
+ * by joining runs of black pixels from row to row. */
+uint64_t plain_ponds(uint32_t n, const uint32_t *table, size_t table_len, uint32_t *numbers, size_t numbers_len,
+                     uint32_t *reg, size_t reg_len);
+uint64_t plain_ponds_by_runs(uint32_t n, const uint32_t *table, size_t table_len, uint32_t *numbers, size_t numbers_len,
+                             uint32_t *reg, size_t reg_len);
+
 /* A node's centre on the ground. */
 uint64_t plain_centre(uint32_t n, const uint32_t *table, size_t table_len, uint32_t node, double east, double north,
                       double step, double *place, size_t place_len);

@@ -27,6 +27,11 @@ uint64_t second_diagonal_leaf(const struct second_cover *c, uint32_t node, uint3
 /* What sheet_distance must give back, and the words that it must write. */
 uint64_t second_distance(uint32_t n, const uint32_t *table, size_t table_len, uint32_t *distances, size_t distances_len);
 
+/* What sheet_ponds must give back, and the words that it must write to both
+ * slices. */
+uint64_t second_ponds(uint32_t n, const uint32_t *table, size_t table_len, uint32_t *numbers, size_t numbers_len,
+                      uint32_t *reg, size_t reg_len);
+
 /* What sheet_centre must give back, and the two numbers that it must write. */
 uint64_t second_centre(uint32_t n, const uint32_t *table, size_t table_len, uint32_t node, double east, double north,
                        double step, double *place, size_t place_len);

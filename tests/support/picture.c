@@ -139,6 +139,24 @@ void picture_of_bits(struct picture *pic, uint32_t level, uint32_t bits)
         pic->pixels[i] = bits >> i & 1;
 }
 
+static void draw_square(struct picture *pic, uint32_t left, uint32_t top, uint32_t width)
+{
+    for (uint32_t y = top; y < top + width && y < side_of(pic); y++)
+        for (uint32_t x = left; x < left + width && x < side_of(pic); x++)
+            *pixel(pic, x, y) = 1;
+}
+
+void picture_draw_squares(struct picture *pic, uint32_t level, uint32_t width, struct dice *d)
+{
+    uint32_t first = dice_below(d, 2);
+    pic->level = level;
+    fill(pic, 0);
+    for (uint32_t y = 0; y < side_of(pic); y += width)
+        for (uint32_t x = 0; x < side_of(pic); x += width)
+            if ((x / width + y / width + first) % 2 == 0 && dice_below(d, 4) != 0)
+                draw_square(pic, x, y, width);
+}
+
 void picture_draw_lone_pixel(struct picture *pic, uint32_t level, uint32_t x, uint32_t y)
 {
     pic->level = level;

@@ -36,6 +36,10 @@ void picture_draw(struct picture *pic, enum picture_kind kind, uint32_t level, s
  * the numbers below 2^(4^level) give every picture of the level. */
 void picture_of_bits(struct picture *pic, uint32_t level, uint32_t bits);
 
+/* Draws black squares of this width as on a chessboard, each of them with a
+ * chance of three in four: they touch at corners alone. */
+void picture_draw_squares(struct picture *pic, uint32_t level, uint32_t width, struct dice *d);
+
 /* Draws black everywhere but at one pixel. */
 void picture_draw_lone_pixel(struct picture *pic, uint32_t level, uint32_t x, uint32_t y);
 

@@ -1,0 +1,125 @@
+/*
+ * The ponds of a sheet, on the raster: pixels are taken by rows, and where a
+ * black one has no number yet the water spreads from it, to the four pixels
+ * beside each. A leaf has the number of its pixels.
+ */
+#include "second/second.h"
+
+/* The raster with a number for each pixel: 0 is white, NOT_YET black. */
+struct lake {
+    uint32_t n;
+    uint32_t number[SECOND_MOST_PIXELS];
+};
+
+/* Pixels that have their number, while those beside them wait. */
+struct shore {
+    uint32_t count;
+    uint32_t pixel[SECOND_MOST_PIXELS];
+};
+
+static const uint32_t NOT_YET = 4294967295u;
+
+static uint32_t count_black_leaves(const uint32_t *table, size_t table_len)
+{
+    uint32_t black = 0;
+    for (size_t p = 0; p < table_len / 6; p++)
+        black += table[p * 6 + 5] == 1;
+    return black;
+}
+
+static void fill(struct lake *l, uint32_t n, const uint32_t *table, size_t table_len)
+{
+    l->n = n;
+    for (uint32_t p = 0; p < table_len / 6; p++) {
+        struct second_block b = second_block(n, table, p);
+        if (table[p * 6 + 5] != 2)
+            for (uint32_t y = b.top; y < b.top + b.side; y++)
+                for (uint32_t x = b.left; x < b.left + b.side; x++)
+                    l->number[(y << n) + x] = table[p * 6 + 5] == 1 ? NOT_YET : 0;
+    }
+}
+
+static void wet(struct lake *l, struct shore *s, uint32_t x, uint32_t y, uint32_t number)
+{
+    uint32_t side = UINT32_C(1) << l->n;
+    if (x < side && y < side && l->number[(y << l->n) + x] == NOT_YET) {
+        l->number[(y << l->n) + x] = number;
+        s->pixel[s->count++] = (y << l->n) + x;
+    }
+}
+
+/* West of column 0 and north of row 0 is 4294967295, which is off the sheet. */
+static void spread(struct lake *l, uint32_t pixel, uint32_t number)
+{
+    static struct shore s;
+    s.count = 0;
+    wet(l, &s, pixel % (UINT32_C(1) << l->n), pixel >> l->n, number);
+    while (s.count > 0) {
+        uint32_t from = s.pixel[--s.count], x = from % (UINT32_C(1) << l->n), y = from >> l->n;
+        wet(l, &s, x, y - 1, number);
+        wet(l, &s, x + 1, y, number);
+        wet(l, &s, x, y + 1, number);
+        wet(l, &s, x - 1, y, number);
+    }
+}
+
+static uint32_t number_all(struct lake *l)
+{
+    uint32_t ponds = 0;
+    for (uint32_t pixel = 0; pixel < UINT32_C(1) << (2 * l->n); pixel++)
+        if (l->number[pixel] == NOT_YET)
+            spread(l, pixel, ++ponds);
+    return ponds;
+}
+
+static void enter_pixel(uint32_t *entry, uint32_t x, uint32_t y)
+{
+    if (entry[0] == 0) {
+        entry[1] = entry[2] = y;
+        entry[3] = entry[4] = x;
+    }
+    entry[0]++;
+    if (y < entry[1])
+        entry[1] = y;
+    if (y > entry[2])
+        entry[2] = y;
+    if (x < entry[3])
+        entry[3] = x;
+    if (x > entry[4])
+        entry[4] = x;
+}
+
+static void fill_register(const struct lake *l, uint32_t ponds, uint32_t *reg)
+{
+    uint32_t side = UINT32_C(1) << l->n;
+    for (uint32_t k = 0; k < ponds; k++)
+        reg[5 * k] = 0;
+    for (uint32_t y = 0; y < side; y++)
+        for (uint32_t x = 0; x < side; x++)
+            if (l->number[(y << l->n) + x] != 0)
+                enter_pixel(&reg[5 * (l->number[(y << l->n) + x] - 1)], x, y);
+}
+
+uint64_t second_ponds(uint32_t n, const uint32_t *table, size_t table_len, uint32_t *numbers, size_t numbers_len,
+                      uint32_t *reg, size_t reg_len)
+{
+    static struct lake l;
+    int rule;
+    uint64_t check = second_check(n, table, table_len, &rule);
+    if (check % 256 == 1 || check % 256 == 2)
+        return check;
+    if (numbers_len != table_len / 6)
+        return 2 + 256 * 1;
+    if (check % 256 != 0)
+        return check;
+    if (reg_len / 5 < count_black_leaves(table, table_len))
+        return 9 + 256 * 5 * (uint64_t)count_black_leaves(table, table_len);
+    fill(&l, n, table, table_len);
+    uint64_t ponds = number_all(&l);
+    for (uint32_t p = 0; p < table_len / 6; p++) {
+        struct second_block b = second_block(n, table, p);
+        numbers[p] = table[p * 6 + 5] == 1 ? l.number[(b.top << n) + b.left] : 0;
+    }
+    fill_register(&l, (uint32_t)ponds, reg);
+    return 256 * ponds;
+}
