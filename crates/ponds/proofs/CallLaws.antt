@@ -3,7 +3,8 @@ use mathlib.Core.Bool.{Bool, true, false, not, false≢true}
 use mathlib.Core.List.{List}
 use mathlib.Core.Logic.{⊎-elim}
 use mathlib.Core.Path.{_≡_, refl, ap, sym, _∙_}
-use Prim.Native.Nat.{ℕ, _≤_, _<_}
+use Prim.Native.Nat.{ℕ, _*_, _≤_}
+use native.Mathlib.Nat.{le-trans, mul-le-mul-left}
 use native.Mathlib.Omega.{arith}
 use lib.Dec.{eqb}
 use lib.ListN.{length}
@@ -15,19 +16,19 @@ use Rattle.answer.specs.declared.Outcome.the-variants.{Answered, NoRoom}
 use Rattle.answer.specs.Numbers.{answers, room}
 use Rattle.answer.proofs.OutcomeLaws.{both-answer, answers-unless}
 use Rattle.quad.specs.Numbers.{black, forkType}
-use Rattle.table.specs.Table.{nodes, type, isFork}
+use Rattle.table.specs.Table.{nodes, type}
 use Rattle.table.specs.Rules.{eachNodeOf, Accepted}
 use Rattle.table.proofs.CheckLaws.{each-node-of}
 use Rattle.register.specs.declared.Pond.{Pond}
 use Rattle.register.specs.Entries.{entries}
 use Rattle.register.specs.Gathered.{Numbers}
-use Rattle.joins.specs.Led.{wordOf}
 use Rattle.ponds.specs.Numbered.{Numbered}
-use Rattle.ponds.specs.Calls.{pondsTest, Answers, Finds}
+use Rattle.ponds.specs.Calls.{blackLeaves, pondsTest, Answers, Finds}
 use Rattle.ponds.proofs.OneNumbering.{one-numbering}
+use Rattle.ponds.proofs.FewPonds.{few-ponds}
 
 -- what the register's pass asks of the numbers
-pub numbers-of : (n : ℕ) (T numbers : List ℕ) (count : ℕ) → Accepted n T → Numbered n T numbers count → Numbers n T numbers count
+numbers-of : (n : ℕ) (T numbers : List ℕ) (count : ℕ) → Accepted n T → Numbered n T numbers count → Numbers n T numbers count
 numbers-of n T numbers count acc h = record {
   accepted = acc;
   words = h .each;
@@ -38,6 +39,12 @@ numbers-of n T numbers count acc h = record {
       (by-bool (eqb (type T p) black));
   forks = λ p lt f. h .dry p lt (λ e. omega (arith, eqb-true (type T p) forkType f));
 }
+
+-- so many elements for each black leaf are enough for the ponds
+pub ready : (n : ℕ) (T numbers : List ℕ) (count wide have : ℕ) → Accepted n T → Numbered n T numbers count → wide * blackLeaves T ≤ have
+    → Numbers n T numbers count × (wide * count ≤ have)
+ready n T numbers count wide have acc h room =
+    (numbers-of n T numbers count acc h, le-trans (mul-le-mul-left wide (few-ponds n T numbers count h)) room)
 
 module _ {A : Type 0} (n : ℕ) (T : List ℕ) (written : List Pond → List A) (need : ℕ) (numbers : List ℕ) (reg : List A) where
   abbrev test : Outcome
