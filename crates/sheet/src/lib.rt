@@ -1,6 +1,6 @@
 // The exported C calls, and nothing else: each calls one function of a floor below and packs code and value (include/sheet.h is the manual).
 use ground::Ground;
-ghost use Rattle.sheet.specs.Calls.{Checks, Builds, Decodes, FindsNeighbour, FindsCornerLeaf, FindsDiagonalLeaf, FindsDistances, ReadsFile, WritesFile, FindsCentre, groundAt};
+ghost use Rattle.sheet.specs.Calls.{Checks, Builds, Decodes, FindsNeighbour, FindsCornerLeaf, FindsDiagonalLeaf, FindsDistances, FindsPonds, ReadsFile, WritesFile, FindsCentre, groundAt};
 
 #[no_mangle]
 pub extern "C" fn sheet_check(n: u32, table: &[u32]) -> u64
@@ -49,6 +49,13 @@ pub extern "C" fn sheet_distance(n: u32, table: &[u32], distances: &mut [u32]) -
     ensures { λ r. ⌜ FindsDistances n (now (table .entry)) (now (distances .entry)) r (now (distances .exit)) ⌝ }
 {
     answer::number(distance::distances(n, table, distances))
+}
+
+#[no_mangle]
+pub extern "C" fn sheet_ponds(n: u32, table: &[u32], numbers: &mut [u32], reg: &mut [u32]) -> u64
+    ensures { λ r. ⌜ FindsPonds n (now (table .entry)) (now (numbers .entry)) (now (reg .entry)) r (now (numbers .exit)) (now (reg .exit)) ⌝ }
+{
+    answer::number(ponds::ponds(n, table, numbers, reg))
 }
 
 #[no_mangle]
