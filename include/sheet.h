@@ -491,7 +491,7 @@ uint64_t sheet_distance(uint32_t n, const uint32_t *table, size_t table_len, uin
  *     pixel count  first row  last row  first column  last column
  */
 #define SHEET_POND_WORDS       5     /* the words of one pond                 */
-#define SHEET_LONGEST_REGISTER 61440 /* room enough for every sheet, in words */
+#define SHEET_LONGEST_REGISTER 61440 /* the words of the longest register     */
 
 /* Where a pond's words stand among its five. */
 #define SHEET_PIXELS_WORD       0
@@ -507,9 +507,9 @@ uint64_t sheet_distance(uint32_t n, const uint32_t *table, size_t table_len, uin
  * which each shares a length of side with the next; a corner does not join. So
  * what lies under a grey neighbour is in the pond only if it touches. Ponds
  * count from 1 in the order of their first pixel, by rows: a pond comes before
- * another if its highest row is higher or, in the same row, its leftmost pixel
- * of that row is further left. Each black leaf gets the number of its pond,
- * white leaves and forks get 0. The numbering of the nodes makes no difference.
+ * another if it begins in a row further up or, where both begin in one row, at
+ * a pixel further left. Each black leaf gets the number of its pond, white
+ * leaves and forks get 0. The numbering of the nodes makes no difference.
  *
  * The register gets the entries of all ponds: how many pixels the pond has, and
  * the first and the last row and column in which it has one. Rows and columns
@@ -529,9 +529,9 @@ uint64_t sheet_distance(uint32_t n, const uint32_t *table, size_t table_len, uin
  *
  *   SHEET_OK             value: the number of ponds, 0 where no pixel is black.
  *
- * The register needs only room: any reg_len from 5B on will do. There are never
- * more ponds than black leaves, and seldom as many; the room is asked for all
- * the same, so that it can be told before the ponds are.
+ * The register needs only room: any reg_len from 5B on will do, as there are
+ * never more ponds than black leaves. SHEET_LONGEST_REGISTER words are room
+ * enough for every table.
  *
  * Buffers:   on SHEET_OK numbers[p] is written for every node p, and with P
  *            ponds reg[0] to reg[5P - 1] are their entries; the words beyond
@@ -541,9 +541,9 @@ uint64_t sheet_distance(uint32_t n, const uint32_t *table, size_t table_len, uin
  *            numbers; the answer is then a refusal. With reg_len 0 the register
  *            may be NULL; the answer is then a refusal, or SHEET_OK with value 0
  *            for a sheet that has no black pixel.
- * Cost:      sheet_check's, and then for each black leaf a search of its four
- *            neighbours, and for each row a link or two for each leaf that it
- *            crosses, with no memory that grows with N.
+ * Cost:      sheet_check's, then for each black leaf a search of its four
+ *            neighbours, and a way along every row from leaf to leaf, with no
+ *            memory that grows with N.
  *
  * Example: the table of sheet_check's example, which is called 'table'.
  *

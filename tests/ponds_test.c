@@ -93,7 +93,7 @@ static size_t needed(void)
 
 /* ---- answers worked out by hand: tables */
 
-enum { MOST_NODES = 13, MOST_PONDS = 3 };
+enum { MOST_NODES = 13, MOST_PONDS = 2 };
 
 struct vector {
     const char *name;
@@ -126,6 +126,11 @@ static const struct vector vectors[] = {
      {1, 0, 0, 3, 3, 1, 1, 1, 0, 0},
      {FORK(NO, 1, 6, 11, 12), FORK(0, 2, 3, 4, 5), LEAF(1, W), LEAF(1, W), LEAF(1, B), LEAF(1, W),
       FORK(0, 7, 8, 9, 10), LEAF(6, W), LEAF(6, B), LEAF(6, W), LEAF(6, W), LEAF(0, W), LEAF(0, W)}},
+    /* Rows 0000, 0001, 1011, 0011: node 1 lies after the second pond, node 9 before it. */
+    {"a pond whose first pixel is not its lowest node's", 2, 13, 2, {0, 1, 0, 0, 0, 0, 0, 0, 2, 1, 0, 0, 0},
+     {5, 1, 3, 2, 3, 1, 2, 2, 0, 0},
+     {FORK(NO, 4, 3, 2, 1), LEAF(0, B), FORK(0, 8, 7, 6, 5), FORK(0, 12, 11, 10, 9), LEAF(0, W), LEAF(2, W),
+      LEAF(2, W), LEAF(2, W), LEAF(2, B), LEAF(3, B), LEAF(3, W), LEAF(3, W), LEAF(3, W)}},
 };
 
 static void set_table(uint32_t level, const uint32_t *words, size_t length)

@@ -1,13 +1,14 @@
 /*
  * The ponds of a sheet, on the raster: pixels are taken by rows, and where a
  * black one has no number yet the water spreads from it, to the four pixels
- * beside each. A leaf has the number of its pixels.
+ * beside each. A black leaf has the number of its pixels.
  */
 #include "second/second.h"
 
-/* The raster with a number for each pixel: 0 is white, NOT_YET black. */
+/* The raster, and a number for each black pixel that the water has reached. */
 struct lake {
-    uint32_t n;
+    uint32_t side;
+    uint8_t black[SECOND_MOST_PIXELS];
     uint32_t number[SECOND_MOST_PIXELS];
 };
 
@@ -17,34 +18,12 @@ struct shore {
     uint32_t pixel[SECOND_MOST_PIXELS];
 };
 
-static const uint32_t NOT_YET = 4294967295u;
-
-static uint32_t count_black_leaves(const uint32_t *table, size_t table_len)
-{
-    uint32_t black = 0;
-    for (size_t p = 0; p < table_len / 6; p++)
-        black += table[p * 6 + 5] == 1;
-    return black;
-}
-
-static void fill(struct lake *l, uint32_t n, const uint32_t *table, size_t table_len)
-{
-    l->n = n;
-    for (uint32_t p = 0; p < table_len / 6; p++) {
-        struct second_block b = second_block(n, table, p);
-        if (table[p * 6 + 5] != 2)
-            for (uint32_t y = b.top; y < b.top + b.side; y++)
-                for (uint32_t x = b.left; x < b.left + b.side; x++)
-                    l->number[(y << n) + x] = table[p * 6 + 5] == 1 ? NOT_YET : 0;
-    }
-}
-
 static void wet(struct lake *l, struct shore *s, uint32_t x, uint32_t y, uint32_t number)
 {
-    uint32_t side = UINT32_C(1) << l->n;
-    if (x < side && y < side && l->number[(y << l->n) + x] == NOT_YET) {
-        l->number[(y << l->n) + x] = number;
-        s->pixel[s->count++] = (y << l->n) + x;
+    uint32_t pixel = y * l->side + x;
+    if (x < l->side && y < l->side && l->black[pixel] && l->number[pixel] == 0) {
+        l->number[pixel] = number;
+        s->pixel[s->count++] = pixel;
     }
 }
 
@@ -53,9 +32,9 @@ static void spread(struct lake *l, uint32_t pixel, uint32_t number)
 {
     static struct shore s;
     s.count = 0;
-    wet(l, &s, pixel % (UINT32_C(1) << l->n), pixel >> l->n, number);
+    wet(l, &s, pixel % l->side, pixel / l->side, number);
     while (s.count > 0) {
-        uint32_t from = s.pixel[--s.count], x = from % (UINT32_C(1) << l->n), y = from >> l->n;
+        uint32_t from = s.pixel[--s.count], x = from % l->side, y = from / l->side;
         wet(l, &s, x, y - 1, number);
         wet(l, &s, x + 1, y, number);
         wet(l, &s, x, y + 1, number);
@@ -66,8 +45,10 @@ static void spread(struct lake *l, uint32_t pixel, uint32_t number)
 static uint32_t number_all(struct lake *l)
 {
     uint32_t ponds = 0;
-    for (uint32_t pixel = 0; pixel < UINT32_C(1) << (2 * l->n); pixel++)
-        if (l->number[pixel] == NOT_YET)
+    for (uint32_t pixel = 0; pixel < l->side * l->side; pixel++)
+        l->number[pixel] = 0;
+    for (uint32_t pixel = 0; pixel < l->side * l->side; pixel++)
+        if (l->black[pixel] && l->number[pixel] == 0)
             spread(l, pixel, ++ponds);
     return ponds;
 }
@@ -91,13 +72,19 @@ static void enter_pixel(uint32_t *entry, uint32_t x, uint32_t y)
 
 static void fill_register(const struct lake *l, uint32_t ponds, uint32_t *reg)
 {
-    uint32_t side = UINT32_C(1) << l->n;
     for (uint32_t k = 0; k < ponds; k++)
         reg[5 * k] = 0;
-    for (uint32_t y = 0; y < side; y++)
-        for (uint32_t x = 0; x < side; x++)
-            if (l->number[(y << l->n) + x] != 0)
-                enter_pixel(&reg[5 * (l->number[(y << l->n) + x] - 1)], x, y);
+    for (uint32_t pixel = 0; pixel < l->side * l->side; pixel++)
+        if (l->number[pixel] != 0)
+            enter_pixel(&reg[5 * (l->number[pixel] - 1)], pixel % l->side, pixel / l->side);
+}
+
+static uint64_t count_black_leaves(const uint32_t *table, size_t table_len)
+{
+    uint64_t black = 0;
+    for (size_t p = 0; p < table_len / 6; p++)
+        black += table[p * 6 + 5] == 1;
+    return black;
 }
 
 uint64_t second_ponds(uint32_t n, const uint32_t *table, size_t table_len, uint32_t *numbers, size_t numbers_len,
@@ -112,14 +99,16 @@ uint64_t second_ponds(uint32_t n, const uint32_t *table, size_t table_len, uint3
         return 2 + 256 * 1;
     if (check % 256 != 0)
         return check;
-    if (reg_len / 5 < count_black_leaves(table, table_len))
-        return 9 + 256 * 5 * (uint64_t)count_black_leaves(table, table_len);
-    fill(&l, n, table, table_len);
-    uint64_t ponds = number_all(&l);
+    uint64_t black = count_black_leaves(table, table_len);
+    if (reg_len / 5 < black)
+        return 9 + 256 * (5 * black);
+    l.side = UINT32_C(1) << n;
+    second_decode(n, table, table_len, l.black, (size_t)l.side * l.side);
+    uint32_t ponds = number_all(&l);
     for (uint32_t p = 0; p < table_len / 6; p++) {
         struct second_block b = second_block(n, table, p);
-        numbers[p] = table[p * 6 + 5] == 1 ? l.number[(b.top << n) + b.left] : 0;
+        numbers[p] = table[p * 6 + 5] == 1 ? l.number[b.top * l.side + b.left] : 0;
     }
-    fill_register(&l, (uint32_t)ponds, reg);
-    return 256 * ponds;
+    fill_register(&l, ponds, reg);
+    return 256 * (uint64_t)ponds;
 }
