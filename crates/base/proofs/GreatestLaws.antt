@@ -1,6 +1,6 @@
 -- The greatest of a function's values: at least each value, and at most what all of them are at most.
 use mathlib.Core.Logic.{⊎-elim}
-use mathlib.Core.Path.{_≡_}
+use mathlib.Core.Path.{_≡_, refl}
 use Prim.Native.Nat.{ℕ, zero, suc, _≤_, _<_}
 use native.Mathlib.Nat.{le-trans, max-le, le-max-left, le-max-right, eq-or-lt-of-le, le-of-suc-le-suc, not-suc-le-zero}
 use native.Mathlib.Omega.{arith}
@@ -19,3 +19,9 @@ module _ (f : ℕ → ℕ) where
   unfolding greatest
   greatest-le v zero h = omega arith
   greatest-le v (suc k) h = max-le (h k (omega arith)) (greatest-le v k (λ i l. h i (omega arith)))
+
+-- functions with the same values have the same greatest
+pub greatest-same : (f g : ℕ → ℕ) (k : ℕ) → ((i : ℕ) → i < k → f i ≡ g i) → greatest f k ≡ greatest g k
+unfolding greatest
+greatest-same f g zero h = refl
+greatest-same f g (suc k) h = rw (h k (omega arith), greatest-same f g k (λ i l. h i (omega arith)))

@@ -57,3 +57,9 @@ module _ (top : ℕ) (f : ℕ → ℕ) where
       le-antisymm
       (⊎-elim (λ (e : v ≡ top). rw e (least-top k)) (λ (i : Hit k v). rw (← i .value) (least-le k (i .at) (i .below))) a)
       (least-ge v k t h)
+
+-- functions with the same values have the same least
+pub least-same : (top : ℕ) (f g : ℕ → ℕ) (k : ℕ) → ((i : ℕ) → i < k → f i ≡ g i) → least top f k ≡ least top g k
+unfolding least
+least-same top f g zero h = refl
+least-same top f g (suc k) h = rw (h k (omega arith), least-same top f g k (λ i l. h i (omega arith)))

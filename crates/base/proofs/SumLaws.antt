@@ -1,13 +1,14 @@
--- Sums of a function's values: term by term, of two functions, in either order, and of a function that is 0 but at one place.
-use mathlib.Core.Bool.{cond}
+-- Sums of a function's values: term by term, of two functions, in either order, and of a function that is 0 but at one place; and what a sum is at least.
+use mathlib.Core.Bool.{Bool, true, cond}
 use mathlib.Core.Logic.{⊎-elim}
 use mathlib.Core.Path.{_≡_, refl, ap, sym, _∙_}
 use Prim.Native.Nat.{ℕ, zero, suc, _+_, _≤_, _<_}
-use native.Mathlib.Nat.{eq-or-lt-of-le, le-of-suc-le-suc}
+use native.Mathlib.Nat.{eq-or-lt-of-le, le-of-suc-le-suc, not-suc-le-zero}
 use native.Mathlib.Omega.{arith}
 use lib.Dec.{eqb}
 use borrow.Author.Tests.{eq-eqb, ne-eqb}
 use Rattle.base.specs.Tab.{sum}
+use Rattle.base.proofs.BoolLaws.{lt-or-ge}
 
 pub sum-same : (f g : ℕ → ℕ) (k : ℕ) → ((i : ℕ) → i < k → f i ≡ g i) → sum f k ≡ sum g k
 unfolding sum
@@ -48,3 +49,36 @@ sum-one g a (suc k) h =
     (λ (e : a ≡ k). rw (eq-eqb a k e) (omega (arith, sum-past g a k (omega arith), ap g e)))
     (λ (l : a < k). rw (ne-eqb a k (λ e. omega arith)) (omega (arith, sum-one g a k l)))
     (eq-or-lt-of-le (le-of-suc-le-suc h))
+
+-- sums keep an order, and no term is above the sum
+sum-le : (f g : ℕ → ℕ) (k : ℕ) → ((i : ℕ) → i < k → f i ≤ g i) → sum f k ≤ sum g k
+unfolding sum
+sum-le f g zero h = omega arith
+sum-le f g (suc k) h = omega (arith, h k (omega arith), sum-le f g k (λ i l. h i (omega arith)))
+
+term-le : (f : ℕ → ℕ) (k i : ℕ) → i < k → f i ≤ sum f k
+unfolding sum
+term-le f zero i h = absurd (not-suc-le-zero h)
+term-le f (suc k) i h =
+    ⊎-elim
+    (λ (e : i ≡ k). omega (arith, ap f e))
+    (λ (l : i < k). omega (arith, term-le f k i l))
+    (eq-or-lt-of-le (le-of-suc-le-suc h))
+
+-- k numbers, each of which is the value of f at one of the places below m that are counted
+pub no-more-than : (f : ℕ → ℕ) (b : ℕ → Bool) (m k : ℕ)
+    → ((a : ℕ) → a < k → (p : ℕ) × (p < m) × (b p ≡ true) × (f p ≡ a)) → k ≤ sum (λ p. cond (b p) 1 0) m
+no-more-than f b m k h =
+    let hits : ℕ → ℕ → ℕ = λ p a. cond (eqb (f p) a) (cond (b p) 1 0) 0 in
+    let each : sum (λ a. 1) k ≤ sum (λ a. sum (λ p. hits p a) m) k =
+    sum-le (λ a. 1) (λ a. sum (λ p. hits p a) m) k (λ a l.
+    let p = h a l in
+    let e : hits (p .0) a ≡ 1 = rw (eq-eqb (f (p .0)) a (p .3), p .2) in
+    omega (arith, e, term-le (λ p. hits p a) m (p .0) (p .1))) in
+    let once : sum (λ p. sum (hits p) k) m ≤ sum (λ p. cond (b p) 1 0) m =
+    sum-le (λ p. sum (hits p) k) (λ p. cond (b p) 1 0) m (λ p l.
+    ⊎-elim
+    (λ (s : f p < k). omega (arith, sum-one (λ a. cond (b p) 1 0) (f p) k s))
+    (λ (g : k ≤ f p). omega (arith, sum-past (λ a. cond (b p) 1 0) (f p) k g))
+    (lt-or-ge (f p) k)) in
+    omega (arith, sum-ones k, each, sum-swap hits m k, once)

@@ -14,9 +14,10 @@ use Rattle.table.specs.SheetA.{rasterA, tableA, fileA}
 use Rattle.neighbour.proofs.OnSheetA.{on-sheet-a}
 use Rattle.ground.specs.declared.Ground.{Ground}
 use Rattle.ground.proofs.CentreCall.{place, lent, on-A, moved, apart}
-use Rattle.sheet.specs.Calls.{Builds, Decodes, FindsNeighbour, FindsCornerLeaf, FindsDiagonalLeaf, FindsDistances, ReadsFile, WritesFile, FindsCentre}
+use Rattle.sheet.specs.Calls.{Builds, Decodes, FindsNeighbour, FindsCornerLeaf, FindsDiagonalLeaf, FindsDistances, FindsPonds, ReadsFile, WritesFile, FindsCentre}
 use Rattle.marked.proofs.Marked.{sheet-A}
 use Rattle.marked.proofs.Tied.{given, blank, tied}
+use Rattle.marked.proofs.PondsOnSheetA.{numbersA, ponds-on-A}
 
 -- a call on a node: its numbers, which always meet its statement
 module _ (number : ℕ → List ℕ → ℕ → ℕ → ℕ) (meets : (n : ℕ) (T : List ℕ) (p D : ℕ) → FindsNeighbour n T p D (number n T p D)) where
@@ -109,6 +110,38 @@ module _ (number : ℕ → List ℕ → List ℕ → ℕ) (after : ℕ → List 
     write-writes idle =
         let is : after 2 tableA (blank 32) ≡ fileA = meets 2 tableA (blank 32) .buffer ∙ sheet-A .written in
         omega (arith, ap (λ (l : List ℕ). getD l 0 0) (sym is ∙ idle 2 tableA (blank 32)))
+
+-- the ponds' call, which is lent two slices
+module _ (number : ℕ → List ℕ → List ℕ → List ℕ → ℕ) (numbers' reg' : ℕ → List ℕ → List ℕ → List ℕ → List ℕ)
+    (meets : (n : ℕ) (T numbers reg : List ℕ) → FindsPonds n T numbers reg (number n T numbers reg) (numbers' n T numbers reg) (reg' n T numbers reg)) where
+  -- sheet A, in nine words and twelve
+  two : number 2 tableA (blank 9) (blank 12) ≡ 256 * 2
+  two = ponds-on-A _ _ _ (meets 2 tableA (blank 9) (blank 12)) .0
+
+  numbers : numbers' 2 tableA (blank 9) (blank 12) ≡ numbersA
+  numbers = ponds-on-A _ _ _ (meets 2 tableA (blank 9) (blank 12)) .1
+
+  pub ponds-answers : ((n : ℕ) (T numbers reg : List ℕ) → number n T numbers reg % 256 ≡ 0 → ⊥) → ⊥
+  ponds-answers refuses = refuses 2 tableA (blank 9) (blank 12) (omega (arith, two))
+
+  -- it gives every black leaf one number, wherever it answers: the two ponds of the story as one
+  pub ponds-not-one : (v : ℕ)
+      → ((n : ℕ) (T numbers reg : List ℕ) → number n T numbers reg % 256 ≡ 0 → (p : ℕ) → p < nodes T → type T p ≡ black → getD (numbers' n T numbers reg) p 0 ≡ v) → ⊥
+  ponds-not-one v same =
+      let one = same 2 tableA (blank 9) (blank 12) (omega (arith, two)) in
+      let at : (p : ℕ) → getD (numbers' 2 tableA (blank 9) (blank 12)) p 0 ≡ getD numbersA p 0 = λ p. ap (λ (l : List ℕ). getD l p 0) numbers in
+      omega (arith, at 1, at 6, one 1 (omega arith) refl, one 6 (omega arith) refl)
+
+  -- it writes no number, or no entry
+  pub ponds-numbers : ((n : ℕ) (T numbers reg : List ℕ) → numbers' n T numbers reg ≡ numbers) → ⊥
+  unfolding tabFrom
+  ponds-numbers idle = omega (arith, ap (λ (l : List ℕ). getD l 0 0) (sym numbers ∙ idle 2 tableA (blank 9) (blank 12)))
+
+  pub ponds-register : ((n : ℕ) (T numbers reg : List ℕ) → reg' n T numbers reg ≡ reg) → ⊥
+  unfolding tabFrom
+  ponds-register idle =
+      let is = ponds-on-A _ _ _ (meets 2 tableA (blank 9) (blank 12)) .2 in
+      omega (arith, ap (λ (l : List ℕ). getD l 0 0) (sym is ∙ idle 2 tableA (blank 9) (blank 12)))
 
 module _ (number : List ℕ → List ℕ → ℕ) (after : List ℕ → List ℕ → List ℕ) (meets : (s before : List ℕ) → ReadsFile s before (number s before) (after s before)) where
   pub read-answers : ((s before : List ℕ) → number s before % 256 ≡ 0 → ⊥) → ⊥

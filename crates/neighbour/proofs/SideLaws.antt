@@ -1,12 +1,11 @@
 -- Leaves that share a length of side: the one that is not larger has the other as its neighbour on that side, and as the leaf at both ends of it.
 use mathlib.Core.Bool.{true, false}
-use mathlib.Core.List.{List, [], _∷_}
+use mathlib.Core.List.{List}
 use mathlib.Core.Logic.{_⊎_, inl, inr, ⊎-elim}
 use mathlib.Core.Path.{_≡_, refl, ap, sym, _∙_}
 use Prim.Native.Nat.{ℕ, zero, suc, _+_, _-_, _*_, _/_, _%_, _^_, _≤_, _<_}
 use native.Mathlib.Nat.{add-mul, div-div-eq-div-mul, div-add-mod', mod-lt, div-eq-of-lt-le}
 use native.Mathlib.Omega.{arith}
-use lib.ListN.{drop}
 use lib.Pow.{pow-pos, pow-lt}
 use Rattle.base.proofs.BoolLaws.{lt-or-ge}
 use Rattle.base.proofs.PowLaws.{pow-product, below-pow}
@@ -18,13 +17,11 @@ use Rattle.table.specs.Table.{isFork}
 use Rattle.table.specs.Rules.{depthTo, Accepted}
 use Rattle.table.specs.Nodes.{pathTo, holder, levelOf, sideOf}
 use Rattle.table.proofs.AcceptedLaws.{depth-le}
-use Rattle.table.proofs.NodeLaws.{holder-leaf}
 use Rattle.table.proofs.BlockLaws.{column-below, row-below}
-use Rattle.table.proofs.HolderLaws.{own-path, own-depth}
+use Rattle.table.proofs.HolderLaws.{own-depth, within-leaf}
 use Rattle.neighbour.specs.Neighbour.{neighbourOf, cornerLeafOf}
 use Rattle.neighbour.specs.Containing.{Contains, Touches}
 use Rattle.neighbour.proofs.CornerLaws.{side-on, beyond-leaf-neighbour}
-use Rattle.neighbour.proofs.SmallestLaws.{on-path}
 use Rattle.neighbour.proofs.FoundLaws.{besideNode}
 use Rattle.neighbour.proofs.NeighbourLaws.{lies-answers, neighbour-is, corner-is}
 
@@ -83,21 +80,9 @@ module _ (n : ℕ) (T : List ℕ) (acc : Accepted n T) where
         below-pow e (d - e) d y s (rw (i .down) (row-below n T acc m (c .node))),
       )
 
-  -- where the holder of a larger block is a leaf, it holds the smaller one too
-  upper-leaf : (k : ℕ) (π : List ℕ) → isFork T (holder T (drop k π)) ≡ false → holder T π ≡ holder T (drop k π)
-  upper-leaf zero π f = refl
-  upper-leaf (suc k) [] f = refl
-  upper-leaf (suc k) (q ∷ qs) f =
-      let ih = upper-leaf k qs f in
-      holder-leaf T q qs (rw ih f) ∙ ih
-
   -- a leaf that contains a block holds it
   pub leaf-holds : (m d x y : ℕ) → Contains n T m d x y → isFork T m ≡ false → holder T (pathOf d x y) ≡ m
-  leaf-holds m d x y c f =
-      let s = on-sheet m d x y c in
-      let k : ℕ = d - depthTo T n m in
-      let e : holder T (drop k (pathOf d x y)) ≡ m = ap (holder T) (sym (on-path n T acc d x y (s .0) (s .1) m c)) ∙ own-path n T acc m (c .node) in
-      upper-leaf k (pathOf d x y) (rw e f) ∙ e
+  leaf-holds m d x y c f = within-leaf n T acc m d x y (c .node) f (c .inside .large) (c .inside .across) (c .inside .down)
 
 -- two leaves, p and m, that share a length of p's side D, p being not the larger
 module _

@@ -4,6 +4,7 @@ pub mod PathLaws
 pub mod OneNumbering
 pub mod FewPonds
 pub mod CallLaws
+pub mod PictureLaws
 pub mod CountedLaws
 pub mod RowLaws
 pub mod SettledLaws

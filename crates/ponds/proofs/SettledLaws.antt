@@ -16,8 +16,9 @@ use Rattle.base.proofs.CaseLaws.{cond-case}
 use Rattle.quad.specs.Numbers.{black}
 use Rattle.table.specs.Table.{nodes, type}
 use Rattle.table.specs.Rules.{Accepted}
-use Rattle.joins.specs.Chain.{Water, Chain, end, link}
+use Rattle.joins.specs.Chain.{Water}
 use Rattle.joins.specs.Led.{wordOf, Led}
+use Rattle.joins.proofs.ChainLaws.{chain-start, chain-end}
 use Rattle.register.specs.Entries.{leafAt, numberAt}
 use Rattle.ponds.specs.Numbered.{Numbered}
 use Rattle.ponds.specs.Counted.{leadOf, Marked, Counted, Counting, numberOf, Tells, settledAt, Settles, Settled}
@@ -86,15 +87,6 @@ module _ (T B W : List ℕ) (p : ℕ) (t : Tells T B) (lt : p < nodes T) (s : Se
       (λ e. settled-black (eqb-true (type T p) black e))
       (λ e. settled-dry (eqb-false (type T p) black e))
 
--- the ends of a chain are black leaves
-chain-end : {n : ℕ} {T : List ℕ} {p q : ℕ} → Chain n T p q → Water T q
-chain-end (end w) = w
-chain-end (link w s c) = chain-end c
-
-chain-start : {n : ℕ} {T : List ℕ} {p q : ℕ} → Chain n T p q → Water T p
-chain-start (end w) = w
-chain-start (link w s c) = w
-
 -- when all pixels are passed
 module _ (n : ℕ) (T first W : List ℕ) (k : ℕ) (acc : Accepted n T) (led : Led n T first) (c : Counted n T first W (4 ^ n) k) where
   -- each black leaf's leader has a number
@@ -151,7 +143,7 @@ module _ (n : ℕ) (T first W : List ℕ) (k : ℕ) (acc : Accepted n T) (led : 
       some = λ p w. omega (arith, water-word p w, has-number p w .some);
       few = λ p w. omega (arith, water-word p w, has-number p w .few);
       one = λ p q ch.
-          omega (arith, water-word p (chain-start ch), water-word q (chain-end ch), ap (wordOf W) (led .one p q ch));
+          omega (arith, water-word p (chain-start n T p q ch), water-word q (chain-end n T p q ch), ap (wordOf W) (led .one p q ch));
       apart = λ p q wp wq e.
           let a = has-number p wp in
           let m : wordOf W (wordOf first p) ≡ wordOf W (wordOf first q) = omega (arith, water-word p wp, water-word q wq) in

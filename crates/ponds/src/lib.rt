@@ -13,9 +13,6 @@ ghost use Rattle.ponds.specs.Numbered.{Numbered};
 ghost use Rattle.ponds.specs.Counted.{leadOf, Meets, Met, Counting, startOf, Crossed, settledAt, Settles, Tells, Settled};
 ghost use Rattle.ponds.specs.Calls.{blackLeaves, pondsTest, FindsInWords};
 
-// The type of a black leaf.
-const BLACK: usize = 1;
-
 // The leader that the words tell of a black leaf p.
 fn leader(words: &[u32], p: usize) -> usize
     requires { ⌜ p < length (now words) ⌝ }
@@ -33,7 +30,7 @@ fn meet(table: &[u32], words: &mut [u32], p: usize, count: u32) -> u32
     requires { ⌜ Meets (now table) (now words) p count ⌝ }
     ensures { λ r. ⌜ Met (now (table .entry)) (now (words .entry)) p count r (now (words .exit)) ⌝ }
 {
-    if word_at(table, p, 5) != BLACK {
+    if word_at(table, p, 5) != quad::BLACK {
         return count;
     }
     let l = leader(words, p);
@@ -89,7 +86,7 @@ fn settle_at(table: &[u32], words: &mut [u32], p: usize)
     requires { ⌜ Settles (now table) (now words) p ⌝ }
     ensures { λ _. ⌜ now (words .exit) ≡ settledAt (now (table .entry)) (now (words .entry)) p ⌝ }
 {
-    if word_at(table, p, 5) != BLACK {
+    if word_at(table, p, 5) != quad::BLACK {
         return;
     }
     let l = leader(words, p);
@@ -123,7 +120,7 @@ fn black(table: &[u32], p: usize) -> usize
     requires { ⌜ p < nodes (now table) ⌝ }
     ensures { λ r. ⌜ r ≡ one (eqb (type (now (table .entry)) p) black) ⌝ }
 {
-    if word_at(table, p, 5) == BLACK {
+    if word_at(table, p, 5) == quad::BLACK {
         return 1;
     }
     0

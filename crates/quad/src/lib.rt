@@ -13,6 +13,8 @@ pub const MAX_WORDS: usize = 131070;
 // The types of a node are 0, white, to this, black, and a fork's.
 pub const TOP_COLOUR: usize = 1;
 
+pub const BLACK: usize = 1;
+
 pub const FORK: usize = 2;
 
 // "None", where a word names no node.

@@ -3,12 +3,14 @@
 use mathlib.Core.Bool.{true, false, true≢false}
 use mathlib.Core.List.{List, [], _∷_}
 use mathlib.Core.Logic.{⊎-elim}
-use mathlib.Core.Path.{_≡_, ap, sym, _∙_}
-use Prim.Native.Nat.{ℕ, suc, _-_, _≤_, _<_}
+use mathlib.Core.Path.{_≡_, refl, ap, sym, _∙_}
+use Prim.Native.Nat.{ℕ, zero, suc, _-_, _/_, _^_, _≤_, _<_}
 use native.Mathlib.Omega.{arith}
 use lib.ListN.{length, drop}
 use Rattle.base.proofs.BoolLaws.{by-bool}
-use Rattle.quad.specs.Block.{Quadrants}
+use Rattle.quad.specs.Block.{Quadrants, pathOf, column, row}
+use Rattle.quad.proofs.PathLaws.{path-back}
+use Rattle.quad.proofs.UpperLaws.{path-drop}
 use Rattle.table.specs.Table.{nodes, father, son, isFork}
 use Rattle.table.specs.Rules.{depthTo, Accepted}
 use Rattle.table.specs.Nodes.{sonType, pathTo, holder, Real}
@@ -97,3 +99,22 @@ module _ (n : ℕ) (T : List ℕ) (acc : Accepted n T) where
 
   pub own-depth : (p : ℕ) → p < nodes T → length (pathTo T n p) ≡ depthTo T n p
   own-depth p lt = path-of n T acc p lt .size
+
+  -- where the holder of a larger block is a leaf, it holds the smaller one too
+  upper-leaf : (k : ℕ) (π : List ℕ) → isFork T (holder T (drop k π)) ≡ false → holder T π ≡ holder T (drop k π)
+  upper-leaf zero π f = refl
+  upper-leaf (suc k) [] f = refl
+  upper-leaf (suc k) (q ∷ qs) f =
+      let ih = upper-leaf k qs f in
+      holder-leaf T q qs (rw ih f) ∙ ih
+
+  -- so a leaf holds every block (x, y) of depth d that lies within its own
+  pub within-leaf : (p d x y : ℕ) → p < nodes T → isFork T p ≡ false → depthTo T n p ≤ d
+      → x / 2 ^ (d - depthTo T n p) ≡ column (pathTo T n p) → y / 2 ^ (d - depthTo T n p) ≡ row (pathTo T n p) → holder T (pathOf d x y) ≡ p
+  within-leaf p d x y lt f le ex ey =
+      let k : ℕ = d - depthTo T n p in
+      let s : d - (d - depthTo T n p) ≡ length (pathTo T n p) = omega (arith, own-depth p lt) in
+      let e : drop k (pathOf d x y) ≡ pathTo T n p =
+      path-drop k d x y (omega arith) ∙ rw (s, ex, ey) (path-back (pathTo T n p) (own-quadrants p lt)) in
+      let ends : holder T (drop k (pathOf d x y)) ≡ p = ap (holder T) e ∙ own-path p lt in
+      upper-leaf k (pathOf d x y) (rw ends f) ∙ ends
