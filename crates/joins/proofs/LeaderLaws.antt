@@ -4,8 +4,9 @@ use mathlib.Core.Bool.{cond}
 use mathlib.Core.List.{List}
 use mathlib.Core.Logic.{⊎-elim}
 use mathlib.Core.Path.{_≡_, refl, ap, sym, _∙_}
-use Prim.Native.Nat.{ℕ, zero, suc, _≤_, _<_}
-use native.Mathlib.Nat.{eq-or-lt-of-le}
+use Prim.Native.Nat.{ℕ, zero, suc, _+_, _≤_, _<_}
+use native.Mathlib.Nat.{eq-or-lt-of-le, le-of-suc-le-suc}
+use native.Mathlib.Numerals.{add-one}
 use native.Mathlib.Omega.{arith}
 use lib.Dec.{eqb}
 use lib.ListN.{length, set, length-set}
@@ -18,9 +19,13 @@ use Rattle.joins.specs.Led.{wordOf}
 use Rattle.joins.specs.Joining.{onward, leaderOf, Falling, Linked, Kept, Joined}
 use Rattle.joins.proofs.ChainLaws.{chain-start, chain-end, chain-joined, chain-back}
 
--- of two nodes: one, or not
+-- two nodes are one, or not
 pub same-or-not : {A : Type 0} (i j : ℕ) → (i ≡ j → A) → ((i ≡ j → ⊥) → A) → A
 same-or-not i j f g = ⊎-elim (λ e. f (eqb-true i j e)) (λ e. g (eqb-false i j e)) (by-bool (eqb i j))
+
+-- one of the nodes up to k is k, or before it
+pub last-or-before : {A : Type 0} (i k : ℕ) → i < k + 1 → (i ≡ k → A) → (i < k → A) → A
+last-or-before i k l f g = ⊎-elim f g (eq-or-lt-of-le (le-of-suc-le-suc (rw (add-one k) at l)))
 
 module _ (W : List ℕ) where
   onward-own : (k i : ℕ) → wordOf W i ≡ i → onward W k i ≡ i
@@ -41,6 +46,11 @@ module _ (W : List ℕ) where
   unfolding leaderOf
   leader-low low i = onward-low low i i
 
+  onward-last : (k i : ℕ) → onward W (suc k) i ≡ wordOf W (onward W k i)
+  unfolding onward
+  onward-last zero i = refl
+  onward-last (suc k) i = onward-last k (wordOf W i)
+
   -- what stays the same along the words
   onward-same : (f : ℕ → ℕ) → ((i : ℕ) → f (wordOf W i) ≡ f i) → (k i : ℕ) → f (onward W k i) ≡ f i
   unfolding onward
@@ -48,19 +58,7 @@ module _ (W : List ℕ) where
   onward-same f on (suc k) i = onward-same f on k (wordOf W i) ∙ on i
 
   module _ (low : Falling W) where
-    -- the words end after as many steps as the node's number
-    onward-ends : (k i : ℕ) → i ≤ k → wordOf W (onward W k i) ≡ onward W k i
-    unfolding onward
-    onward-ends zero i h = omega (arith, low i)
-    onward-ends (suc k) i h =
-        ⊎-elim
-        (λ (l : wordOf W i < suc k). onward-ends k (wordOf W i) (omega arith))
-        (λ (g : suc k ≤ wordOf W i).
-        let e : wordOf W i ≡ i = omega (arith, low i) in
-        rw (ap (onward W k) e, onward-own k i e) e)
-        (lt-or-ge (wordOf W i) (suc k))
-
-    -- one more leads no further, and no more are needed
+    -- as many words as the node's number lead to the end: one more leads no further
     onward-steady : (k i : ℕ) → i ≤ k → onward W (suc k) i ≡ onward W k i
     unfolding onward
     onward-steady zero i h = omega (arith, low i)
@@ -85,7 +83,7 @@ module _ (W : List ℕ) where
 
     pub leader-ends : (i : ℕ) → wordOf W (leaderOf W i) ≡ leaderOf W i
     unfolding leaderOf
-    leader-ends i = onward-ends i i (omega arith)
+    leader-ends i = sym (onward-last i i) ∙ onward-steady i i (omega arith)
 
     -- such a function is the leader
     pub leader-is : (f : ℕ → ℕ) → ((i : ℕ) → f (wordOf W i) ≡ f i) → ((i : ℕ) → wordOf W i ≡ i → f i ≡ i) → (i : ℕ) → leaderOf W i ≡ f i
@@ -109,13 +107,24 @@ changed W a v h = record {
   others = λ i ne. getD-set-other W a i v 0 ne;
 }
 
+-- one word changed to one that is not above it, and that a chain joins to the node
+module _ (W W' : List ℕ) (a v : ℕ) (c : Changed W W' a v) where
+  changed-less : v ≤ wordOf W a → (i : ℕ) → wordOf W' i ≤ wordOf W i
+  changed-less le i =
+      same-or-not i a
+      (λ e. rw (e, c .here) le)
+      (λ ne. omega (arith, c .others i ne))
+
+  changed-linked : (n : ℕ) (T : List ℕ) → (Water T a → Chain n T a v) → Linked n T W → Linked n T W'
+  changed-linked n T d l i w =
+      same-or-not i a
+      (λ e. rw (e, c .here) (d (rw e at w)))
+      (λ ne. rw (c .others i ne) (l i w))
+
 -- the word of a becomes its word's word
 module _ (W W' : List ℕ) (a : ℕ) (low : Falling W) (c : Changed W W' a (wordOf W (wordOf W a))) where
   less : (i : ℕ) → wordOf W' i ≤ wordOf W i
-  less i =
-      same-or-not i a
-      (λ e. rw (e, c .here) (low (wordOf W a)))
-      (λ ne. omega (arith, c .others i ne))
+  less = changed-less W W' a (wordOf W (wordOf W a)) c (low (wordOf W a))
 
   pub halved : Kept W W'
   halved = record {
@@ -127,15 +136,12 @@ module _ (W W' : List ℕ) (a : ℕ) (low : Falling W) (c : Changed W W' a (word
         (λ e. rw (e, c .here) (leader-on W low (wordOf W a) ∙ leader-on W low a))
         (λ ne. rw (c .others i ne) (leader-on W low i)))
         (λ i own. leader-own W i (omega (arith, less i, low i)));
-    linked = λ n T l i w.
-        same-or-not i a
-        (λ e.
-        let d = l i w in
-        let f = l (wordOf W i) (chain-end n T i (wordOf W i) d) in
-        let g = chain-joined n T i (wordOf W i) (wordOf W (wordOf W i)) d f in
-        let h : wordOf W' i ≡ wordOf W (wordOf W i) = rw e (c .here) in
-        rw h g)
-        (λ ne. rw (c .others i ne) (l i w));
+    linked = λ n T l.
+        changed-linked W W' a (wordOf W (wordOf W a)) c n T
+        (λ w.
+        let d = l a w in
+        chain-joined n T a (wordOf W a) (wordOf W (wordOf W a)) d (l (wordOf W a) (chain-end n T a (wordOf W a) d)))
+        l;
   }
 
 pub kept-all : (W : List ℕ) → Kept W W
@@ -175,10 +181,7 @@ module _ (W W' : List ℕ) (a b : ℕ) (low : Falling W) (ea : wordOf W a ≡ a)
   under-a = rw (eq-eqb a a refl)
 
   lower : (i : ℕ) → wordOf W' i ≤ wordOf W i
-  lower i =
-      same-or-not i a
-      (λ e. rw (e, c .here, ea) le)
-      (λ ne. omega (arith, c .others i ne))
+  lower = changed-less W W' a b c (omega (arith, ea))
 
   leader-under : (i : ℕ) → leaderOf W' i ≡ under (leaderOf W i)
   leader-under =
@@ -203,14 +206,13 @@ module _ (W W' : List ℕ) (a b : ℕ) (low : Falling W) (ea : wordOf W a ≡ a)
     less = lower;
     together = λ i j e. leader-under i ∙ ap under e ∙ sym (leader-under j);
     one = leader-under p ∙ ap under ep ∙ under-a ∙ sym (leader-under q ∙ ap under eq ∙ under-b);
-    linked = λ n T d l i w.
-        same-or-not i a
-        (λ e.
+    linked = λ n T d l.
+        changed-linked W W' a b c n T
+        (λ w.
         let f : Chain n T p a = rw ep at (chain-leader n T W l p (chain-start n T p q d)) in
         let g : Chain n T q b = rw eq at (chain-leader n T W l q (chain-end n T p q d)) in
-        let h : Chain n T a b = chain-joined n T a p b (chain-back n T p a f) (chain-joined n T p q b d g) in
-        rw (e, c .here) h)
-        (λ ne. rw (c .others i ne) (l i w));
+        chain-joined n T a p b (chain-back n T p a f) (chain-joined n T p q b d g))
+        l;
   }
 
 -- p and q change places

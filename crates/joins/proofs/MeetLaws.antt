@@ -1,10 +1,7 @@
 -- A black leaf meets its neighbours: what a look beyond a side leaves, in the code's own values. What has been met stays so while more is joined.
 use mathlib.Core.List.{List}
-use mathlib.Core.Logic.{⊎-elim}
 use mathlib.Core.Path.{_≡_, ap, sym, _∙_}
 use Prim.Native.Nat.{ℕ, _+_, _≤_, _<_}
-use native.Mathlib.Nat.{eq-or-lt-of-le, le-of-suc-le-suc}
-use native.Mathlib.Numerals.{add-one}
 use native.Mathlib.Omega.{arith}
 use Rattle.quad.specs.Numbers.{black}
 use Rattle.table.specs.Table.{nodes, type}
@@ -17,6 +14,7 @@ use Rattle.neighbour.specs.Search.{neighbourFound}
 use Rattle.neighbour.proofs.FoundLaws.{found-facts}
 use Rattle.joins.specs.Chain.{Water, Chain, end, link}
 use Rattle.joins.specs.Joining.{Together, Joined, Wired, Further, Beside, Met, MetSides, MetAll}
+use Rattle.joins.proofs.LeaderLaws.{last-or-before}
 use Rattle.joins.proofs.ShareLaws.{water-leaf, found-shares}
 
 pub further-none : (n : ℕ) (T W : List ℕ) → Wired n T W → Further n T W W
@@ -97,10 +95,9 @@ module _ (n : ℕ) (T W₀ W : List ℕ) (p k : ℕ) (h : Looked n T W₀ W p k)
     low = omega arith;
     further = further-on n T W₀ W W' (h .further) (a .0);
     met = λ D l.
-        ⊎-elim
-        (λ (e : D ≡ k). rw e (a .1))
-        (λ (g : D < k). met-still n T W W' p D (a .0 .together) (h .met D g))
-        (eq-or-lt-of-le (le-of-suc-le-suc (rw (add-one k) at l)));
+        last-or-before D k l
+        (λ e. rw e (a .1))
+        (λ g. met-still n T W W' p D (a .0 .together) (h .met D g));
   }
 
   pub looked-all : 4 ≤ k → MetSides n T W p 4
@@ -109,7 +106,6 @@ module _ (n : ℕ) (T W₀ W : List ℕ) (p k : ℕ) (h : Looked n T W₀ W p k)
 -- the sides of one node more
 pub met-more : (n : ℕ) (T W W' : List ℕ) (p : ℕ) → MetAll n T W p → Further n T W W' × MetSides n T W' p 4 → MetAll n T W' (p + 1)
 met-more n T W W' p h a i l =
-    ⊎-elim
-    (λ (e : i ≡ p). rw e (a .1))
-    (λ (g : i < p) v D s. met-still n T W W' i D (a .0 .together) (h i g v D s))
-    (eq-or-lt-of-le (le-of-suc-le-suc (rw (add-one p) at l)))
+    last-or-before i p l
+    (λ e. rw e (a .1))
+    (λ g v D s. met-still n T W W' i D (a .0 .together) (h i g v D s))

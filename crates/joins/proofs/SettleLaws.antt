@@ -3,13 +3,12 @@ use mathlib.Core.List.{List}
 use mathlib.Core.Logic.{⊎-elim}
 use mathlib.Core.Path.{_≡_, sym, _∙_}
 use Prim.Native.Nat.{ℕ, _+_, _≤_, _<_}
-use native.Mathlib.Nat.{eq-or-lt-of-le, le-of-suc-le-suc}
-use native.Mathlib.Numerals.{add-one}
+use native.Mathlib.Nat.{eq-or-lt-of-le}
 use native.Mathlib.Omega.{arith}
 use lib.ListN.{length, set}
 use Rattle.joins.specs.Led.{wordOf}
 use Rattle.joins.specs.Joining.{leaderOf, Falling, Kept, Settled}
-use Rattle.joins.proofs.LeaderLaws.{leader-own, leader-on, changed, halved, kept-all, kept-on, kept-falling}
+use Rattle.joins.proofs.LeaderLaws.{last-or-before, leader-own, leader-on, changed, halved, kept-all, kept-on, kept-falling}
 
 -- the words before p are leaders
 pub record SettledTo (W₀ W : List ℕ) (p : ℕ) : Type 0 where
@@ -43,10 +42,9 @@ module _ (W₀ W : List ℕ) (p : ℕ) (falls : Falling W₀) (s : SettledTo W�
         kept = kept-on W₀ W (set W p (wordOf W (wordOf W p))) (s .kept) k;
         low = omega (arith, s .kept .long);
         words = λ i l.
-            ⊎-elim
-            (λ (e : i ≡ p). rw e (c .here ∙ leads))
-            (λ (h : i < p). c .others i (λ e. omega arith) ∙ s .words i h)
-            (eq-or-lt-of-le (le-of-suc-le-suc (rw (add-one p) at l)));
+            last-or-before i p l
+            (λ e. rw e (c .here ∙ leads))
+            (λ h. c .others i (λ e. omega arith) ∙ s .words i h);
       }
 
   pub settled-all : length W ≤ p → Settled W₀ W

@@ -17,7 +17,9 @@ word-at-requires : tie.Need-word-at-requires Inv-loop μ-loop
 word-at-requires c κs = search needs
 
 returns : tie.Need-returns Inv-loop μ-loop
-returns c = (further-none _ _ _ (c .before .before .before .before .pre .2), sides-dry _ _ _ _ _ (c .before .word-at .ensures) (λ e. omega (arith, c .if1 .taken)))
+returns c =
+    let w = c .before .before .before .before .pre .2 in
+    (further-none _ _ _ w, sides-dry _ _ _ _ _ (c .before .word-at .ensures) (λ e. omega (arith, c .if1 .taken)))
 
 depth-to-requires : tie.Need-depth-to-requires Inv-loop μ-loop
 depth-to-requires c κs = search (rising, needs)
