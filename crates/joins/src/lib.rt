@@ -17,7 +17,7 @@ fn own(table: &[u32], p: usize) -> u32
     requires { ⌜ (p < nodes (now table)) × (length (now table) ≤ maxWords) ⌝ }
     ensures { λ r. ⌜ r ≡ ownOf (now (table .entry)) p ⌝ }
 {
-    if word_at(table, p, 5) == 1 {
+    if word_at(table, p, 5) == quad::BLACK {
         return p as u32;
     }
     0
@@ -74,7 +74,7 @@ fn across(n: u32, table: &[u32], words: &mut [u32], p: usize, level: u32, side: 
         return;
     };
     let kind = word_at(table, node, 5);
-    if kind == 1 {
+    if kind == quad::BLACK {
         join(words, p as u32, node as u32);
     }
 }
@@ -84,7 +84,7 @@ fn around(n: u32, table: &[u32], words: &mut [u32], p: usize)
     requires { ⌜ Accepted n (now table) × (p < nodes (now table)) × Wired n (now table) (now words) ⌝ }
     ensures { λ _. ⌜ Further n (now (table .entry)) (now (words .entry)) (now (words .exit)) × MetSides n (now (table .entry)) (now (words .exit)) p 4 ⌝ }
 {
-    if word_at(table, p, 5) != 1 {
+    if word_at(table, p, 5) != quad::BLACK {
         return;
     }
     let level = n - table::depth_to(table, n, p);

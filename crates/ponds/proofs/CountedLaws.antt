@@ -19,7 +19,7 @@ use Rattle.joins.specs.Chain.{Water}
 use Rattle.joins.specs.Led.{wordOf, Led}
 use Rattle.register.specs.Entries.{leafAt}
 use Rattle.ponds.specs.Counted.{leadOf, metCount, metWords, markAt, Marked, Shown, Counted}
-use Rattle.ponds.proofs.FewPonds.{no-more-than}
+use Rattle.base.proofs.SumLaws.{no-more-than}
 
 -- an earlier pixel is before a later one too
 shown-on : {n : ℕ} {T first W : List ℕ} {a : ℕ} (i k : ℕ) → i ≤ k → Shown n T first W i a → Shown n T first W k a
