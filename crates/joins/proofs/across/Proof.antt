@@ -1,6 +1,8 @@
 -- `joins::across`: the neighbour on a side; where it is a black leaf, the two are joined. Assumes nothing.
+use mathlib.Core.Path.{_≡_}
 use native.Mathlib.Omega.{arith}
 use borrow.Author.Needs.{needs}
+use Rattle.quad.specs.Numbers.{black}
 use Rattle.joins.proofs.MeetLaws.{further-none, found-below, met-off, met-other, met-black, further-black}
 use Rattle.joins.proofs.across.Statement.{statement}
 use Rattle.joins.proofs.across.Tie as tie
@@ -41,7 +43,10 @@ same-length : tie.Need-same-length
 same-length c = search needs
 
 returns-2 : tie.Need-returns-2
-returns-2 c = search (further-black, met-black, needs)
+returns-2 c =
+    let f = c .before .before .before .before in
+    let b : f .before .word-at .result ≡ black = omega (arith, f .if1 .taken) in
+    search (further-black, met-black, needs)
 
 returns-3 : tie.Need-returns-3
 returns-3 c = search (further-none, met-other, needs)
