@@ -12,6 +12,7 @@ use lib.Pow.{pow-pos, low, high}
 use borrow.Author.Tests.{eq-eqb, eqb-true}
 use Rattle.base.specs.Tab.{sum}
 use Rattle.base.proofs.BoolLaws.{by-bool, and-left, and-right, and-both, same-tests}
+use Rattle.base.proofs.CaseLaws.{cond-and}
 use Rattle.base.proofs.PowLaws.{pow-product, four-pow}
 use Rattle.base.proofs.SumLaws.{sum-same}
 use Rattle.quad.specs.Block.{pathOf, column, row}
@@ -26,10 +27,6 @@ use Rattle.table.proofs.HolderLaws.{held, own-quadrants, own-path, own-depth}
 use Rattle.table.proofs.BlockLaws.{column-below, row-below}
 use Rattle.register.specs.Entries.{leafAt}
 use Rattle.base.proofs.RasterSums.{block-sum}
-
-cond-and : (a b : Bool) (v w : ℕ) → cond (a && b) v w ≡ cond a (cond b v w) w
-cond-and true b v w = refl
-cond-and false b v w = refl
 
 -- below a leaf's path its leaf stays
 stays : (T : List ℕ) (l : ℕ) (π : List ℕ) → isFork T (holder T (drop l π)) ≡ false → holder T π ≡ holder T (drop l π)
@@ -52,7 +49,10 @@ module _ (n : ℕ) (T : List ℕ) (acc : Accepted n T) where
       let size = path-length n x y in
       record {
         below = h .below;
-        leaf = ⊎-elim (λ (f : isFork T (holder T π) ≡ true). absurd (omega (arith, h .full f, fork-deep n T acc (holder T π) (h .below) f))) (λ f. f) (by-bool (isFork T (holder T π)));
+        leaf = ⊎-elim
+            (λ (f : isFork T (holder T π) ≡ true). absurd (omega (arith, h .full f, fork-deep n T acc (holder T π) (h .below) f)))
+            (λ f. f)
+            (by-bool (isFork T (holder T π)));
         across = ap column (rw size at (h .path)) ∙ (column-drop (levelOf n T (holder T π)) π ∙ rw (path-column n x y lx));
         down = ap row (rw size at (h .path)) ∙ (row-drop (levelOf n T (holder T π)) π (path-quadrants n x y) ∙ rw (path-row n x y ly));
       }
@@ -99,7 +99,12 @@ module _ (n : ℕ) (T : List ℕ) (acc : Accepted n T) where
           (λ e.
           eq-eqb (leafAt n T i) p
           (leaf-holds (i % 2 ^ n) (i / 2 ^ n) p
-          (record { below = lt; leaf = f; across = eqb-true _ _ (and-right (on-row i) (on-column i) e); down = eqb-true _ _ (and-left (on-row i) (on-column i) e) })))
+          (record {
+            below = lt;
+            leaf = f;
+            across = eqb-true _ _ (and-right (on-row i) (on-column i) e);
+            down = eqb-true _ _ (and-left (on-row i) (on-column i) e);
+          })))
 
       pub leaf-sum : (v : ℕ) → sum (λ i. cond (eqb (leafAt n T i) p) v 0) (4 ^ n) ≡ sideOf n T p * sideOf n T p * v
       unfolding on-row on-column
