@@ -1,4 +1,5 @@
--- What walks by hand share, of functions that hold a lent register: a loop that counts up, locals by the list, statements about one local, and calls whose `ensures` is a plain fact.
+-- What walks by hand share, of functions that hold a lent register: a loop that counts up, locals by the list, statements about one local, and calls whose
+-- `ensures` is a plain fact.
 use mathlib.Core.List.{List, [], _∷_}
 use mathlib.Core.Path.{_≡_}
 use mathlib.Core.WellFounded.{WellFounded, InvImage·wf}
@@ -82,11 +83,11 @@ module _ {M : Type 1} {𝓤 : URA M} {H : Heap 𝓤} {A : Atoms 𝓤} {K : Type 
         → ((r : Res (S .signature) (y .0 .0)) → ent 𝓤 (ensured 𝓤 H A S c (y .0 .0) (y .0 .3) (y .1) r) (fact 𝓤 (φ r)))
         → Opds K W (raw (tripleOf 𝓤 H A (S .signature) (closing 𝓤 H A S c) .pre y) ∷ Γ) E xs (tripleOf 𝓤 H A (S .signature) (closing 𝓤 H A S c) .args y)
         → ((v : Val) (r : Res (S .signature) (y .0 .0)) → φ r → Is (typeAt (S .signature .result) (y .0 .0)) r (v ∷ [])
-            → Seq K W (raw (alive 𝓤 H A (S .signature) (y .0 .0) (y .0 .1)) ∷ Γ) (lands C Λ E d v rest q))
+        → Seq K W (raw (alive 𝓤 H A (S .signature) (y .0 .0) (y .0 .1)) ∷ Γ) (lands C Λ E d v rest q))
         → Seq K W (raw (tripleOf 𝓤 H A (S .signature) (closing 𝓤 H A S c) .pre y) ∷ Γ) (runs C Λ E (seq (call f xs d) rest) q)
     asks t fm S c met y φ told os k =
         let R = typeAt (S .signature .result) (y .0 .0) in
         calls-at t fm (tripleOf 𝓤 H A (S .signature) (closing 𝓤 H A S c)) met y os (λ v.
         use1 W (later (some (λ (r : Res (S .signature) (y .0 .0)). (raw (alive 𝓤 H A (S .signature) (y .0 .0) (y .0 .1)) ⊛ ‵ (R .own r (v ∷ [])))
-          ⊛ raw (ensured 𝓤 H A S c (y .0 .0) (y .0 .3) (y .1) r)))) (id⊢ 𝓤 _) $ await t tt $ pick t (λ r. split t $ move t (1 ∷ []) $
+        ⊛ raw (ensured 𝓤 H A S c (y .0 .0) (y .0 .3) (y .1) r)))) (id⊢ 𝓤 _) $ await t tt $ pick t (λ r. split t $ move t (1 ∷ []) $
         use1 W (raw (fact 𝓤 (φ r))) (told r) $ heard t (φ r) (λ is. split t $ move t (1 ∷ []) $ facts t R (Is R) (shows 𝓤 H A R) r (v ∷ []) (λ g. k v r is g))))
