@@ -3,5 +3,6 @@ pub mod GatheredLaws
 pub mod LeafPixels
 pub mod EntryLaws
 pub mod CountsSum
+pub mod WordLaws
 pub mod SliceLaws
 pub mod WalkLaws

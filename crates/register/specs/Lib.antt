@@ -1,2 +1,3 @@
 pub mod Entries
 pub mod Gathered
+pub mod Words
