@@ -94,7 +94,8 @@ module _ (n : ℕ) (table numbers : List ℕ) (count : ℕ) (before : List Pond)
     long : j < length es
     long = rw (gatherings-length n table numbers p count 1) h
 
-    pub filled-more : (r : Pond) → getD numbers p 0 ≡ suc j → r ≡ grownOf (getD (filled p) j emptyPond) (blockOf n table p) → set (filled p) j r ≡ filled (p + 1)
+    pub filled-more : (r : Pond) → getD numbers p 0 ≡ suc j → r ≡ grownOf (getD (filled p) j emptyPond) (blockOf n table p)
+        → set (filled p) j r ≡ filled (p + 1)
     unfolding filled
     filled-more r is f =
         let rest : List Pond = drop (length es) before in
@@ -103,4 +104,5 @@ module _ (n : ℕ) (table numbers : List ℕ) (count : ℕ) (before : List Pond)
     pub filled-fits : Numbers n table numbers count → p < nodes table → Fitting (getD (filled p) j emptyPond) (blockOf n table p)
     unfolding filled
     filled-fits s b =
-        rw (front es (drop (length es) before) j emptyPond long, gatherings-at n table numbers p count 1 j emptyPond h) (gathered-fits n table numbers count s (1 + j) p b)
+        rw (front es (drop (length es) before) j emptyPond long, gatherings-at n table numbers p count 1 j emptyPond h)
+        (gathered-fits n table numbers count s (1 + j) p b)

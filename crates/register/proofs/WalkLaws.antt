@@ -25,7 +25,7 @@ use denote.Triple.Call.{calls-at}
 use denote.Triple.Entry.{Res, alive}
 use denote.Triple.Spec.{tripleOf}
 use denote.Triple.Statement.{Triple}
-use denote.Triple.Clauses.{Clauses, Ended, ensured, closing}
+use denote.Triple.Clauses.{Clauses, Ended, Lasts, atExit, lasts, closing}
 
 -- ---- a loop that counts up to n
 abbrev pub Upto : ℕ → Type 0
@@ -70,24 +70,30 @@ module _ {M : Type 1} {𝓤 : URA M} {H : Heap 𝓤} {A : Atoms 𝓤} {K : Type 
 
   module _ {C : Calls 𝓤 H} {Λ : Loops 𝓤 H} {q : Post 𝓤 H} {rest : Body} where
     -- it is room, and is given its first value
-    pub begins : K → (m : ℕ) {i : ℕ} {rv : Rv} {v : Val} → Gives K W Γ E rv v → nth 𝓤 H A m Γ ≡ ‵ (froom (spotOf 𝓤 H E i .0) (spotOf 𝓤 H E i .1) (spotOf 𝓤 H E i .2))
+    pub begins : K → (m : ℕ) {i : ℕ} {rv : Rv} {v : Val} → Gives K W Γ E rv v
+        → nth 𝓤 H A m Γ ≡ ‵ (froom (spotOf 𝓤 H E i .0) (spotOf 𝓤 H E i .1) (spotOf 𝓤 H E i .2))
         → T (hasTy (spotOf 𝓤 H E i .0) v) × WT v
         → Step K W (put 𝓤 H A m (‵ (fat fullShare (spotOf 𝓤 H E i .0) (spotOf 𝓤 H E i .1) (spotOf 𝓤 H E i .2) v)) Γ) (runs C Λ E rest q)
         Γ (runs C Λ E (seq (assign (place i []) rv) rest) q)
     begins t m r e wt = assigns t r (from t (stop t)) (init t m e wt)
 
-    -- ---- a call whose `ensures` says the fact φ of the result: once it has returned, the tokens are back, and φ holds of a result with that machine value
+    -- ---- a call whose `ensures` says the fact φ of the result and of the last values of what was lent: once it has returned, the tokens are back, the last
+    -- values are said, and φ holds of them and of a result with that machine value
     pub asks : K → FmC 𝓤 H (W .laws) C → {f : Name} {xs : List Operand} {d : Place} (S : Ended) (c : Clauses 𝓤 S)
         → Triple 𝓤 (C f) (tripleOf 𝓤 H A (S .signature) (closing 𝓤 H A S c)) → (y : tripleOf 𝓤 H A (S .signature) (closing 𝓤 H A S c) .Ghost)
-        → (φ : Res (S .signature) (y .0 .0) → Type 0)
-        → ((r : Res (S .signature) (y .0 .0)) → ent 𝓤 (ensured 𝓤 H A S c (y .0 .0) (y .0 .3) (y .1) r) (fact 𝓤 (φ r)))
+        → (φ : Res (S .signature) (y .0 .0) → Lasts S (y .0 .0) (y .0 .3) → Type 0)
+        → ((r : Res (S .signature) (y .0 .0)) (ws : Lasts S (y .0 .0) (y .0 .3))
+        → ent 𝓤 (c (y .0 .0) (y .0 .3) .ensures (y .1) r (atExit S (y .0 .0) (y .0 .3) ws)) (fact 𝓤 (φ r ws)))
         → Opds K W (raw (tripleOf 𝓤 H A (S .signature) (closing 𝓤 H A S c) .pre y) ∷ Γ) E xs (tripleOf 𝓤 H A (S .signature) (closing 𝓤 H A S c) .args y)
-        → ((v : Val) (r : Res (S .signature) (y .0 .0)) → φ r → Is (typeAt (S .signature .result) (y .0 .0)) r (v ∷ [])
-        → Seq K W (raw (alive 𝓤 H A (S .signature) (y .0 .0) (y .0 .1)) ∷ Γ) (lands C Λ E d v rest q))
+        → ((v : Val) (r : Res (S .signature) (y .0 .0)) (ws : Lasts S (y .0 .0) (y .0 .3)) → φ r ws → Is (typeAt (S .signature .result) (y .0 .0)) r (v ∷ [])
+        → Seq K W (raw (alive 𝓤 H A (S .signature) (y .0 .0) (y .0 .1)) ∷ ‵ (lasts S (y .0 .0) (y .0 .3) ws) ∷ Γ) (lands C Λ E d v rest q))
         → Seq K W (raw (tripleOf 𝓤 H A (S .signature) (closing 𝓤 H A S c) .pre y) ∷ Γ) (runs C Λ E (seq (call f xs d) rest) q)
     asks t fm S c met y φ told os k =
         let R = typeAt (S .signature .result) (y .0 .0) in
         calls-at t fm (tripleOf 𝓤 H A (S .signature) (closing 𝓤 H A S c)) met y os (λ v.
         use1 W (later (some (λ (r : Res (S .signature) (y .0 .0)). (raw (alive 𝓤 H A (S .signature) (y .0 .0) (y .0 .1)) ⊛ ‵ (R .own r (v ∷ [])))
-        ⊛ raw (ensured 𝓤 H A S c (y .0 .0) (y .0 .3) (y .1) r)))) (id⊢ 𝓤 _) $ await t tt $ pick t (λ r. split t $ move t (1 ∷ []) $
-        use1 W (raw (fact 𝓤 (φ r))) (told r) $ heard t (φ r) (λ is. split t $ move t (1 ∷ []) $ facts t R (Is R) (shows 𝓤 H A R) r (v ∷ []) (λ g. k v r is g))))
+        ⊛ some (λ (ws : Lasts S (y .0 .0) (y .0 .3)). ‵ (lasts S (y .0 .0) (y .0 .3) ws) ⊛ raw (c (y .0 .0) (y .0 .3) .ensures (y .1) r (atExit S (y .0 .0)
+        (y .0 .3) ws))))))
+        (id⊢ 𝓤 _) $ await t tt $ pick t (λ r. split t $ split t $ move t (1 ∷ []) $ facts t R (Is R) (shows 𝓤 H A R) r (v ∷ []) (λ g.
+        move t (1 ∷ []) $ pick t (λ ws. split t $ move t (1 ∷ []) $ use1 W (raw (fact 𝓤 (φ r ws))) (told r ws) $ heard t (φ r ws) (λ is.
+        move t (1 ∷ 0 ∷ []) $ k v r ws is g)))))
