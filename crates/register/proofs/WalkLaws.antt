@@ -15,7 +15,7 @@ use base.Fml.{Share, fat, froom, fdies}
 use prog.Wp.{Heap, Env, Calls, Loops, spotOf}
 use ghost.Atoms.{Atoms}
 use sound.WpLaws.{FmC}
-use types.Kit.{Given, Item, Goal, Post, Seq, Step, Sq, nth, put, runs, lands, frees, ‵, raw, some, later, _⊛_, _$_, !, move, use1, split, pick, await}
+use types.Kit.{Given, Item, Goal, Soaks, Post, Seq, Step, Sq, nth, put, runs, lands, frees, ‵, raw, some, later, _⊛_, _$_, !, move, use1, split, pick, await}
 use types.Run.{Opd, Opds, Rv as Gives, look, init, stop, from, load, assigns, free1, free0}
 use contract.Monad.{fact}
 use denote.Laws.{Is, shows}
@@ -77,23 +77,33 @@ module _ {M : Type 1} {𝓤 : URA M} {H : Heap 𝓤} {A : Atoms 𝓤} {K : Type 
         Γ (runs C Λ E (seq (assign (place i []) rv) rest) q)
     begins t m r e wt = assigns t r (from t (stop t)) (init t m e wt)
 
-    -- ---- a call whose `ensures` says the fact φ of the result and of the last values of what was lent: once it has returned, the tokens are back, the last
-    -- values are said, and φ holds of them and of a result with that machine value
-    pub asks : K → FmC 𝓤 H (W .laws) C → {f : Name} {xs : List Operand} {d : Place} (S : Ended) (c : Clauses 𝓤 S)
-        → Triple 𝓤 (C f) (tripleOf 𝓤 H A (S .signature) (closing 𝓤 H A S c)) → (y : tripleOf 𝓤 H A (S .signature) (closing 𝓤 H A S c) .Ghost)
-        → (φ : Res (S .signature) (y .0 .0) → Lasts S (y .0 .0) (y .0 .3) → Type 0)
-        → ((r : Res (S .signature) (y .0 .0)) (ws : Lasts S (y .0 .0) (y .0 .3))
-        → ent 𝓤 (c (y .0 .0) (y .0 .3) .ensures (y .1) r (atExit S (y .0 .0) (y .0 .3) ws)) (fact 𝓤 (φ r ws)))
-        → Opds K W (raw (tripleOf 𝓤 H A (S .signature) (closing 𝓤 H A S c) .pre y) ∷ Γ) E xs (tripleOf 𝓤 H A (S .signature) (closing 𝓤 H A S c) .args y)
-        → ((v : Val) (r : Res (S .signature) (y .0 .0)) (ws : Lasts S (y .0 .0) (y .0 .3)) → φ r ws → Is (typeAt (S .signature .result) (y .0 .0)) r (v ∷ [])
-        → Seq K W (raw (alive 𝓤 H A (S .signature) (y .0 .0) (y .0 .1)) ∷ ‵ (lasts S (y .0 .0) (y .0 .3) ws) ∷ Γ) (lands C Λ E d v rest q))
-        → Seq K W (raw (tripleOf 𝓤 H A (S .signature) (closing 𝓤 H A S c) .pre y) ∷ Γ) (runs C Λ E (seq (call f xs d) rest) q)
-    asks t fm S c met y φ told os k =
-        let R = typeAt (S .signature .result) (y .0 .0) in
-        calls-at t fm (tripleOf 𝓤 H A (S .signature) (closing 𝓤 H A S c)) met y os (λ v.
-        use1 W (later (some (λ (r : Res (S .signature) (y .0 .0)). (raw (alive 𝓤 H A (S .signature) (y .0 .0) (y .0 .1)) ⊛ ‵ (R .own r (v ∷ [])))
-        ⊛ some (λ (ws : Lasts S (y .0 .0) (y .0 .3)). ‵ (lasts S (y .0 .0) (y .0 .3) ws) ⊛ raw (c (y .0 .0) (y .0 .3) .ensures (y .1) r (atExit S (y .0 .0)
-        (y .0 .3) ws))))))
-        (id⊢ 𝓤 _) $ await t tt $ pick t (λ r. split t $ split t $ move t (1 ∷ []) $ facts t R (Is R) (shows 𝓤 H A R) r (v ∷ []) (λ g.
-        move t (1 ∷ []) $ pick t (λ ws. split t $ move t (1 ∷ []) $ use1 W (raw (fact 𝓤 (φ r ws))) (told r ws) $ heard t (φ r ws) (λ is.
-        move t (1 ∷ 0 ∷ []) $ k v r ws is g)))))
+-- ---- a call of a function whose `ensures` says the fact φ of the result and of the last values of what was lent
+module _ {M : Type 1} {𝓤 : URA M} {H : Heap 𝓤} {A : Atoms 𝓤} {K : Type 0} {W : Given 𝓤 H A} {Γ : List (Item 𝓤)} where
+  -- it has returned v: the tokens are back, the last values are said, and φ holds of them and of a result with that machine value
+  pub hears : K → {G : Goal 𝓤 H} → Soaks G → (v : Val) (S : Ended) (c : Clauses 𝓤 S) (y : tripleOf 𝓤 H A (S .signature) (closing 𝓤 H A S c) .Ghost)
+      → (φ : Res (S .signature) (y .0 .0) → Lasts S (y .0 .0) (y .0 .3) → Type 0)
+      → ((r : Res (S .signature) (y .0 .0)) (ws : Lasts S (y .0 .0) (y .0 .3))
+      → ent 𝓤 (c (y .0 .0) (y .0 .3) .ensures (y .1) r (atExit S (y .0 .0) (y .0 .3) ws)) (fact 𝓤 (φ r ws)))
+      → ((r : Res (S .signature) (y .0 .0)) (ws : Lasts S (y .0 .0) (y .0 .3)) → φ r ws → Is (typeAt (S .signature .result) (y .0 .0)) r (v ∷ [])
+      → Seq K W (raw (alive 𝓤 H A (S .signature) (y .0 .0) (y .0 .1)) ∷ ‵ (lasts S (y .0 .0) (y .0 .3) ws) ∷ Γ) G)
+      → Seq K W (raw (tripleOf 𝓤 H A (S .signature) (closing 𝓤 H A S c) .post y v) ∷ Γ) G
+  hears t z v S c y φ told k =
+      let R = typeAt (S .signature .result) (y .0 .0) in
+      use1 W (later (some (λ (r : Res (S .signature) (y .0 .0)). (raw (alive 𝓤 H A (S .signature) (y .0 .0) (y .0 .1)) ⊛ ‵ (R .own r (v ∷ [])))
+      ⊛ some (λ (ws : Lasts S (y .0 .0) (y .0 .3)). ‵ (lasts S (y .0 .0) (y .0 .3) ws)
+      ⊛ raw (c (y .0 .0) (y .0 .3) .ensures (y .1) r (atExit S (y .0 .0) (y .0 .3) ws)))))) (id⊢ 𝓤 _) $ await t z $ pick t (λ r. split t $ split t $
+      move t (1 ∷ []) $ facts t R (Is R) (shows 𝓤 H A R) r (v ∷ []) (λ g. move t (1 ∷ []) $ pick t (λ ws. split t $ move t (1 ∷ []) $
+      use1 W (raw (fact 𝓤 (φ r ws))) (told r ws) $ heard t (φ r ws) (λ is. move t (1 ∷ 0 ∷ []) $ k r ws is g))))
+
+  -- the call, and then the rest
+  pub asks : K → {E : Env 𝓤 H} {C : Calls 𝓤 H} {Λ : Loops 𝓤 H} {q : Post 𝓤 H} {rest : Body} {f : Name} {xs : List Operand} {d : Place} → FmC 𝓤 H (W .laws) C
+      → (S : Ended) (c : Clauses 𝓤 S) → Triple 𝓤 (C f) (tripleOf 𝓤 H A (S .signature) (closing 𝓤 H A S c))
+      → (y : tripleOf 𝓤 H A (S .signature) (closing 𝓤 H A S c) .Ghost) (φ : Res (S .signature) (y .0 .0) → Lasts S (y .0 .0) (y .0 .3) → Type 0)
+      → ((r : Res (S .signature) (y .0 .0)) (ws : Lasts S (y .0 .0) (y .0 .3))
+      → ent 𝓤 (c (y .0 .0) (y .0 .3) .ensures (y .1) r (atExit S (y .0 .0) (y .0 .3) ws)) (fact 𝓤 (φ r ws)))
+      → Opds K W (raw (tripleOf 𝓤 H A (S .signature) (closing 𝓤 H A S c) .pre y) ∷ Γ) E xs (tripleOf 𝓤 H A (S .signature) (closing 𝓤 H A S c) .args y)
+      → ((v : Val) (r : Res (S .signature) (y .0 .0)) (ws : Lasts S (y .0 .0) (y .0 .3)) → φ r ws → Is (typeAt (S .signature .result) (y .0 .0)) r (v ∷ [])
+      → Seq K W (raw (alive 𝓤 H A (S .signature) (y .0 .0) (y .0 .1)) ∷ ‵ (lasts S (y .0 .0) (y .0 .3) ws) ∷ Γ) (lands C Λ E d v rest q))
+      → Seq K W (raw (tripleOf 𝓤 H A (S .signature) (closing 𝓤 H A S c) .pre y) ∷ Γ) (runs C Λ E (seq (call f xs d) rest) q)
+  asks t fm S c met y φ told os k =
+      calls-at t fm (tripleOf 𝓤 H A (S .signature) (closing 𝓤 H A S c)) met y os (λ v. hears t tt v S c y φ told (k v))
