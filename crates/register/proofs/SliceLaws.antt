@@ -2,7 +2,7 @@
 use mathlib.Core.Bool.{Bool, true, false, not}
 use mathlib.Core.List.{List, [], _∷_, _++_}
 use mathlib.Core.Path.{_≡_, refl, sym, ap, subst, _∙_}
-use Prim.Native.Nat.{ℕ, zero, suc, _+_, _-_, _≤_, _<_}
+use Prim.Native.Nat.{ℕ, zero, suc, _+_, _≤_, _<_}
 use native.Mathlib.Numerals.{add-one}
 use native.Mathlib.Nat.{not-suc-le-zero}
 use native.Mathlib.Omega.{arith}
@@ -10,8 +10,8 @@ use lib.Dec.{T, eqb, eqb→eq}
 use lib.ListN.{length, getD, set, replicate, drop, length-append, length-drop, length-replicate, length-set, replicate-append-replicate}
 use lib.Seq.{drop-cons, set-at, set-append-left, append-snoc}
 use Rattle.base.specs.Tab.{overlay}
+use Rattle.table.specs.declared.block.Block.{Block}
 use Rattle.table.specs.Table.{nodes}
-use Rattle.table.specs.Rules.{Asked}
 use Rattle.table.specs.Blocks.{blockOf}
 use Rattle.register.specs.declared.Pond.{Pond}
 use Rattle.register.specs.Entries.{entries}
@@ -20,10 +20,10 @@ use Rattle.register.proofs.GatheredLaws.{gatherings-length, gatherings-
 use Rattle.register.proofs.EntryLaws.{gatherings-entries}
 
 -- what `grown` asks and gives, where the block was computed
-pub fitting-as : (e : Pond) (b c : _) → b ≡ c → Fitting e c → Fitting e b
+pub fitting-as : (e : Pond) (b c : Block) → b ≡ c → Fitting e c → Fitting e b
 fitting-as e b c is f = subst (Fitting e) (sym is) f
 
-pub grown-as : (e r : Pond) (b c : _) → b ≡ c → r ≡ grownOf e b → r ≡ grownOf e c
+pub grown-as : (e r : Pond) (b c : Block) → b ≡ c → r ≡ grownOf e b → r ≡ grownOf e c
 grown-as e r b c is f = f ∙ ap (grownOf e) is
 
 -- the code's test for a pond's number
@@ -94,11 +94,15 @@ module _ (n : ℕ) (table numbers : List ℕ) (count : ℕ) (before : List Pond)
     long : j < length es
     long = rw (gatherings-length n table numbers p count 1) h
 
-    pub filled-more : (r : Pond) → getD numbers p 0 ≡ suc j → r ≡ grownOf (getD (filled p) j emptyPond) (blockOf n table p) → set (filled p) j r ≡ filled (p + 1)
+    pub filled-more : (r : Pond) → getD numbers p 0 ≡ suc j → r ≡ grownOf (getD (filled p) j emptyPond) (blockOf n table p)
+        → set (filled p) j r ≡ filled (p + 1)
     unfolding filled
     filled-more r is f =
-        rw (gatherings-more n table numbers p count j h is, set-append-left es (drop (length es) before) j r long, f, front es (drop (length es) before) j emptyPond long, length-set)
+        let rest : List Pond = drop (length es) before in
+        rw (gatherings-more n table numbers p count j h is, set-append-left es rest j r long, f, front es rest j emptyPond long, length-set)
 
     pub filled-fits : Numbers n table numbers count → p < nodes table → Fitting (getD (filled p) j emptyPond) (blockOf n table p)
     unfolding filled
-    filled-fits s b = rw (front es (drop (length es) before) j emptyPond long, gatherings-at n table numbers p count 1 j emptyPond h) (gathered-fits n table numbers count s (1 + j) p b)
+    filled-fits s b =
+        rw (front es (drop (length es) before) j emptyPond long, gatherings-at n table numbers p count 1 j emptyPond h)
+        (gathered-fits n table numbers count s (1 + j) p b)
