@@ -230,8 +230,8 @@ module _ (n : ℕ) (T first : List ℕ) (led : Led n T first) where
     met-pixel = ⊎-elim met-black met-white (by-bool (eqb (type T p) black))
 
   -- a leaf that is met once for its pixels in a row
-  pub met-leaf : (W : List ℕ) (i k p width : ℕ) → Counted n T first W i k → p < nodes T → 0 < width → ((j : ℕ) → j < width → leafAt n T (i + j) ≡ p)
-      → Counted n T first (metWords T W p k) (i + width) (metCount T W p k)
+  pub met-leaf : (W : List ℕ) (i k p width : ℕ) → Counted n T first W i k → p < nodes T → 0 < width
+      → ((j : ℕ) → j < width → leafAt n T (i + j) ≡ p) → Counted n T first (metWords T W p k) (i + width) (metCount T W p k)
   met-leaf W i k p width c lt pos h =
       let m = met-pixel W i k p c lt (rw (add-zero i) at (h 0 pos)) in
       let e : i + 1 + (width - 1) ≡ i + width = omega arith in

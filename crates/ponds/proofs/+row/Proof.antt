@@ -1,12 +1,12 @@
 -- `ponds::row`: a leaf is met once for its pixels in the row, a fork's are those of its two halves, one after the other. The measure is the level.
 -- Assumes nothing.
 use mathlib.Core.Path.{_∙_}
-use native.Mathlib.Omega.{arith}
-use Rattle.table.proofs.AcceptedLaws.{level-top}
-use Rattle.ponds.proofs.RowLaws.{meets, row-leaf, fork-level, Halves, halves}
 use Prim.Native.Nat.{ℕ, _-_, _<_}
+use native.Mathlib.Omega.{arith}
 use borrow.Fn.Kinds.{In}
 use borrow.Fn.PlainCycle.{Measures, is, falls, and}
+use Rattle.table.proofs.AcceptedLaws.{level-top}
+use Rattle.ponds.proofs.RowLaws.{meets, row-leaf, fork-level, Halves, halves}
 use Rattle.ponds.proofs.row.Reads as row
 use Rattle.ponds.proofs.row.Kinds as row-kinds
 use Rattle.ponds.proofs.+row.Lts-row as row-lts

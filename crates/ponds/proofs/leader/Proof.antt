@@ -1,8 +1,8 @@
 -- `ponds::leader`: by its word. Assumes nothing.
 use native.Mathlib.Omega.{arith}
+use borrow.Author.Needs.{needs}
 use Rattle.base.proofs.CaseLaws.{cases}
 use Rattle.ponds.specs.Counted.{leadOf}
-use borrow.Author.Needs.{needs}
 use Rattle.ponds.proofs.leader.Statement.{statement}
 use Rattle.ponds.proofs.leader.Tie as tie
 

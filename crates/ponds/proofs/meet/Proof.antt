@@ -1,7 +1,7 @@
 -- `ponds::meet`: a white leaf, a black leaf whose leader has a number, and one whose leader has none. Assumes nothing.
 use native.Mathlib.Omega.{arith}
-use Rattle.ponds.proofs.MeetLaws.{lead-below, meet-white, meet-old, meet-new}
 use borrow.Author.Needs.{needs}
+use Rattle.ponds.proofs.MeetLaws.{lead-below, meet-white, meet-old, meet-new}
 use Rattle.ponds.proofs.meet.Statement.{statement}
 use Rattle.ponds.proofs.meet.Tie as tie
 

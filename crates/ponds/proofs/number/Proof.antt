@@ -1,6 +1,6 @@
 -- `ponds::number`: every leader has its number after the rows, and every black leaf its leader's after settling. Assumes nothing.
-use Rattle.ponds.proofs.SettledLaws.{tells, numbered-all}
 use borrow.Author.Needs.{needs}
+use Rattle.ponds.proofs.SettledLaws.{tells, numbered-all}
 use Rattle.ponds.proofs.number.Statement.{statement}
 use Rattle.ponds.proofs.number.Tie as tie
 

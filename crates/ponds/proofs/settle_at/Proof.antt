@@ -1,6 +1,6 @@
 -- `ponds::settle_at`: a black leaf's word becomes its leader's less N, another stays. Assumes nothing.
-use Rattle.ponds.proofs.MeetLaws.{lead-below, settle-white, settle-black, settle-some}
 use borrow.Author.Needs.{needs}
+use Rattle.ponds.proofs.MeetLaws.{lead-below, settle-white, settle-black, settle-some}
 use Rattle.ponds.proofs.settle_at.Statement.{statement}
 use Rattle.ponds.proofs.settle_at.Tie as tie
 
