@@ -12,14 +12,13 @@ use lib.ListN.{length, set, length-set}
 use lib.Seq.{getD-set-same, getD-set-other}
 use borrow.Author.Tests.{eqb-true, eqb-false, lt-ltb, le-ltb}
 use Rattle.base.proofs.BoolLaws.{by-bool, lt-or-ge}
-use Rattle.base.proofs.SumLaws.{sum-ones}
+use Rattle.base.proofs.SumLaws.{sum-ones, no-more-than}
 use Rattle.quad.specs.Numbers.{black}
 use Rattle.table.specs.Table.{nodes, type}
 use Rattle.joins.specs.Chain.{Water}
 use Rattle.joins.specs.Led.{wordOf, Led}
 use Rattle.register.specs.Entries.{leafAt}
 use Rattle.ponds.specs.Counted.{leadOf, metCount, metWords, markAt, Marked, Shown, Counted}
-use Rattle.base.proofs.SumLaws.{no-more-than}
 
 -- an earlier pixel is before a later one too
 shown-on : {n : ℕ} {T first W : List ℕ} {a : ℕ} (i k : ℕ) → i ≤ k → Shown n T first W i a → Shown n T first W k a
