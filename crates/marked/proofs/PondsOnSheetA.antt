@@ -19,12 +19,12 @@ use Rattle.answer.specs.declared.Outcome.the-variants.{Answered}
 use Rattle.quad.specs.Numbers.{black}
 use Rattle.quad.specs.Block.{pathOf}
 use Rattle.quad.specs.Direction.{eastStep, southStep}
-use Rattle.table.specs.Table.{nodes, type}
+use Rattle.table.specs.Table.{type}
 use Rattle.table.specs.Rules.{depthTo, allOf, typeOk, fatherOk, onceOk, sonOk, wordOk, sonsOk, depthOk, sonAlike, mixedOk, faultAt, faultFrom, faultsOf, lengthOk, sizesOf, eachNodeOf, Accepted}
 use Rattle.table.specs.Nodes.{holder, pixel}
 use Rattle.table.specs.SheetA.{tableA}
 use Rattle.neighbour.proofs.SmallestLaws.{holder-contains}
-use Rattle.joins.specs.Chain.{Water, Chain, end}
+use Rattle.joins.specs.Chain.{Chain, end}
 use Rattle.joins.specs.Led.{wordOf}
 use Rattle.joins.proofs.ChainLaws.{chain-start, chain-end}
 use Rattle.register.specs.Entries.{leafAt, numberAt, entryOf, entries, entriesFrom, wordsOf}

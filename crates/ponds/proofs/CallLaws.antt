@@ -23,7 +23,7 @@ use Rattle.register.specs.declared.Pond.{Pond}
 use Rattle.register.specs.Entries.{entries}
 use Rattle.register.specs.Gathered.{Numbers}
 use Rattle.ponds.specs.Numbered.{Numbered}
-use Rattle.ponds.specs.Calls.{blackLeaves, pondsTest, Answers, Finds}
+use Rattle.ponds.specs.Calls.{blackLeaves, pondsTest, Finds}
 use Rattle.ponds.proofs.OneNumbering.{one-numbering}
 use Rattle.ponds.proofs.FewPonds.{few-ponds}
 

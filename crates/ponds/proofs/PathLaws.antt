@@ -1,6 +1,5 @@
 -- Chains of black leaves and paths of black pixels are the same thing: beside pixels have leaves that share a length of side, and within a leaf's block any
 -- pixel is reached from any other, along the row and then along the column.
-use mathlib.Core.Bool.{false}
 use mathlib.Core.List.{List}
 use mathlib.Core.Logic.{⊎-elim}
 use mathlib.Core.Path.{_≡_, refl, sym, _∙_}
@@ -9,11 +8,9 @@ use native.Mathlib.Nat.{div-mul-le-self, div-lt-iff-lt-mul, div-eq-of-lt-le}
 use native.Mathlib.Omega.{arith}
 use lib.Pow.{pow-pos}
 use Rattle.base.proofs.BoolLaws.{lt-or-ge}
-use Rattle.quad.specs.Numbers.{black}
 use Rattle.quad.specs.Direction.{eastStep, southStep}
 use Rattle.quad.specs.Block.{pathOf}
-use Rattle.table.specs.Table.{type}
-use Rattle.table.specs.Rules.{depthTo, Accepted}
+use Rattle.table.specs.Rules.{Accepted}
 use Rattle.table.specs.Nodes.{holder, pixel}
 use Rattle.neighbour.specs.Containing.{Contains, opposite}
 use Rattle.neighbour.proofs.BackLaws.{cancels}

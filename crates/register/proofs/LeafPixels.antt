@@ -1,13 +1,12 @@
 -- The pixels of a leaf are those of its block: a pixel's leaf is the one leaf whose block, by column and row, the pixel lies in.
 use mathlib.Core.Bool.{Bool, true, false, cond, _&&_}
-use mathlib.Core.List.{List, [], _∷_}
+use mathlib.Core.List.{List}
 use mathlib.Core.Logic.{⊎-elim}
-use mathlib.Core.Path.{_≡_, refl, ap, sym, _∙_}
-use Prim.Native.Nat.{ℕ, zero, suc, _+_, _-_, _*_, _/_, _%_, _^_, _<_}
+use mathlib.Core.Path.{_≡_, ap, sym, _∙_}
+use Prim.Native.Nat.{ℕ, suc, _+_, _-_, _*_, _/_, _%_, _^_, _<_}
 use native.Mathlib.Nat.{suc-mul, mul-le-mul-right, mul-add-div-right, div-eq-of-lt, div-lt-iff-lt-mul, mod-lt}
 use native.Mathlib.Omega.{arith}
 use lib.Dec.{eqb}
-use lib.ListN.{length, drop}
 use lib.Pow.{pow-pos, low, high}
 use borrow.Author.Tests.{eq-eqb, eqb-true}
 use Rattle.base.specs.Tab.{sum}
@@ -17,22 +16,15 @@ use Rattle.base.proofs.PowLaws.{pow-product, four-pow}
 use Rattle.base.proofs.RasterSums.{block-sum}
 use Rattle.base.proofs.SumLaws.{sum-same}
 use Rattle.quad.specs.Block.{pathOf, column, row}
-use Rattle.quad.proofs.PathLaws.{path-length, path-quadrants, path-column, path-row, path-back}
-use Rattle.quad.proofs.UpperLaws.{column-drop, row-drop, path-drop}
+use Rattle.quad.proofs.PathLaws.{path-length, path-quadrants, path-column, path-row}
+use Rattle.quad.proofs.UpperLaws.{column-drop, row-drop}
 use Rattle.table.specs.Table.{nodes, isFork}
 use Rattle.table.specs.Rules.{depthTo, Accepted}
 use Rattle.table.specs.Nodes.{pathTo, holder, levelOf, sideOf, leftOf, topOf}
 use Rattle.table.proofs.AcceptedLaws.{depth-le, fork-deep}
-use Rattle.table.proofs.NodeLaws.{holder-leaf}
-use Rattle.table.proofs.HolderLaws.{held, own-quadrants, own-path, own-depth}
+use Rattle.table.proofs.HolderLaws.{held, within-leaf}
 use Rattle.table.proofs.BlockLaws.{column-below, row-below}
 use Rattle.register.specs.Entries.{leafAt}
-
--- below a leaf's path its leaf stays
-stays : (T : List ℕ) (l : ℕ) (π : List ℕ) → isFork T (holder T (drop l π)) ≡ false → holder T π ≡ holder T (drop l π)
-stays T zero π f = refl
-stays T (suc l) [] f = refl
-stays T (suc l) (q ∷ qs) f = let e = stays T l qs f in holder-leaf T q qs (rw e f) ∙ e
 
 module _ (n : ℕ) (T : List ℕ) (acc : Accepted n T) where
   -- p is a leaf whose block the pixel (x, y) lies in
@@ -59,16 +51,8 @@ module _ (n : ℕ) (T : List ℕ) (acc : Accepted n T) where
       }
 
   -- and the only one
-  leaf-holds : (x y p : ℕ) → LeafOf x y p → holder T (pathOf n x y) ≡ p
-  leaf-holds x y p i =
-      let l : ℕ = levelOf n T p in
-      let π = pathTo T n p in
-      let d : n - levelOf n T p ≡ length π = omega (arith, depth-le T n p, own-depth n T acc p (i .below)) in
-      let e : drop l (pathOf n x y) ≡ π =
-      path-drop l n x y (omega arith)
-      ∙ (rw (d, ← i .across, ← i .down) (path-back π (own-quadrants n T acc p (i .below)))) in
-      let ends : holder T (drop l (pathOf n x y)) ≡ p = ap (holder T) e ∙ own-path n T acc p (i .below) in
-      stays T l (pathOf n x y) (rw ends (i .leaf)) ∙ ends
+  pub leaf-holds : (x y p : ℕ) → LeafOf x y p → holder T (pathOf n x y) ≡ p
+  leaf-holds x y p i = within-leaf n T acc p n x y (i .below) (i .leaf) (depth-le T n p) (sym (i .across)) (sym (i .down))
 
   -- by rows: pixel i
   pub pixel-leaf : (i : ℕ) → i < 4 ^ n → LeafOf (i % 2 ^ n) (i / 2 ^ n) (leafAt n T i)
