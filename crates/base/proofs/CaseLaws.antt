@@ -1,6 +1,6 @@
 -- A choice by a test, where the test is known from a fact. `cases` closes a function's return against a definition by cases.
 use mathlib.Core.Path.{_≡_, refl, sym, _∙_}
-use mathlib.Core.Bool.{Bool, true, false, not, cond}
+use mathlib.Core.Bool.{Bool, true, false, not, cond, _&&_}
 use Prim.Native.Nat.{ℕ, _≤_, _<_}
 use lib.Dec.{ltb, leb, eqb}
 use Rattle.base.proofs.BoolLaws.{on, off}
@@ -61,6 +61,11 @@ module _ {A : Type 0} where
   pub cond-same : (t : Bool) (x : A) → cond t x x ≡ x
   cond-same true x = refl
   cond-same false x = refl
+
+  -- a choice by two tests
+  pub cond-and : (s t : Bool) (x y : A) → cond (s && t) x y ≡ cond s (cond t x y) y
+  cond-and true t x y = refl
+  cond-and false t x y = refl
 
 -- a function of a choice is the choice of its values
 pub cond-map : {A B : Type 0} (f : A → B) (t : Bool) (x y : A) (x' y' : B) → f x ≡ x' → f y ≡ y' → f (cond t x y) ≡ cond t x' y'

@@ -15,15 +15,16 @@ use Rattle.base.specs.Tab.{sum, least, greatest}
 use Rattle.base.proofs.BoolLaws.{by-bool}
 use Rattle.base.proofs.CaseLaws.{cond-same}
 use Rattle.base.proofs.LeastLaws.{least-top}
+use Rattle.base.proofs.PartLaws.{Reached, least-parts, greatest-parts}
 use Rattle.base.proofs.SumLaws.{sum-same, sum-zeros, sum-swap, sum-one}
 use Rattle.quad.specs.Numbers.{none}
+use Rattle.quad.specs.Block.{column, row}
 use Rattle.table.specs.Table.{nodes, isFork}
-use Rattle.table.specs.Nodes.{levelOf, sideOf, leftOf, topOf}
+use Rattle.table.specs.Nodes.{pathTo, levelOf, sideOf, leftOf, topOf}
 use Rattle.table.specs.Blocks.{blockOf}
 use Rattle.register.specs.declared.Pond.{Pond}
 use Rattle.register.specs.Entries.{leafAt, entryOf, entriesFrom}
 use Rattle.register.specs.Gathered.{grownOf, gathered, gatheringsFrom, Numbers}
-use Rattle.base.proofs.PartLaws.{least-parts, greatest-parts}
 use Rattle.register.proofs.LeafPixels.{pixel-leaf, leaf-sum, Inside, inside}
 
 -- entries are equal word by word
@@ -42,21 +43,14 @@ module _ (n : ℕ) (T numbers : List ℕ) (k : ℕ) where
   abbrev has : ℕ → Bool
   has p = eqb (getD numbers p 0) k
 
-  -- the last row and column of a node's block
-  abbrev lastRow : ℕ → ℕ
-  lastRow p = topOf n T p + (sideOf n T p - 1)
-
-  abbrev lastColumn : ℕ → ℕ
-  lastColumn p = leftOf n T p + (sideOf n T p - 1)
-
   -- the sum, the least and the greatest over the nodes below p that have it
   overNodes : ℕ → Pond
   overNodes p = record {
     pixels = sum (λ q. cond (has q) (sideOf n T q * sideOf n T q) 0) p;
     top = least none (λ q. cond (has q) (topOf n T q) none) p;
-    bottom = greatest (λ q. cond (has q) (lastRow q) 0) p;
+    bottom = greatest (λ q. cond (has q) (topOf n T q + (sideOf n T q - 1)) 0) p;
     left = least none (λ q. cond (has q) (leftOf n T q) none) p;
-    right = greatest (λ q. cond (has q) (lastColumn q) 0) p;
+    right = greatest (λ q. cond (has q) (leftOf n T q + (sideOf n T q - 1)) 0) p;
   }
 
   gathered-over : (p : ℕ) → gathered n T numbers k p ≡ overNodes p
@@ -97,37 +91,51 @@ module _ (n : ℕ) (T numbers : List ℕ) (k : ℕ) where
     owned : (i : ℕ) → i < 4 ^ n → leafAt n T i < nodes T
     owned i l = pixel-leaf n T (s .accepted) i l .below
 
-    -- the top left and the bottom right pixel of a leaf's block
-    first : (p : ℕ) (lt : p < nodes T) (e : has p ≡ true) → Inside n T (s .accepted) p lt (is-leaf p lt e) 0 0
-    first p lt e = inside n T (s .accepted) p lt (is-leaf p lt e) 0 0 (pow-pos (levelOf n T p)) (pow-pos (levelOf n T p))
+    -- one axis: a pixel's row or column, and the row or column of a node's block; the block's first and last pixel reach its bounds
+    module _
+        (axis index : ℕ → ℕ)
+        (lies : (i : ℕ) → i < 4 ^ n → index (leafAt n T i) ≡ axis i / sideOf n T (leafAt n T i))
+        (meets : (p d : ℕ) (lt : p < nodes T) → has p ≡ true → d < sideOf n T p → Reached (leafAt n T) axis (4 ^ n) p (index p * sideOf n T p + d)) where
+      first-over : least none (λ i. cond (has (leafAt n T i)) (axis i) none) (4 ^ n)
+          ≡ least none (λ p. cond (has p) (index p * sideOf n T p) none) (nodes T)
+      first-over =
+          least-parts (leafAt n T) axis (λ p. index p * sideOf n T p) (4 ^ n) (nodes T) has owned
+          (λ p lt e. rw (add-zero (index p * sideOf n T p)) at (meets p 0 lt e (pow-pos (levelOf n T p))))
+          none
+          (λ i l. at-least (axis i) _ _ (lies i l))
 
-    last : (p : ℕ) (lt : p < nodes T) (e : has p ≡ true) → Inside n T (s .accepted) p lt (is-leaf p lt e) (sideOf n T p - 1) (sideOf n T p - 1)
-    last p lt e =
-        let h : sideOf n T p - 1 < sideOf n T p = omega (arith, pow-pos (levelOf n T p)) in
-        inside n T (s .accepted) p lt (is-leaf p lt e) (sideOf n T p - 1) (sideOf n T p - 1) h h
+      last-over : greatest (λ i. cond (has (leafAt n T i)) (axis i) 0) (4 ^ n)
+          ≡ greatest (λ p. cond (has p) (index p * sideOf n T p + (sideOf n T p - 1)) 0) (nodes T)
+      last-over =
+          greatest-parts (leafAt n T) axis (λ p. index p * sideOf n T p + (sideOf n T p - 1)) (4 ^ n) (nodes T) has owned
+          (λ p lt e. meets p (sideOf n T p - 1) lt e (omega (arith, pow-pos (levelOf n T p))))
+          (λ i l. at-most (axis i) _ _ (lies i l))
+
+    pixel-in : (p d : ℕ) (lt : p < nodes T) (e : has p ≡ true) → d < sideOf n T p → Inside n T (s .accepted) p lt (is-leaf p lt e) d
+    pixel-in p d lt e h = inside n T (s .accepted) p lt (is-leaf p lt e) d h
 
     pub gathered-entry : gathered n T numbers k (nodes T) ≡ entryOf n T numbers k
     unfolding overNodes entryOf
     gathered-entry =
-        let leaf = leafAt n T in
-        let row : ℕ → ℕ = λ i. i / 2 ^ n in
-        let column : ℕ → ℕ = λ i. i % 2 ^ n in
-        let own = pixel-leaf n T (s .accepted) in
+        let rows : ℕ → ℕ = λ i. i / 2 ^ n in
+        let columns : ℕ → ℕ = λ i. i % 2 ^ n in
+        let down : (i : ℕ) → i < 4 ^ n → row (pathTo T n (leafAt n T i)) ≡ rows i / sideOf n T (leafAt n T i) =
+        λ i l. pixel-leaf n T (s .accepted) i l .down in
+        let across : (i : ℕ) → i < 4 ^ n → column (pathTo T n (leafAt n T i)) ≡ columns i / sideOf n T (leafAt n T i) =
+        λ i l. pixel-leaf n T (s .accepted) i l .across in
+        let on-row : (p d : ℕ) (lt : p < nodes T) → has p ≡ true → d < sideOf n T p → Reached (leafAt n T) rows (4 ^ n) p (topOf n T p + d) =
+        λ p d lt e h. let o = pixel-in p d lt e h in record { at = o .at; below = o .below; owned = o .owned; meets = o .down } in
+        let on-column : (p d : ℕ) (lt : p < nodes T) → has p ≡ true → d < sideOf n T p → Reached (leafAt n T) columns (4 ^ n) p (leftOf n T p + d) =
+        λ p d lt e h. let o = pixel-in p d lt e h in record { at = o .at; below = o .below; owned = o .owned; meets = o .across } in
+        let rowOf : ℕ → ℕ = λ p. row (pathTo T n p) in
+        let columnOf : ℕ → ℕ = λ p. column (pathTo T n p) in
         gathered-over (nodes T)
         ∙ sym (same-pond (entryOf n T numbers k) (overNodes (nodes T))
         pixels-over
-        (least-parts leaf row (topOf n T) (4 ^ n) (nodes T) has owned
-        (λ p lt e. let o = first p lt e in record { at = o .at; below = o .below; owned = o .owned; meets = o .down ∙ add-zero _ })
-        none (λ i l. at-least (row i) _ _ (own i l .down)))
-        (greatest-parts leaf row lastRow (4 ^ n) (nodes T) has owned
-        (λ p lt e. let o = last p lt e in record { at = o .at; below = o .below; owned = o .owned; meets = o .down })
-        (λ i l. at-most (row i) _ _ (own i l .down)))
-        (least-parts leaf column (leftOf n T) (4 ^ n) (nodes T) has owned
-        (λ p lt e. let o = first p lt e in record { at = o .at; below = o .below; owned = o .owned; meets = o .across ∙ add-zero _ })
-        none (λ i l. at-least (column i) _ _ (own i l .across)))
-        (greatest-parts leaf column lastColumn (4 ^ n) (nodes T) has owned
-        (λ p lt e. let o = last p lt e in record { at = o .at; below = o .below; owned = o .owned; meets = o .across })
-        (λ i l. at-most (column i) _ _ (own i l .across))))
+        (first-over rows rowOf down on-row)
+        (last-over rows rowOf down on-row)
+        (first-over columns columnOf across on-column)
+        (last-over columns columnOf across on-column))
 
 -- all of them
 pub gatherings-entries : (n : ℕ) (T numbers : List ℕ) (most : ℕ) → Numbers n T numbers most → (count k : ℕ) → 0 < k

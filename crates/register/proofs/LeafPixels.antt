@@ -12,7 +12,9 @@ use lib.Pow.{pow-pos, low, high}
 use borrow.Author.Tests.{eq-eqb, eqb-true}
 use Rattle.base.specs.Tab.{sum}
 use Rattle.base.proofs.BoolLaws.{by-bool, and-left, and-right, and-both, same-tests}
+use Rattle.base.proofs.CaseLaws.{cond-and}
 use Rattle.base.proofs.PowLaws.{pow-product, four-pow}
+use Rattle.base.proofs.RasterSums.{block-sum}
 use Rattle.base.proofs.SumLaws.{sum-same}
 use Rattle.quad.specs.Block.{pathOf, column, row}
 use Rattle.quad.proofs.PathLaws.{path-length, path-quadrants, path-column, path-row, path-back}
@@ -25,11 +27,6 @@ use Rattle.table.proofs.NodeLaws.{holder-leaf}
 use Rattle.table.proofs.HolderLaws.{held, own-quadrants, own-path, own-depth}
 use Rattle.table.proofs.BlockLaws.{column-below, row-below}
 use Rattle.register.specs.Entries.{leafAt}
-use Rattle.base.proofs.RasterSums.{block-sum}
-
-cond-and : (a b : Bool) (v w : ℕ) → cond (a && b) v w ≡ cond a (cond b v w) w
-cond-and true b v w = refl
-cond-and false b v w = refl
 
 -- below a leaf's path its leaf stays
 stays : (T : List ℕ) (l : ℕ) (π : List ℕ) → isFork T (holder T (drop l π)) ≡ false → holder T π ≡ holder T (drop l π)
@@ -38,27 +35,31 @@ stays T (suc l) [] f = refl
 stays T (suc l) (q ∷ qs) f = let e = stays T l qs f in holder-leaf T q qs (rw e f) ∙ e
 
 module _ (n : ℕ) (T : List ℕ) (acc : Accepted n T) where
-  -- the leaf of the pixel (x, y), and its block
+  -- p is a leaf whose block the pixel (x, y) lies in
   pub record LeafOf (x y : ℕ) (p : ℕ) : Type 0 where
     pub below : p < nodes T
     pub leaf : isFork T p ≡ false
     pub across : column (pathTo T n p) ≡ x / sideOf n T p
     pub down : row (pathTo T n p) ≡ y / sideOf n T p
 
-  pub leaf-of : (x y : ℕ) → x < 2 ^ n → y < 2 ^ n → LeafOf x y (holder T (pathOf n x y))
+  -- the leaf that holds a pixel is such a one
+  leaf-of : (x y : ℕ) → x < 2 ^ n → y < 2 ^ n → LeafOf x y (holder T (pathOf n x y))
   leaf-of x y lx ly =
       let π = pathOf n x y in
       let h = held n T acc π (path-quadrants n x y) in
       let size = path-length n x y in
       record {
         below = h .below;
-        leaf = ⊎-elim (λ (f : isFork T (holder T π) ≡ true). absurd (omega (arith, h .full f, fork-deep n T acc (holder T π) (h .below) f))) (λ f. f) (by-bool (isFork T (holder T π)));
+        leaf = ⊎-elim
+            (λ (f : isFork T (holder T π) ≡ true). absurd (omega (arith, h .full f, fork-deep n T acc (holder T π) (h .below) f)))
+            (λ f. f)
+            (by-bool (isFork T (holder T π)));
         across = ap column (rw size at (h .path)) ∙ (column-drop (levelOf n T (holder T π)) π ∙ rw (path-column n x y lx));
         down = ap row (rw size at (h .path)) ∙ (row-drop (levelOf n T (holder T π)) π (path-quadrants n x y) ∙ rw (path-row n x y ly));
       }
 
-  -- the pixels of a leaf's block have that leaf
-  pub leaf-holds : (x y p : ℕ) → LeafOf x y p → holder T (pathOf n x y) ≡ p
+  -- and the only one
+  leaf-holds : (x y p : ℕ) → LeafOf x y p → holder T (pathOf n x y) ≡ p
   leaf-holds x y p i =
       let l : ℕ = levelOf n T p in
       let π = pathTo T n p in
@@ -81,13 +82,14 @@ module _ (n : ℕ) (T : List ℕ) (acc : Accepted n T) where
     wide = pow-product (depthTo T n p) (levelOf n T p) n (omega (arith, depth-le T n p))
 
     module _ (f : isFork T p ≡ false) where
-      -- a leaf is the leaf of the pixels of its block
+      -- whether pixel i lies in the block's rows, and in its columns
       on-row : ℕ → Bool
       on-row i = eqb (row (pathTo T n p)) (i / 2 ^ n / sideOf n T p)
 
       on-column : ℕ → Bool
       on-column i = eqb (column (pathTo T n p)) (i % 2 ^ n / sideOf n T p)
 
+      -- then, and only then, p is its leaf
       at-block : (i : ℕ) → i < 4 ^ n → eqb (leafAt n T i) p ≡ on-row i && on-column i
       unfolding leafAt on-row on-column
       at-block i l =
@@ -99,7 +101,12 @@ module _ (n : ℕ) (T : List ℕ) (acc : Accepted n T) where
           (λ e.
           eq-eqb (leafAt n T i) p
           (leaf-holds (i % 2 ^ n) (i / 2 ^ n) p
-          (record { below = lt; leaf = f; across = eqb-true _ _ (and-right (on-row i) (on-column i) e); down = eqb-true _ _ (and-left (on-row i) (on-column i) e) })))
+          (record {
+            below = lt;
+            leaf = f;
+            across = eqb-true _ _ (and-right (on-row i) (on-column i) e);
+            down = eqb-true _ _ (and-left (on-row i) (on-column i) e);
+          })))
 
       pub leaf-sum : (v : ℕ) → sum (λ i. cond (eqb (leafAt n T i) p) v 0) (4 ^ n) ≡ sideOf n T p * sideOf n T p * v
       unfolding on-row on-column
@@ -110,32 +117,31 @@ module _ (n : ℕ) (T : List ℕ) (acc : Accepted n T) where
           (λ i l. rw (at-block i l) (cond-and (on-row i) (on-column i) v 0))
           ∙ rw four-pow (rw (← wide) at big)
 
-      -- each pixel of the block, by its place in it
-      pub record Inside (dx dy : ℕ) : Type 0 where
+      -- the pixels of the block's diagonal, from the first row and column to the last
+      pub record Inside (d : ℕ) : Type 0 where
         pub at : ℕ
         pub below : at < 4 ^ n
         pub owned : leafAt n T at ≡ p
-        pub across : at % 2 ^ n ≡ leftOf n T p + dx
-        pub down : at / 2 ^ n ≡ topOf n T p + dy
+        pub across : at % 2 ^ n ≡ leftOf n T p + d
+        pub down : at / 2 ^ n ≡ topOf n T p + d
 
-      pub inside : (dx dy : ℕ) → dx < sideOf n T p → dy < sideOf n T p → Inside dx dy
+      pub inside : (d : ℕ) → d < sideOf n T p → Inside d
       unfolding leafAt
-      inside dx dy lx ly =
+      inside d h =
           let s : ℕ = sideOf n T p in
-          let x : ℕ = leftOf n T p + dx in
-          let y : ℕ = topOf n T p + dy in
-          let fits : (k d : ℕ) → k < 2 ^ depthTo T n p → d < s → k * s + d < 2 ^ n =
-          λ k d lk ld. omega (arith, wide, suc-mul k s, mul-le-mul-right {m = suc k} {n = 2 ^ depthTo T n p} s lk) in
-          let bx : x < 2 ^ n = fits (column (pathTo T n p)) dx (column-below n T acc p lt) lx in
-          let by : y < 2 ^ n = fits (row (pathTo T n p)) dy (row-below n T acc p lt) ly in
+          let x : ℕ = leftOf n T p + d in
+          let y : ℕ = topOf n T p + d in
+          let fits : (k : ℕ) → k < 2 ^ depthTo T n p → k * s + d < 2 ^ n =
+          λ k l. omega (arith, wide, suc-mul k s, mul-le-mul-right {m = suc k} {n = 2 ^ depthTo T n p} s l) in
+          let bx : x < 2 ^ n = fits (column (pathTo T n p)) (column-below n T acc p lt) in
+          let by : y < 2 ^ n = fits (row (pathTo T n p)) (row-below n T acc p lt) in
           let ex : (y * 2 ^ n + x) % 2 ^ n ≡ x = low y n bx in
           let ey : (y * 2 ^ n + x) / 2 ^ n ≡ y = high y n bx in
-          let part : (k d : ℕ) → d < s → k ≡ (k * s + d) / s =
-          λ k d ld. sym (mul-add-div-right (pow-pos (levelOf n T p)) k d ∙ omega (arith, div-eq-of-lt ld)) in
+          let part : (k : ℕ) → k ≡ (k * s + d) / s = λ k. sym (mul-add-div-right (pow-pos (levelOf n T p)) k d ∙ omega (arith, div-eq-of-lt h)) in
           record {
             at = y * 2 ^ n + x;
             below = rw (four-pow n) (omega (arith, suc-mul y (2 ^ n), mul-le-mul-right {m = suc y} {n = 2 ^ n} (2 ^ n) by));
-            owned = rw (ex, ey) (leaf-holds x y p (record { below = lt; leaf = f; across = part _ dx lx; down = part _ dy ly }));
+            owned = rw (ex, ey) (leaf-holds x y p (record { below = lt; leaf = f; across = part _; down = part _ }));
             across = ex;
             down = ey;
           }

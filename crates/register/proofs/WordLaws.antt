@@ -7,10 +7,10 @@ use Prim.Native.Nat.{ℕ, zero, suc, _+_, _-_, _*_, _≤_, _<_}
 use native.Mathlib.Nat.{suc-add, not-suc-le-zero, eq-zero-or-pos}
 use native.Mathlib.Omega.{arith}
 use lib.ListN.{length, getD, set, drop, replicate, length-append, length-set, length-drop, length-replicate, replicate-append-replicate}
-use lib.Seq.{drop-append-seam, drop-drop}
+use lib.Seq.{drop-drop}
 use borrow.Author.Tests.{eq-eqb, ne-eqb}
 use Rattle.base.specs.Tab.{overlay}
-use Rattle.base.proofs.SetsLaws.{overlay-length}
+use Rattle.base.proofs.SetsLaws.{overlay-length, overlay-over}
 use Rattle.table.specs.declared.block.Block.{Block}
 use Rattle.table.specs.Table.{nodes}
 use Rattle.table.specs.Blocks.{blockOf}
@@ -21,7 +21,7 @@ use Rattle.register.specs.Words.{pondAt, putAt, pondWords, passedOf, Pas
 use Rattle.register.proofs.GatheredLaws.{gatherings-none, gatherings-length, gatherings-at, gatherings-same, gatherings-more, gathered-fits}
 use Rattle.register.proofs.EntryLaws.{gatherings-entries}
 
-pub words-length : (es : List Pond) → length (wordsOf es) ≡ 5 * length es
+words-length : (es : List Pond) → length (wordsOf es) ≡ 5 * length es
 unfolding wordsOf
 words-length [] = omega arith
 words-length (e ∷ es) = omega (arith, words-length es)
@@ -29,13 +29,13 @@ words-length (e ∷ es) = omega (arith, words-length es)
 five-more : (i : ℕ) → 5 * suc i ≡ suc (suc (suc (suc (suc (5 * i)))))
 five-more i = omega arith
 
-pub words-at : (rest : List ℕ) (es : List Pond) (i : ℕ) (d : Pond) → i < length es → pondAt (wordsOf es ++ rest) i ≡ getD es i d
+words-at : (rest : List ℕ) (es : List Pond) (i : ℕ) (d : Pond) → i < length es → pondAt (wordsOf es ++ rest) i ≡ getD es i d
 unfolding wordsOf pondAt
 words-at rest [] i d h = absurd (not-suc-le-zero h)
 words-at rest (e ∷ es) zero d h = refl
 words-at rest (e ∷ es) (suc i) d h = simp (five-more, suc-add) (words-at rest es i d (omega arith))
 
-pub words-put : (rest : List ℕ) (es : List Pond) (i : ℕ) (e : Pond) → i < length es → putAt (wordsOf es ++ rest) i e ≡ wordsOf (set es i e) ++ rest
+words-put : (rest : List ℕ) (es : List Pond) (i : ℕ) (e : Pond) → i < length es → putAt (wordsOf es ++ rest) i e ≡ wordsOf (set es i e) ++ rest
 unfolding wordsOf
 words-put rest [] i e h = absurd (not-suc-le-zero h)
 words-put rest (f ∷ es) zero e h = refl
@@ -55,10 +55,10 @@ words-next rest (f ∷ es) e h = rw (five-more (length es)) (ap (λ (ws : List �
 
 -- the register with the entries of `es` written over its start
 module _ (before : List ℕ) where
-  pub overlay-at : (es : List Pond) (i : ℕ) (d : Pond) → i < length es → pondAt (overlay (wordsOf es) before) i ≡ getD es i d
+  overlay-at : (es : List Pond) (i : ℕ) (d : Pond) → i < length es → pondAt (overlay (wordsOf es) before) i ≡ getD es i d
   overlay-at es i d h = words-at (drop (length (wordsOf es)) before) es i d h
 
-  pub overlay-put : (es : List Pond) (i : ℕ) (e : Pond) → i < length es → putAt (overlay (wordsOf es) before) i e ≡ overlay (wordsOf (set es i e)) before
+  overlay-put : (es : List Pond) (i : ℕ) (e : Pond) → i < length es → putAt (overlay (wordsOf es) before) i e ≡ overlay (wordsOf (set es i e)) before
   overlay-put es i e h =
       let same : length (wordsOf (set es i e)) ≡ length (wordsOf es) = omega (arith, words-length (set es i e), words-length es, length-set es i e) in
       words-put (drop (length (wordsOf es)) before) es i e h ∙ rw same
@@ -89,10 +89,6 @@ module _ (before : List ℕ) where
   pub cleared-all : (i count : ℕ) (reg : List ℕ) → i ≤ count → count ≤ i → reg ≡ overlay (wordsOf (replicate i emptyPond)) before
       → reg ≡ overlay (wordsOf (replicate count emptyPond)) before
   cleared-all i count reg le ge inv = let e : i ≡ count = omega arith in rw e at inv
-
--- what is written over as much as was written
-overlay-over : (new new' old : List ℕ) → length new ≡ length new' → overlay new (overlay new' old) ≡ overlay new old
-overlay-over new new' old e = rw e (ap (λ (rest : List ℕ). new ++ rest) (drop-append-seam new' (drop (length new') old)))
 
 -- an entry that is read, grown and written
 pub fitting-read : (e f : Pond) (b : Block) → e ≡ f → Fitting f b → Fitting e b
@@ -170,8 +166,12 @@ module _ (n : ℕ) (T numbers : List ℕ) (count : ℕ) (before : List ℕ) wher
           let h : getD numbers p 0 - 1 < count = omega arith in
           let grown = grownOf (getD (gatherings n T numbers p count) k emptyPond) (blockOf n T p) in
           eo
-          ∙ rw (ne-eqb (getD numbers p 0) 0 (λ z. omega arith), e, stands k h,
-          overlay-put before (gatherings n T numbers p count) k grown (omega (arith, size)))
+          ∙ rw (
+            ne-eqb (getD numbers p 0) 0 (λ z. omega arith),
+            e,
+            stands k h,
+            overlay-put before (gatherings n T numbers p count) k grown (omega (arith, size)),
+          )
           (ap (λ (es : List Pond). overlay (wordsOf es) before) (sym (gatherings-more n T numbers p count k h (omega arith)))))
           (eq-zero-or-pos (getD numbers p 0))
 

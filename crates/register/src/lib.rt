@@ -24,7 +24,13 @@ pub fn empty() -> Pond
     ensures { λ r. ⌜ r ≡ emptyPond ⌝ }
 {
     let none = quad::NONE as u32;
-    Pond { pixels: 0, top: none, bottom: 0, left: none, right: 0 }
+    Pond {
+        pixels: 0,
+        top: none,
+        bottom: 0,
+        left: none,
+        right: 0,
+    }
 }
 
 // The lower and the higher of two numbers.
