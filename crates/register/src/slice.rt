@@ -17,7 +17,7 @@ fn number_at(numbers: &[u32], p: usize) -> usize
     numbers[p] as usize
 }
 
-// An entry with node p's block.
+// The entry with node p's block more.
 fn grown_at(n: u32, table: &[u32], p: usize, e: Pond) -> Pond
     requires { ⌜ Asked n (now table) p × Fitting e (blockOf n (now table) p) ⌝ }
     ensures { λ r. ⌜ r ≡ grownOf e (blockOf n (now (table .entry)) p) ⌝ }
@@ -25,7 +25,7 @@ fn grown_at(n: u32, table: &[u32], p: usize, e: Pond) -> Pond
     super::grown(e, table::block::block_of(n, table, p))
 }
 
-// One entry for each pond, from the nodes' numbers: all begin empty, and each node's block is gathered by its pond's.
+// Writes the entries of ponds 1 to `count` from the nodes' numbers; what lies beyond them stays. Each begins empty, and then grows by its pond's blocks.
 pub fn fill(n: u32, table: &[u32], numbers: &[u32], reg: &mut [Pond], count: usize)
     requires { ⌜ Numbers n (now table) (now numbers) count × (count ≤ length (now reg)) ⌝ }
     ensures { λ _. ⌜ now (reg .exit) ≡ overlay (entries n (now (table .entry)) (now (numbers .entry)) count) (now (reg .entry)) ⌝ }
