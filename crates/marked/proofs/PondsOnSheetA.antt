@@ -52,8 +52,7 @@ unfolding pondsTest blackLeaves sum eachNodeOf depthTo allOf typeOk fatherOk onc
 passes = refl
 
 accepted : Accepted 2 tableA
-unfolding tabFrom
-accepted = passed 2 tableA wordsOf (5 * blackLeaves tableA) (blank 9) (blank 12) passes .0
+accepted = passed 2 tableA 9 (5 * blackLeaves tableA) 12 passes .0
 
 -- the number at the pixel (x, y)
 abbrev at : ℕ → ℕ → ℕ

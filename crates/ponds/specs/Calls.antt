@@ -30,17 +30,18 @@ pub record Answers {A : Type 0} (n : ℕ) (T : List ℕ) (written : List Pond �
   pub numbered : Numbered n T numbers count
   pub register : after ≡ overlay (written (entries n T numbers count)) before
 
--- for any numbers and register that are lent: a refusal leaves both as they were, and the value of an answer is the number of ponds
-pub record Finds {A : Type 0} (n : ℕ) (T : List ℕ) (written : List Pond → List A) (need : ℕ) (numbers : List ℕ) (reg : List A) (o : Outcome) (numbers' : List ℕ) (reg' : List A) : Type 0 where
-  pub refused : answers (pondsTest n T (length numbers) need (length reg)) ≡ false
-      → (o ≡ pondsTest n T (length numbers) need (length reg)) × (numbers' ≡ numbers) × (reg' ≡ reg)
-  pub answered : answers (pondsTest n T (length numbers) need (length reg)) ≡ true
+-- for any numbers and register that are lent, an entry taking `wide` elements of it: a refusal leaves both as they were, and the value of an answer is the
+-- number of ponds
+pub record Finds {A : Type 0} (n : ℕ) (T : List ℕ) (written : List Pond → List A) (wide : ℕ) (numbers : List ℕ) (reg : List A) (o : Outcome) (numbers' : List ℕ) (reg' : List A) : Type 0 where
+  pub refused : answers (pondsTest n T (length numbers) (wide * blackLeaves T) (length reg)) ≡ false
+      → (o ≡ pondsTest n T (length numbers) (wide * blackLeaves T) (length reg)) × (numbers' ≡ numbers) × (reg' ≡ reg)
+  pub answered : answers (pondsTest n T (length numbers) (wide * blackLeaves T) (length reg)) ≡ true
       → (count : ℕ) × (o ≡ Answered count) × Answers n T written reg count numbers' reg'
 
--- the call on words: level, table, the numbers and the register before, the outcome, the numbers and the register after
+-- the call on words, five for each entry: level, table, the numbers and the register before, the outcome, the numbers and the register after
 abbrev pub FindsInWords : ℕ → List ℕ → List ℕ → List ℕ → Outcome → List ℕ → List ℕ → Type 0
-FindsInWords n T = Finds n T wordsOf (5 * blackLeaves T)
+FindsInWords n T = Finds n T wordsOf 5
 
 -- the call on structs
 abbrev pub FindsInEntries : ℕ → List ℕ → List ℕ → List Pond → Outcome → List ℕ → List Pond → Type 0
-FindsInEntries n T = Finds n T (λ es. es) (blackLeaves T)
+FindsInEntries n T = Finds n T (λ es. es) 1

@@ -5,6 +5,7 @@ ghost use mathlib.Core.Path.{_≡_};
 ghost use Prim.Native.Nat.{_+_, _*_, _/_, _%_, _^_, _<_, _≤_};
 ghost use lib.Dec.{eqb};
 ghost use lib.ListN.{length};
+ghost use Rattle.answer.specs.Numbers.{valueOf};
 ghost use Rattle.quad.specs.Numbers.{black, topLevel, maxWords};
 ghost use Rattle.table.specs.Table.{nodes, type};
 ghost use Rattle.table.specs.Rules.{one, Accepted};
@@ -12,6 +13,7 @@ ghost use Rattle.joins.specs.Led.{Led};
 ghost use Rattle.ponds.specs.Numbered.{Numbered};
 ghost use Rattle.ponds.specs.Counted.{leadOf, Meets, Met, Counting, startOf, Crossed, settledAt, Settles, Tells, Settled};
 ghost use Rattle.ponds.specs.Calls.{blackLeaves, pondsTest, FindsInWords};
+ghost use Rattle.ponds.specs.Found.{Found};
 
 // The leader that the words tell of a black leaf p.
 fn leader(words: &[u32], p: usize) -> usize
@@ -157,24 +159,35 @@ fn test(n: u32, table: &[u32], words: usize, wide: usize, have: usize) -> Outcom
     Outcome::Answered { value: 0 }
 }
 
-// Numbers the ponds of an accepted sheet, in one word for each node. Gives how many there are.
-fn numbered(n: u32, table: &[u32], numbers: &mut [u32]) -> u32
-    requires { ⌜ Accepted n (now table) × (length (now numbers) ≡ nodes (now table)) ⌝ }
-    ensures { λ r. ⌜ Numbered n (now (table .entry)) (now (numbers .exit)) r ⌝ }
+// The tests and the numbering, for a register of `have` elements, `wide` of them for an entry. Gives how many ponds there are.
+fn numbered(n: u32, table: &[u32], numbers: &mut [u32], wide: usize, have: usize) -> Outcome
+    requires { ⌜ wide ≤ 5 ⌝ }
+    ensures { λ r. ⌜ Found n (now (table .entry)) wide have (now (numbers .entry)) r (now (numbers .exit)) ⌝ }
 {
-    joins::lead(n, table, numbers);
-    number(n, table, numbers)
-}
-
-// The ponds of a sheet, for any level, words and slices: one number for each node, and a register of five words for each pond.
-pub fn ponds(n: u32, table: &[u32], numbers: &mut [u32], reg: &mut [u32]) -> Outcome
-    ensures { λ r. ⌜ FindsInWords n (now (table .entry)) (now (numbers .entry)) (now (reg .entry)) r (now (numbers .exit)) (now (reg .exit)) ⌝ }
-{
-    let tested = test(n, table, numbers.len(), 5, reg.len());
+    let tested = test(n, table, numbers.len(), wide, have);
     if !answer::answered(tested) {
         return tested;
     }
-    let count = numbered(n, table, numbers);
-    register::fill(n, table, numbers, reg, count as usize);
+    joins::lead(n, table, numbers);
+    let count = number(n, table, numbers);
     Outcome::Answered { value: count }
+}
+
+// How many ponds were found.
+fn count_of(found: Outcome) -> usize
+    ensures { λ r. ⌜ r ≡ valueOf found ⌝ }
+{
+    answer::value(found) as usize
+}
+
+// The ponds of a sheet, for any level, words and slices: one number for each node, and a register of five words for each pond.
+pub fn in_words(n: u32, table: &[u32], numbers: &mut [u32], reg: &mut [u32]) -> Outcome
+    ensures { λ r. ⌜ FindsInWords n (now (table .entry)) (now (numbers .entry)) (now (reg .entry)) r (now (numbers .exit)) (now (reg .exit)) ⌝ }
+{
+    let found = numbered(n, table, numbers, 5, reg.len());
+    if !answer::answered(found) {
+        return found;
+    }
+    register::fill(n, table, numbers, reg, count_of(found));
+    found
 }

@@ -1,11 +1,10 @@
 -- What every outside call's statement settles: there is no second outcome. And how a call meets its own, by packing what one below gave.
 use mathlib.Core.List.{List}
 use mathlib.Core.Path.{_≡_, ap, sym, _∙_}
-use Prim.Native.Nat.{ℕ, _*_}
+use Prim.Native.Nat.{ℕ}
 use Rattle.answer.specs.declared.Outcome.{Outcome}
 use Rattle.answer.specs.Numbers.{numberOf}
 use Rattle.register.specs.Entries.{wordsOf}
-use Rattle.ponds.specs.Calls.{blackLeaves}
 use Rattle.ponds.proofs.CallLaws.{one-finding}
 use Rattle.sheet.specs.Calls.{Gives, Leaves, FindsPonds}
 
@@ -22,7 +21,7 @@ one-outcome o left after final r s a b = (a .number ∙ sym (b .number), a .buff
 pub one-pond-outcome : (n : ℕ) (T numbers reg a b a' b' : List ℕ) (r s : ℕ) → FindsPonds n T numbers reg r a b → FindsPonds n T numbers reg s a' b'
     → (r ≡ s) × (a ≡ a') × (b ≡ b')
 one-pond-outcome n T numbers reg a b a' b' r s f g =
-    let same = one-finding n T wordsOf (5 * blackLeaves T) numbers reg (f .outcome) (g .outcome) a a' b b' (f .slices) (g .slices) in
+    let same = one-finding n T wordsOf 5 numbers reg (f .outcome) (g .outcome) a a' b b' (f .slices) (g .slices) in
     (f .number ∙ ap numberOf (same .0) ∙ sym (g .number), same .1, same .2)
 
 pub packed : (o s : Outcome) (r : ℕ) → r ≡ numberOf s → s ≡ o → Gives o r

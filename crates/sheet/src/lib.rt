@@ -55,7 +55,7 @@ pub extern "C" fn sheet_distance(n: u32, table: &[u32], distances: &mut [u32]) -
 pub extern "C" fn sheet_ponds(n: u32, table: &[u32], numbers: &mut [u32], reg: &mut [u32]) -> u64
     ensures { λ r. ⌜ FindsPonds n (now (table .entry)) (now (numbers .entry)) (now (reg .entry)) r (now (numbers .exit)) (now (reg .exit)) ⌝ }
 {
-    answer::number(ponds::ponds(n, table, numbers, reg))
+    answer::number(ponds::in_words(n, table, numbers, reg))
 }
 
 #[no_mangle]
