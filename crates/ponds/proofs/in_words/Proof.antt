@@ -21,7 +21,7 @@ count-of-requires : tie.Need-count-of-requires
 count-of-requires c κs = search needs
 
 fill-requires : tie.Need-fill-requires
-fill-requires c κs = found-ready _ _ wordsOf 5 _ _ _ _ (c .before .before .before .before .before .before .before .numbered .ensures) _ (c .before .before .before .before .answered .ensures) (c .before .before .before .if1 .left) _ (c .count-of .ensures)
+fill-requires c κs = found-ready _ _ wordsOf 5 _ (c .before .before .before .before .before .before .before .before .before .before .before .before .args .reg .now) _ _ (c .before .before .before .before .before .before .before .numbered .ensures) _ (c .before .before .before .before .answered .ensures) (c .before .before .before .if1 .left) _ (c .count-of .ensures)
 
 same-length-2 : tie.Need-same-length-2
 same-length-2 c = search needs
