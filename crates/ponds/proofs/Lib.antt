@@ -5,6 +5,7 @@ pub mod OneNumbering
 pub mod FewPonds
 pub mod CallLaws
 pub mod PictureLaws
+pub mod LongestRegister
 pub mod CountedLaws
 pub mod RowLaws
 pub mod SettledLaws
