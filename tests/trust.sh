@@ -89,11 +89,12 @@ signatures() { # FILE
         }'
 }
 
-# The functions that are called from outside: the exported ones, the walk's step and the programs' read.
+# The functions that are called from outside: the exported ones, the walk's step, the programs' read and the ponds' call on structs.
 outside() {
     for file in crates/*/src/*.rt; do signatures "$file" | grep 'extern "C" fn'; done
     signatures crates/walk/src/lib.rt | grep 'fn step('
     signatures crates/load/src/lib.rt | grep 'fn load('
+    signatures crates/ponds/src/lib.rt | grep 'fn in_entries('
 }
 
 outside_calls() {
@@ -105,8 +106,10 @@ outside_calls() {
         case $signature in *' ensures '*) ;; *) false ;; esac
         verdict "$name: its outcome is stated" $?
     done <"$work/outside"
-    [ "$(grep -c 'fn step(' "$work/outside")" = 1 ] && [ "$(grep -c 'fn load(' "$work/outside")" = 1 ]
-    verdict "the walk's step and the programs' read are among the outside calls" $?
+    for call in step load in_entries; do
+        [ "$(grep -c "fn $call(" "$work/outside")" = 1 ]
+        verdict "$call: among the outside calls" $?
+    done
 }
 
 # A signature as C declares it.
