@@ -1,5 +1,6 @@
 // The numbers of a sheet's ponds, in the order of their first pixel by rows, and the register of what each covers.
 use answer::Outcome;
+use register::Pond;
 use table::word_at;
 ghost use mathlib.Core.Path.{_≡_};
 ghost use Prim.Native.Nat.{_+_, _*_, _/_, _%_, _^_, _<_, _≤_};
@@ -12,7 +13,7 @@ ghost use Rattle.table.specs.Rules.{one, Accepted};
 ghost use Rattle.joins.specs.Led.{Led};
 ghost use Rattle.ponds.specs.Numbered.{Numbered};
 ghost use Rattle.ponds.specs.Counted.{leadOf, Meets, Met, Counting, startOf, Crossed, settledAt, Settles, Tells, Settled};
-ghost use Rattle.ponds.specs.Calls.{blackLeaves, pondsTest, FindsInWords};
+ghost use Rattle.ponds.specs.Calls.{blackLeaves, pondsTest, FindsInWords, FindsInEntries};
 ghost use Rattle.ponds.specs.Found.{Found};
 
 // The leader that the words tell of a black leaf p.
@@ -189,5 +190,16 @@ pub fn in_words(n: u32, table: &[u32], numbers: &mut [u32], reg: &mut [u32]) -> 
         return found;
     }
     register::fill(n, table, numbers, reg, count_of(found));
+    found
+}
+
+// The same with a register of structs, one for each pond.
+pub fn in_entries(n: u32, table: &[u32], numbers: &mut [u32], reg: &mut [Pond]) -> Outcome
+    ensures { λ r. ⌜ FindsInEntries n (now (table .entry)) (now (numbers .entry)) (now (reg .entry)) r (now (numbers .exit)) (now (reg .exit)) ⌝ }
+{
+    let found = numbered(n, table, numbers, 1, reg.len());
+    if answer::answered(found) {
+        register::slice::fill(n, table, numbers, reg, count_of(found));
+    }
     found
 }
