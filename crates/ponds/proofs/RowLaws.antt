@@ -1,67 +1,158 @@
 -- Numbering along a row: a leaf's pixels in the row are met at once; a fork's are those of the two sons that the row crosses, the western first.
 use mathlib.Core.Bool.{true, false}
 use mathlib.Core.List.{List}
-use mathlib.Core.Path.{_≡_, ap, sym, _∙_}
-use Prim.Native.Nat.{ℕ, suc, _+_, _-_, _*_, _/_, _%_, _^_, _≤_, _<_}
-use native.Mathlib.Nat.{add-comm, add-mul, mul-assoc, mul-comm, one-mul, zero-mul, div-eq-of-lt}
+use mathlib.Core.Logic.{⊎-elim}
+use mathlib.Core.Path.{_≡_, refl, ap, sym, _∙_}
+use Prim.Native.Nat.{ℕ, suc, _+_, _-_, _*_, _/_, _%_, _^_, _≤_, _<_, zero-le}
+use native.Mathlib.Nat.{add-comm, add-mul, mul-assoc, mul-comm, mul-left-comm, one-mul, zero-mul, div-eq-of-lt, div-add-mod', mod-lt, mod-eq-of-lt, eq-or-lt-of-le}
 use native.Mathlib.Omega.{arith}
-use lib.Pow.{pow-pos}
-use borrow.Author.Tests.{eq-eqb, ne-eqb}
-use Rattle.base.proofs.PowLaws.{pow-less, four-pow}
-use Rattle.quad.specs.Numbers.{forkType}
+use lib.Arith.{digits-lt, digits-div}
+use lib.Pow.{pow-pos, mod-pow-add}
+use borrow.Author.Tests.{ne-eqb}
+use Rattle.base.proofs.PowLaws.{pow-less, pow-product, four-pow}
+use Rattle.quad.specs.Numbers.{topLevel, forkType, maxWords}
 use Rattle.quad.specs.Block.{column, row}
 use Rattle.quad.proofs.PathLaws.{half-last}
 use Rattle.table.specs.Table.{word, son, type, isFork}
 use Rattle.table.specs.Rules.{Accepted, AtLevel}
 use Rattle.table.specs.Nodes.{pathTo, levelOf, leftOf}
-use Rattle.table.proofs.AcceptedLaws.{root-at, level-is, fork-above, son-at}
+use Rattle.table.proofs.AcceptedLaws.{sons-of, root-at, level-top, level-is, fork-above, son-at}
 use Rattle.table.proofs.NodeLaws.{path-root}
 use Rattle.table.proofs.HolderLaws.{path-son}
 use Rattle.joins.specs.Led.{Led}
-use Rattle.ponds.specs.Counted.{metCount, metWords, Meets, Met, Counting, startOf, Crossed}
+use Rattle.register.specs.Entries.{leafAt}
+use Rattle.ponds.specs.Counted.{metCount, metWords, Meets, Met, Counting, startOf, partAbove, Crossed, Reached, Passes}
 use Rattle.ponds.proofs.LeafLaws.{leaf-along}
-use Rattle.ponds.proofs.CountedLaws.{counted-none, counted-few, met-leaf}
+use Rattle.ponds.proofs.CountedLaws.{counted-none, counted-few, passed-more, met-leaf}
 
 -- a half's left side, from its block's
 halved : (b C H : ℕ) → (b + 2 * C) * H ≡ C * (2 * H) + b * H
 halved b C H =
     add-mul b (2 * C) H ∙ add-comm (b * H) (2 * C * H) ∙ ap (λ (k : ℕ). k * H + b * H) (mul-comm 2 C) ∙ ap (λ (k : ℕ). k + b * H) (mul-assoc C 2 H)
 
+-- the part above the row, in a block of level l above the pixels: half a side where the row crosses the southern half, and the rest lies in that half
+parted : (l y : ℕ) → 0 < l → l ≤ 32
+    → (partAbove l y ≡ y / 2 ^ (l - 1) % 2 * 2 ^ 31 + y % 2 ^ (l - 1) * 2 ^ (32 - l)) × (y % 2 ^ (l - 1) * 2 ^ (32 - l) < 2 ^ 31)
+unfolding partAbove
+parted l y pos top =
+    let H : ℕ = 2 ^ (l - 1) in
+    let G : ℕ = 2 ^ (32 - l) in
+    let whole : 2 ^ 31 ≡ H * G = pow-product (l - 1) (32 - l) 31 (omega arith) in
+    let s : 1 + (l - 1) ≡ l = omega arith in
+    let two : y % 2 ^ l ≡ y / H % 2 * H + y % H = rw s at (mod-pow-add y 1 (l - 1)) in (
+      ap (λ (k : ℕ). k * G) two ∙ add-mul (y / H % 2 * H) (y % H) G
+      ∙ ap (λ (k : ℕ). k + y % H * G) (mul-assoc (y / H % 2) H G ∙ ap (λ (k : ℕ). y / H % 2 * k) (sym whole)),
+      omega (arith, whole, digits-lt {q = y % H} {m = H} {r = 0} {c = G} (mod-lt y (pow-pos (l - 1))) (pow-pos (32 - l))),
+    )
+
+-- so its first digit tells the half, and the others the part of the half
+part-half : (l y : ℕ) → 0 < l → l ≤ 32 → partAbove l y / 2 ^ 31 ≡ y / 2 ^ (l - 1) % 2
+part-half l y pos top = let e = parted l y pos top in omega (arith, e .0, e .1)
+
+part-rest : (l y : ℕ) → 0 < l → l ≤ 32 → partAbove l y * 2 % 2 ^ 32 ≡ partAbove (l - 1) y
+unfolding partAbove
+part-rest l y pos top =
+    let m : ℕ = y % 2 ^ (l - 1) in
+    let G : ℕ = 2 ^ (32 - l) in
+    let s : 32 - (l - 1) - 1 ≡ 32 - l = omega arith in
+    let side : 2 ^ (32 - (l - 1)) ≡ 2 * G = rw s at (pow-less 2 (32 - (l - 1)) (omega arith)) in
+    let e : m * 2 ^ (32 - (l - 1)) ≡ 2 * (m * G) = ap (λ (k : ℕ). m * k) side ∙ mul-left-comm m 2 G in
+    let f = parted l y pos top in
+    omega (arith, e, f .0, f .1)
+
+-- where a part lies above, the row above crosses the block too
+part-some : (l y : ℕ) → (partAbove l y ≡ 0 → ⊥) → 0 < y % 2 ^ l
+unfolding partAbove
+part-some l y z = ⊎-elim (λ (e : 0 ≡ y % 2 ^ l). absurd (z (rw (← e) (zero-mul (2 ^ (32 - l)))))) (λ lt. lt) (eq-or-lt-of-le zero-le)
+
+row-before : (w y : ℕ) → 0 < y % w → 0 < w → (0 < y) × ((y - 1) / w ≡ y / w)
+row-before w y some pos =
+    let d = div-add-mod' y w in
+    let lt = mod-lt y pos in
+    let e : y - 1 ≡ y / w * w + (y % w - 1) = omega arith in
+    (omega arith, ap (λ (k : ℕ). k / w) e ∙ digits-div (y / w) (omega arith))
+
+-- the part of the whole sheet
+module _ (n y : ℕ) (top : n ≤ topLevel) (lt : y < 2 ^ n) where
+  part-small : y * 2 ^ (31 - n) < 2 ^ 31
+  part-small =
+      let whole : 2 ^ 31 ≡ 2 ^ n * 2 ^ (31 - n) = pow-product n (31 - n) 31 (omega arith) in
+      omega (arith, whole, digits-lt {q = y} {m = 2 ^ n} {r = 0} {c = 2 ^ (31 - n)} lt (pow-pos (31 - n)))
+
+  pub part-fits : 2 * (y * 2 ^ (31 - n) % 2 ^ 32) < 2 ^ 32
+  part-fits = omega (arith, part-small)
+
+  pub part-root : 2 * (y * 2 ^ (31 - n) % 2 ^ 32) ≡ partAbove n y
+  unfolding partAbove
+  part-root =
+      let s : 32 - n - 1 ≡ 31 - n = omega arith in
+      let side : 2 ^ (32 - n) ≡ 2 * 2 ^ (31 - n) = rw s at (pow-less 2 (32 - n) (omega arith)) in
+      let e : y % 2 ^ n * 2 ^ (32 - n) ≡ 2 * (y * 2 ^ (31 - n)) = rw (mod-eq-of-lt lt, side) (mul-left-comm y 2 (2 ^ (31 - n))) in
+      omega (arith, e, part-small)
+
 -- the root is crossed by every row, which begins where the row does
-pub crossed-root : {n : ℕ} {T : List ℕ} → Accepted n T → (y : ℕ) → y < 2 ^ n → Crossed n T 0 n y
+pub crossed-root : {n : ℕ} {T : List ℕ} → Accepted n T → (y above : ℕ) → y < 2 ^ n → above ≡ partAbove n y → Crossed n T 0 n y above
 unfolding row
-crossed-root {n} {T} acc y lt = record { place = root-at acc; down = div-eq-of-lt lt ∙ rw (path-root T n) }
+crossed-root {n} {T} acc y above lt e = record { place = root-at acc; down = div-eq-of-lt lt ∙ rw (path-root T n); part = e }
 
 pub start-root : (n : ℕ) (T : List ℕ) (y : ℕ) → startOf n T 0 y ≡ y * 2 ^ n
 unfolding startOf column
 start-root n T y = rw (startOf, path-root T n) (omega arith)
 
-module _ {n : ℕ} {T : List ℕ} {p l y : ℕ} (h : Crossed n T p l y) where
-  -- a leaf
-  pub counting-leaf : {W : List ℕ} {k : ℕ} → isFork T p ≡ false → Counting n T W (startOf n T p y) k
-      → Counting n T (metWords T W p k) (startOf n T p y + 2 ^ l) (metCount T W p k)
+-- a row begins after the one above
+start-above : (n : ℕ) (T : List ℕ) (p y : ℕ) → 0 < y → startOf n T p (y - 1) + 0 < startOf n T p y
+unfolding startOf
+start-above n T p y pos =
+    let e : y - 1 + 1 ≡ y = omega arith in
+    let m : y * 2 ^ n ≡ (y - 1) * 2 ^ n + 2 ^ n = rw (add-mul (y - 1) 1 (2 ^ n), one-mul (2 ^ n)) at (ap (λ (k : ℕ). k * 2 ^ n) (sym e)) in
+    omega (arith, m, pow-pos n)
+
+module _ {n : ℕ} {T : List ℕ} {p l y above : ℕ} (h : Crossed n T p l y above) where
+  -- a leaf's pixels in a row that crosses its block
+  along : (v : ℕ) → isFork T p ≡ false → v / 2 ^ l ≡ y / 2 ^ l → (j : ℕ) → j < 2 ^ l → leafAt n T (startOf n T p v + j) ≡ p
   unfolding startOf
-  counting-leaf {W} {k} f c =
+  along v f e j lt =
+      let s : v * 2 ^ n + leftOf n T p + j ≡ v * 2 ^ n + (leftOf n T p + j) = omega arith in
+      rw s (leaf-along n T (h .place .accepted) p l v j (h .place) f (e ∙ h .down) lt)
+
+  -- a leaf that is met
+  counting-leaf : {W : List ℕ} {k : ℕ} → isFork T p ≡ false → Counting n T W (startOf n T p y) k
+      → Counting n T (metWords T W p k) (startOf n T p y + 2 ^ l) (metCount T W p k)
+  counting-leaf {W} {k} f c = record {
+    first = c .first;
+    led = c .led;
+    counted = met-leaf n T (c .first) (c .led) W (startOf n T p y) k p (2 ^ l) (c .counted) (h .place .node) (pow-pos l) (along y f refl);
+  }
+
+  -- a leaf that was met in the row above
+  counting-old : {W : List ℕ} {k : ℕ} → isFork T p ≡ false → (above ≡ 0 → ⊥) → Counting n T W (startOf n T p y) k
+      → Counting n T W (startOf n T p y + 2 ^ l) k
+  counting-old {W} {k} f z c =
+      let u = row-before (2 ^ l) y (part-some l y (λ e. z (h .part ∙ e))) (pow-pos l) in
+      let is = along (y - 1) f (u .1) 0 (pow-pos l) in
       record {
         first = c .first;
         led = c .led;
-        counted =
-            met-leaf n T (c .first) (c .led) W (startOf n T p y) k p (2 ^ l) (c .counted) (h .place .node) (pow-pos l) (λ j lt.
-            let e : y * 2 ^ n + leftOf n T p + j ≡ y * 2 ^ n + (leftOf n T p + j) = omega arith in
-            rw e (leaf-along n T (h .place .accepted) p l y j (h .place) f (h .down) lt));
+        counted = passed-more n T (c .first) (c .led) W (startOf n T p y) k p (2 ^ l) (c .counted)
+            (λ w. rw is at (c .counted .met (startOf n T p (y - 1) + 0) (start-above n T p y (u .0)) (rw is w)))
+            (along y f refl);
       }
 
   -- a fork's sons that the row crosses are its northern or its southern ones
   module _ (f : isFork T p ≡ true) where
-    pub crossed-son : (q : ℕ) → q < 4 → q / 2 ≡ y / 2 ^ (l - 1) % 2 → Crossed n T (son T p q) (l - 1) y
+    crossed-son : (q part : ℕ) → q < 4 → q / 2 ≡ y / 2 ^ (l - 1) % 2 → part ≡ above * 2 % 2 ^ 32 → Crossed n T (son T p q) (l - 1) y part
     unfolding row
-    crossed-son q q4 e =
-        let above = fork-above (h .place) f in
+    crossed-son q part q4 e r =
+        let over = fork-above (h .place) f in
         let s : suc (l - 1) ≡ l = omega arith in
         let half : y / 2 ^ (l - 1) / 2 ≡ row (pathTo T n p) = half-last (l - 1) y ∙ rw s (h .down) in
-        record { place = son-at (h .place) f q q4; down = rw (path-son n T (h .place .accepted) p q (h .place .node) f q4) (omega arith) }
+        record {
+          place = son-at (h .place) f q q4;
+          down = rw (path-son n T (h .place .accepted) p q (h .place .node) f q4) (omega arith);
+          part = r ∙ rw (h .part) (part-rest l y over (omega (arith, level-top (h .place))));
+        }
 
-    pub start-son : (q : ℕ) → q < 4 → startOf n T (son T p q) y ≡ startOf n T p y + q % 2 * 2 ^ (l - 1)
+    start-son : (q : ℕ) → q < 4 → startOf n T (son T p q) y ≡ startOf n T p y + q % 2 * 2 ^ (l - 1)
     unfolding startOf column
     start-son q q4 =
         let acc = h .place .accepted in
@@ -73,51 +164,93 @@ module _ {n : ℕ} {T : List ℕ} {p l y : ℕ} (h : Crossed n T p l y) where
         let wide : 2 ^ levelOf n T p ≡ 2 * H = ap (λ (k : ℕ). 2 ^ k) (sym (level-is (h .place))) ∙ pow-less 2 l (fork-above (h .place) f) in
         rw (path, side, wide) (omega (arith, halved b C H))
 
--- the two sons of a fork that the row crosses, and where their pixels begin
-pub record Halves (n : ℕ) (T : List ℕ) (p l y west east : ℕ) : Type 0 where
-  pub left : Crossed n T west (l - 1) y
-  pub right : Crossed n T east (l - 1) y
-  pub begin : startOf n T west y ≡ startOf n T p y
-  pub middle : startOf n T east y ≡ startOf n T west y + 2 ^ (l - 1)
-  pub finish : startOf n T p y + 2 ^ l ≡ startOf n T east y + 2 ^ (l - 1)
+-- the two sons of a fork that the row crosses: they stand after the fork, and where their pixels begin
+record Halves (n : ℕ) (T : List ℕ) (p l y west east part : ℕ) : Type 0 where
+  west-after : p < west
+  east-after : p < east
+  left : Crossed n T west (l - 1) y part
+  right : Crossed n T east (l - 1) y part
+  begin : startOf n T west y ≡ startOf n T p y
+  middle : startOf n T east y ≡ startOf n T west y + 2 ^ (l - 1)
+  finish : startOf n T p y + 2 ^ l ≡ startOf n T east y + 2 ^ (l - 1)
 
-pub halves : {n : ℕ} {T : List ℕ} {p l y : ℕ} → Crossed n T p l y → (kind q west east : ℕ) → kind ≡ type T p → kind ≡ forkType
-    → q ≡ 2 * (y / 2 ^ (l - 1) % 2) → west ≡ word T p (1 + q) → east ≡ word T p (2 + q) → Halves n T p l y west east
-halves {n} {T} {p} {l} {y} h kind q west east is fk eq ew ee =
-    let f : isFork T p ≡ true = eq-eqb (type T p) forkType (sym is ∙ fk) in
-    let next : 2 + q ≡ 1 + (1 + q) = omega arith in
-    let w : west ≡ son T p q = ew in
-    let e : east ≡ son T p (1 + q) = ee ∙ ap (word T p) next in
-    let odd : (1 + q) % 2 ≡ 1 = omega arith in
-    let even : q % 2 ≡ 0 = omega arith in
-    let a : startOf n T west y ≡ startOf n T p y + 0 * 2 ^ (l - 1) = rw w (rw even at (start-son h f q (omega arith))) in
-    let b : startOf n T east y ≡ startOf n T p y + 1 * 2 ^ (l - 1) = rw e (rw odd at (start-son h f (1 + q) (omega arith))) in
-    let side = pow-less 2 l (fork-above (h .place) f) in
-    record {
-      left = rw w (crossed-son h f q (omega arith) (omega arith));
-      right = rw e (crossed-son h f (1 + q) (omega arith) (omega arith));
-      begin = omega arith;
-      middle = omega arith;
-      finish = omega arith;
-    }
+-- fewer nodes stand after a later node
+sooner : {n : ℕ} {T : List ℕ} {p l s : ℕ} → AtLevel n T p l → p < s → maxWords - s < maxWords - p
+sooner h lt = omega (arith, h .node, h .accepted .sized .few, h .accepted .sized .whole)
 
--- a leaf in the code's numbers
-pub row-leaf : {n : ℕ} {T W after : List ℕ} {p l y k r : ℕ} → Crossed n T p l y → (kind : ℕ) → kind ≡ type T p → (kind ≡ forkType → ⊥)
-    → Counting n T W (startOf n T p y) k → Met T W p k r after → Counting n T after (startOf n T p y + 2 ^ l) r
-row-leaf {n} {T} {W} {after} {p} {l} {y} {k} h kind is z c m =
-    rw (m .count, m .words) (counting-leaf h (ne-eqb (type T p) forkType (λ q. z (is ∙ q))) c)
+-- fork p in the code's numbers
+module _ {T : List ℕ} {p above q west east part : ℕ} (f : isFork T p ≡ true) (eq : q ≡ 2 * (above / 2 ^ 31))
+    (ew : west ≡ word T p (1 + q)) (ee : east ≡ word T p (2 + q)) (ep : part ≡ above * 2 % 2 ^ 32) where
+  halves : (n l y : ℕ) → Crossed n T p l y above → Halves n T p l y west east part
+  halves n l y h =
+      let over = fork-above (h .place) f in
+      let south : q ≡ 2 * (y / 2 ^ (l - 1) % 2) = eq ∙ rw (h .part) (ap (λ (k : ℕ). 2 * k) (part-half l y over (omega (arith, level-top (h .place))))) in
+      let next : 2 + q ≡ 1 + (1 + q) = omega arith in
+      let w : west ≡ son T p q = ew in
+      let e : east ≡ son T p (1 + q) = ee ∙ ap (word T p) next in
+      let odd : (1 + q) % 2 ≡ 1 = omega arith in
+      let even : q % 2 ≡ 0 = omega arith in
+      let a : startOf n T west y ≡ startOf n T p y + 0 * 2 ^ (l - 1) = rw w (rw even at (start-son h f q (omega arith))) in
+      let b : startOf n T east y ≡ startOf n T p y + 1 * 2 ^ (l - 1) = rw e (rw odd at (start-son h f (1 + q) (omega arith))) in
+      let side = pow-less 2 l over in
+      let sons = sons-of n T (h .place .accepted) p (h .place .node) f in
+      record {
+        west-after = rw w (sons q (omega arith) .above);
+        east-after = rw e (sons (1 + q) (omega arith) .above);
+        left = rw w (crossed-son h f q part (omega arith) (omega arith) ep);
+        right = rw e (crossed-son h f (1 + q) part (omega arith) (omega arith) ep);
+        begin = omega arith;
+        middle = omega arith;
+        finish = omega arith;
+      }
 
--- a fork is above the pixels
-pub fork-level : {n : ℕ} {T : List ℕ} {p l y : ℕ} → Crossed n T p l y → (kind : ℕ) → kind ≡ type T p → kind ≡ forkType → 0 < l
-fork-level {n} {T} {p} h kind is fk = fork-above (h .place) (eq-eqb (type T p) forkType (sym is ∙ fk))
+  -- the row comes to the western son, then to the eastern one, and then the fork's pixels are passed
+  pub to-west : {W : List ℕ} {k : ℕ} → Reached T W p above k → (maxWords - west < maxWords - p) × Reached T W west part k
+  to-west r =
+      let s = halves (r .n) (r .l) (r .y) (r .crossed) in (
+        sooner (r .crossed .place) (s .west-after),
+        record { n = r .n; l = r .l - 1; y = r .y; crossed = s .left; counting = rw (s .begin) (r .counting) },
+      )
+
+  pub to-east : {W W₁ : List ℕ} {k m : ℕ} → Reached T W p above k → Passes T west part W k W₁ m
+      → (maxWords - east < maxWords - p) × Reached T W₁ east part m
+  to-east r a =
+      let s = halves (r .n) (r .l) (r .y) (r .crossed) in (
+        sooner (r .crossed .place) (s .east-after),
+        record {
+          n = r .n;
+          l = r .l - 1;
+          y = r .y;
+          crossed = s .right;
+          counting = rw (s .middle) (a .on (r .n) (r .l - 1) (r .y) (s .left) (rw (s .begin) (r .counting)));
+        },
+      )
+
+  pub row-fork : {W W₁ W₂ : List ℕ} {k m r : ℕ} → Passes T west part W k W₁ m → Passes T east part W₁ m W₂ r → Passes T p above W k W₂ r
+  row-fork a b = record {
+    on = λ n l y h c.
+        let s = halves n l y h in
+        rw (s .finish) (b .on n (l - 1) y (s .right) (rw (s .middle) (a .on n (l - 1) y (s .left) (rw (s .begin) c))));
+  }
+
+-- a leaf in the code's numbers: it is met, or was met
+module _ {T W : List ℕ} {p above k : ℕ} (kind : ℕ) (is : kind ≡ type T p) (z : kind ≡ forkType → ⊥) where
+  pub row-leaf : {W₁ : List ℕ} {r : ℕ} → Met T W p k r W₁ → Passes T p above W k W₁ r
+  row-leaf m = record { on = λ n l y h c. rw (m .count, m .words) (counting-leaf h (ne-eqb (type T p) forkType (λ q. z (is ∙ q))) c) }
+
+  pub row-old : (above ≡ 0 → ⊥) → Passes T p above W k W k
+  row-old some = record { on = λ n l y h c. counting-old h (ne-eqb (type T p) forkType (λ q. z (is ∙ q))) some c }
 
 -- what meeting leaf p asks for
-pub meets : {n : ℕ} {T W : List ℕ} {p l i k : ℕ} → AtLevel n T p l → Counting n T W i k → Meets T W p k
-meets {n} {T} {W} {p} {l} {i} {k} h c = record {
-  node = h .node;
-  size = c .counted .size;
-  room = omega (arith, counted-few n T (c .first) (c .led) W i k (c .counted), h .accepted .sized .few);
-}
+pub meets : {T W : List ℕ} {p above k : ℕ} → Reached T W p above k → Meets T W p k
+meets {T} {W} {p} {above} {k} r =
+    let c = r .counting in
+    let h = r .crossed .place in
+    record {
+      node = h .node;
+      size = c .counted .size;
+      room = omega (arith, counted-few (r .n) T (c .first) (c .led) W _ k (c .counted), h .accepted .sized .few);
+    }
 
 -- row by row: no pixel is passed before the first row, each row begins where the one above ends, and after the last all are passed
 module _ {n : ℕ} {T W : List ℕ} where

@@ -3,7 +3,7 @@
 use mathlib.Core.Bool.{cond}
 use mathlib.Core.List.{List}
 use mathlib.Core.Path.{_≡_}
-use Prim.Native.Nat.{ℕ, _+_, _-_, _*_, _/_, _^_, _≤_, _<_}
+use Prim.Native.Nat.{ℕ, _+_, _-_, _*_, _/_, _%_, _^_, _≤_, _<_}
 use lib.Dec.{eqb, ltb}
 use lib.ListN.{length, set}
 use Rattle.quad.specs.Numbers.{black}
@@ -78,10 +78,27 @@ pub record Counting (n : ℕ) (T words : List ℕ) (i k : ℕ) : Type 0 where
 unfoldable pub startOf : ℕ → List ℕ → ℕ → ℕ → ℕ
 startOf n T p y = y * 2 ^ n + leftOf n T p
 
--- node p is of level l, and row y crosses its block
-pub record Crossed (n : ℕ) (T : List ℕ) (p l y : ℕ) : Type 0 where
+-- the part of a block of level l that lies above row y, which crosses it: in 2 ^ 32nds of the side
+unfoldable pub partAbove : ℕ → ℕ → ℕ
+partAbove l y = y % 2 ^ l * 2 ^ (32 - l)
+
+-- node p is of level l, row y crosses its block, and that part of the block lies above the row
+pub record Crossed (n : ℕ) (T : List ℕ) (p l y above : ℕ) : Type 0 where
   pub place : AtLevel n T p l
   pub down : y / 2 ^ l ≡ row (pathTo T n p)
+  pub part : above ≡ partAbove l y
+
+-- such a row has come to node p: the pixels before p's block are passed
+pub record Reached (T words : List ℕ) (p above k : ℕ) : Type 0 where
+  pub n : ℕ
+  pub l : ℕ
+  pub y : ℕ
+  pub crossed : Crossed n T p l y above
+  pub counting : Counting n T words (startOf n T p y) k
+
+-- whatever row crosses node p's block so: where the pixels before the block are passed, those of the block in that row are passed too
+pub record Passes (T : List ℕ) (p above : ℕ) (before : List ℕ) (k : ℕ) (after : List ℕ) (r : ℕ) : Type 0 where
+  pub on : (n l y : ℕ) → Crossed n T p l y above → Counting n T before (startOf n T p y) k → Counting n T after (startOf n T p y + 2 ^ l) r
 
 -- a node's number once all are given: its leader's word less N for a black leaf
 unfoldable pub numberOf : List ℕ → List ℕ → ℕ → ℕ

@@ -3,16 +3,17 @@ use answer::Outcome;
 use register::Pond;
 use table::word_at;
 ghost use mathlib.Core.Path.{_≡_};
-ghost use Prim.Native.Nat.{_+_, _*_, _/_, _%_, _^_, _<_, _≤_};
+ghost use mathlib.Core.Bool.{true};
+ghost use Prim.Native.Nat.{_+_, _*_, _/_, _^_, _<_, _≤_};
 ghost use lib.Dec.{eqb};
 ghost use lib.ListN.{length};
 ghost use Rattle.answer.specs.Numbers.{valueOf};
 ghost use Rattle.quad.specs.Numbers.{black, topLevel, maxWords};
-ghost use Rattle.table.specs.Table.{nodes, type};
+ghost use Rattle.table.specs.Table.{nodes, type, isFork};
 ghost use Rattle.table.specs.Rules.{one, Accepted};
 ghost use Rattle.joins.specs.Led.{Led};
 ghost use Rattle.ponds.specs.Numbered.{Numbered};
-ghost use Rattle.ponds.specs.Counted.{leadOf, Meets, Met, Counting, startOf, Crossed, settledAt, Settles, Tells, Settled};
+ghost use Rattle.ponds.specs.Counted.{leadOf, Meets, Met, Counting, partAbove, Reached, Passes, settledAt, Settles, Tells, Settled};
 ghost use Rattle.ponds.specs.Calls.{blackLeaves, pondsTest, FindsInWords, FindsInEntries};
 ghost use Rattle.ponds.specs.Found.{Found};
 
@@ -45,28 +46,46 @@ fn meet(table: &[u32], words: &mut [u32], p: usize, count: u32) -> u32
     count + 1
 }
 
-// The western one of the two quadrants that row y crosses in a block; `half` is their level.
-fn western(y: u32, half: u32) -> usize
-    requires { ⌜ half ≤ topLevel ⌝ }
-    ensures { λ r. ⌜ r ≡ 2 * (y / 2 ^ half % 2) ⌝ }
+// The part of a sheet that lies above row y.
+fn part_above(n: u32, y: u32) -> u32
+    requires { ⌜ (n ≤ topLevel) × (y < 2 ^ n) ⌝ }
+    ensures { λ r. ⌜ r ≡ partAbove n y ⌝ }
 {
-    2 * ((y >> half) % 2) as usize
+    2 * (y << (31 - n))
 }
 
-// Meets the leaves that row y crosses under node p, from west to east.
-fn row(n: u32, table: &[u32], words: &mut [u32], p: usize, level: u32, y: u32, count: u32) -> u32
-    requires { ⌜ Crossed n (now table) p level y × Counting n (now table) (now words) (startOf n (now table) p y) count ⌝ }
-    ensures { λ r. ⌜ Counting n (now (table .entry)) (now (words .exit)) (startOf n (now (table .entry)) p y + 2 ^ level) r ⌝ }
+// The western one of the two quadrants that a row crosses in a block of which that part lies above it.
+fn western(above: u32) -> usize
+    ensures { λ r. ⌜ r ≡ 2 * (above / 2 ^ 31) ⌝ }
 {
-    if word_at(table, p, 5) != quad::FORK {
-        return meet(table, words, p, count);
+    2 * (above >> 31) as usize
+}
+
+// Meets the leaves that a row crosses under node p, from west to east. A leaf of which a part lies above the row was met in a row before.
+fn row(table: &[u32], words: &mut [u32], p: usize, above: u32, count: u32) -> u32
+    requires { ⌜ Reached (now table) (now words) p above count ⌝ }
+    ensures { λ r. ⌜ Passes (now (table .entry)) p above (now (words .entry)) count (now (words .exit)) r ⌝ }
+{
+    if word_at(table, p, 5) == quad::FORK {
+        return fork_row(table, words, p, above, count);
     }
-    let half = level - 1;
-    let q = western(y, half);
+    if above != 0 {
+        return count;
+    }
+    meet(table, words, p, count)
+}
+
+// The same under fork p: the two sons that the row crosses.
+fn fork_row(table: &[u32], words: &mut [u32], p: usize, above: u32, count: u32) -> u32
+    requires { ⌜ Reached (now table) (now words) p above count × (isFork (now table) p ≡ true) ⌝ }
+    ensures { λ r. ⌜ Passes (now (table .entry)) p above (now (words .entry)) count (now (words .exit)) r ⌝ }
+{
+    let q = western(above);
     let west = word_at(table, p, 1 + q);
     let east = word_at(table, p, 2 + q);
-    let met = row(n, table, words, west, half, y, count);
-    row(n, table, words, east, half, y, met)
+    let part = above << 1;
+    let met = row(table, words, west, part, count);
+    row(table, words, east, part, met)
 }
 
 // Meets the leaves of all rows, from the top: each leader gets its number. Gives the count.
@@ -78,7 +97,7 @@ fn rows(n: u32, table: &[u32], words: &mut [u32]) -> u32
     let mut y = 0;
     let mut count = 0;
     while y < across {
-        count = row(n, table, words, 0, n, y, count);
+        count = row(table, words, 0, part_above(n, y), count);
         y += 1;
     }
     count
