@@ -1,41 +1,54 @@
 -- Chains of black leaves: they begin and end at black leaves, one may go on where another ends, and each may be gone back.
 use mathlib.Core.List.{List}
+use mathlib.Core.Logic.{_⊎_, inl, inr}
 use mathlib.Core.Path.{_≡_}
 use Prim.Native.Nat.{ℕ, _+_, _-_, _<_}
 use native.Mathlib.Omega.{arith}
 use Rattle.quad.specs.Direction.{eastStep, southStep}
 use Rattle.quad.proofs.TreeLaws.{by-quadrant}
-use Rattle.neighbour.specs.Containing.{opposite}
+use Rattle.neighbour.specs.Containing.{Touches, opposite}
 use Rattle.neighbour.proofs.BackLaws.{cancels}
 use Rattle.joins.specs.Chain.{Water, Shares, Chain, end, link}
+use Rattle.joins.specs.Joining.{Forward}
 
 -- the direction back from a side is a side
 pub straight-back : (D : ℕ) → D < 4 → opposite D < 4
 unfolding opposite
 straight-back = by-quadrant (λ (D : ℕ). opposite D < 4) (omega arith) (omega arith) (omega arith) (omega arith)
 
+-- a side is E or S, or the side back from it is
+pub forward-or-back : (D : ℕ) → D < 4 → Forward D ⊎ Forward (opposite D)
+unfolding opposite
+forward-or-back =
+    by-quadrant (λ (D : ℕ). Forward D ⊎ Forward (opposite D))
+    (inr (omega arith, omega arith))
+    (inl (omega arith, omega arith))
+    (inl (omega arith, omega arith))
+    (inr (omega arith, omega arith))
+
 module _ (n : ℕ) (T : List ℕ) where
   -- a length of side is shared both ways
+  pub touches-back : (p q D x y : ℕ) → D < 4 → Touches n T p q D x y → Touches n T q p (opposite D) (x + eastStep D - 1) (y + southStep D - 1)
+  touches-back p q D x y side t =
+      let k = cancels D (omega arith) in
+      let bx : x + eastStep D - 1 + eastStep (opposite D) - 1 ≡ x = omega (arith, k .east, t .east) in
+      let by : y + southStep D - 1 + southStep (opposite D) - 1 ≡ y = omega (arith, k .south, t .south) in
+      record {
+        east = omega (arith, k .east, t .east);
+        south = omega (arith, k .south, t .south);
+        here = t .beyond;
+        beyond = rw (bx, by) (t .here);
+      }
+
   pub shares-back : (p q : ℕ) → Shares n T p q → Shares n T q p
   shares-back p q s =
-      let t = s .touch in
       let D : ℕ = s .side in
-      let k = cancels D (omega (arith, s .straight)) in
-      let x : ℕ = s .x + eastStep D - 1 in
-      let y : ℕ = s .y + southStep D - 1 in
-      let bx : x + eastStep (opposite D) - 1 ≡ s .x = omega (arith, k .east, t .east) in
-      let by : y + southStep (opposite D) - 1 ≡ s .y = omega (arith, k .south, t .south) in
       record {
         side = opposite D;
-        x = x;
-        y = y;
+        x = s .x + eastStep D - 1;
+        y = s .y + southStep D - 1;
         straight = straight-back D (s .straight);
-        touch = record {
-          east = omega (arith, k .east, t .east);
-          south = omega (arith, k .south, t .south);
-          here = t .beyond;
-          beyond = rw (bx, by) (t .here);
-        };
+        touch = touches-back p q D (s .x) (s .y) (s .straight) (s .touch);
       }
 
   pub chain-start : (p q : ℕ) → Chain n T p q → Water T p

@@ -1,4 +1,4 @@
--- The passes together: the first words are wired; where all sides have been looked at, the leaves of a chain have one leader; so the settled words lead.
+-- The passes together: the first words are wired; where all sides have been looked beyond, the leaves of a chain have one leader; so the settled words lead.
 use mathlib.Core.List.{List}
 use mathlib.Core.Logic.{⊎-elim}
 use mathlib.Core.Path.{_≡_, refl, ap, sym, _∙_}
@@ -14,14 +14,12 @@ use Rattle.base.proofs.CaseLaws.{cond-case}
 use Rattle.base.proofs.TabLaws.{tab-length, tab-at}
 use Rattle.quad.specs.Numbers.{black}
 use Rattle.table.specs.Table.{nodes, type}
-use Rattle.table.specs.Rules.{Accepted}
-use Rattle.table.specs.Nodes.{levelOf, sideOf}
+use Rattle.neighbour.specs.Containing.{opposite}
 use Rattle.joins.specs.Chain.{Water, Shares, Chain, end, link}
 use Rattle.joins.specs.Led.{wordOf, Led}
-use Rattle.joins.specs.Joining.{leaderOf, ownOf, Settled, Wired, Met, MetAll}
-use Rattle.joins.proofs.ChainLaws.{shares-back, chain-start, chain-end, chain-joined, chain-back}
-use Rattle.joins.proofs.LeaderLaws.{same-or-not, leader-own, leader-low, leader-ends, leader-on, chain-leader}
-use Rattle.joins.proofs.ShareLaws.{shares-found}
+use Rattle.joins.specs.Joining.{leaderOf, ownOf, Settled, Wired, Forward, Met, MetAll}
+use Rattle.joins.proofs.ChainLaws.{forward-or-back, touches-back, chain-start, chain-end, chain-joined, chain-back}
+use Rattle.joins.proofs.LeaderLaws.{leader-own, leader-low, leader-ends, leader-on, chain-leader}
 
 -- each node's own word
 module _ (n : ℕ) (T W : List ℕ) (e : W ≡ tab (ownOf T) (nodes T)) where
@@ -45,21 +43,16 @@ module _ (n : ℕ) (T W : List ℕ) (e : W ≡ tab (ownOf T) (nodes T)) where
         rw o (end w);
   }
 
-module _ (n : ℕ) (T W : List ℕ) (acc : Accepted n T) (met : MetAll n T W (nodes T)) where
-  -- leaves that share a length of side, p being not the larger
-  one-smaller : (p q : ℕ) → Water T p → Water T q → Shares n T p q → sideOf n T p ≤ sideOf n T q → leaderOf W p ≡ leaderOf W q
-  unfolding Met
-  one-smaller p q u v s size =
-      same-or-not p q
-      (λ e. ap (leaderOf W) e)
-      (λ ne. met p (u .node) u (s .side) (s .straight) q (levelOf n T q) (shares-found n T acc p q u v ne s size) (v .wet))
-
+module _ (n : ℕ) (T W : List ℕ) (met : MetAll n T W (nodes T)) where
+  -- leaves that share a length of side: they are met from the one that has the other on its side E or S
   one-side : (p q : ℕ) → Water T p → Water T q → Shares n T p q → leaderOf W p ≡ leaderOf W q
+  unfolding Met
   one-side p q u v s =
+      let D : ℕ = s .side in
       ⊎-elim
-      (λ (l : sideOf n T q < sideOf n T p). sym (one-smaller q p v u (shares-back n T p q s) (omega arith)))
-      (λ (g : sideOf n T p ≤ sideOf n T q). one-smaller p q u v s g)
-      (lt-or-ge (sideOf n T q) (sideOf n T p))
+      (λ (w : Forward D). met p (u .node) u D w q (s .x) (s .y) v (s .touch))
+      (λ (w : Forward (opposite D)). sym (met q (v .node) v (opposite D) w p _ _ u (touches-back n T p q D (s .x) (s .y) (s .straight) (s .touch))))
+      (forward-or-back D (s .straight))
 
   one-chain : (p q : ℕ) → Chain n T p q → leaderOf W p ≡ leaderOf W q
   one-chain p q (end w) = refl

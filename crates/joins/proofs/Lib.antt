@@ -2,6 +2,7 @@ pub mod ChainLaws
 pub mod LeaderLaws
 pub mod JoinLaws
 pub mod SettleLaws
-pub mod ShareLaws
+pub mod BankLaws
+pub mod BeyondLaws
 pub mod MeetLaws
 pub mod LedLaws

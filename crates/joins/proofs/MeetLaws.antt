@@ -1,21 +1,27 @@
--- A black leaf meets its neighbours: what a look beyond a side leaves, in the code's own values. What has been met stays so while more is joined.
+-- A black leaf meets those beyond its sides E and S: what going down along a side and a look beyond it leave, in the code's own values. What has been met stays
+-- so while more is joined.
+use mathlib.Core.Bool.{true}
 use mathlib.Core.List.{List}
+use mathlib.Core.Logic.{⊎-elim}
 use mathlib.Core.Path.{_≡_, ap, sym, _∙_}
-use Prim.Native.Nat.{ℕ, _+_, _≤_, _<_}
+use Prim.Native.Nat.{ℕ, _+_, _-_, _≤_, _<_}
 use native.Mathlib.Omega.{arith}
-use Rattle.quad.specs.Numbers.{black}
-use Rattle.table.specs.Table.{nodes, type}
-use Rattle.table.specs.Rules.{Accepted}
+use borrow.Author.Tests.{eq-eqb, ne-eqb}
+use Rattle.quad.specs.Direction.{eastStep, southStep}
+use Rattle.quad.specs.Numbers.{black, forkType}
+use Rattle.table.specs.Table.{nodes, word, son, type, isFork}
+use Rattle.table.specs.Rules.{depthTo, Accepted}
 use Rattle.table.specs.Links.{Rising}
-use Rattle.table.proofs.AcceptedLaws.{father-below}
+use Rattle.table.proofs.AcceptedLaws.{father-below, fork-above, son-at}
 use Rattle.neighbour.specs.declared.Found.{Found}
 use Rattle.neighbour.specs.declared.Found.the-variants.{At, Off}
 use Rattle.neighbour.specs.Search.{neighbourFound}
-use Rattle.neighbour.proofs.FoundLaws.{found-facts}
+use Rattle.neighbour.proofs.SideLaws.{leaf-holds}
 use Rattle.joins.specs.Chain.{Water, Chain, end, link}
-use Rattle.joins.specs.Joining.{Together, Joined, Wired, Further, Beside, Met, MetSides, MetAll}
-use Rattle.joins.proofs.LeaderLaws.{last-or-before}
-use Rattle.joins.proofs.ShareLaws.{water-leaf, found-shares}
+use Rattle.joins.specs.Joining.{leaderOf, Together, Joined, Wired, Further, Forward, Beside, Flush, Bank, MetIn, Ashore, Reached, Met, MetSides, MetAll}
+use Rattle.joins.proofs.LeaderLaws.{same-or-not, last-or-before}
+use Rattle.joins.proofs.BankLaws.{by-side, step, pixel-lies, lies-pixel, flush-shares, flush-first, flush-second, near}
+use Rattle.joins.proofs.BeyondLaws.{water-leaf, bank, beyond-in, beyond-on}
 
 pub further-none : (n : ℕ) (T W : List ℕ) → Wired n T W → Further n T W W
 further-none n T W w = record { wired = w; together = λ i j e. e }
@@ -26,85 +32,169 @@ further-on n T W W' W'' f g = record { wired = g .wired; together = λ i j e. g 
 -- what has been met stays so
 pub met-still : (n : ℕ) (T W W' : List ℕ) (p D : ℕ) → Together W W' → Met n T W p D → Met n T W' p D
 unfolding Met
-met-still n T W W' p D t h m l e b = t p m (h m l e b)
+met-still n T W W' p D t h q x y v c = t p q (h q x y v c)
+
+met-in-still : (n : ℕ) (T W W' : List ℕ) (p m D : ℕ) → Together W W' → MetIn n T W p m D → MetIn n T W' p m D
+unfolding MetIn
+met-in-still n T W W' p m D t h q x y v c i = t p q (h q x y v c i)
+
+-- node m along side D of the black leaf p
+module _ {n : ℕ} {T : List ℕ} {p m l D : ℕ} (z : Bank n T p m l D) (kind : ℕ) (is : kind ≡ type T m) where
+  -- a leaf is met where it is black
+  in-other : (W : List ℕ) → (kind ≡ forkType → ⊥) → (kind ≡ black → ⊥) → MetIn n T W p m D
+  unfolding MetIn
+  in-other W nf nb q x y v t c =
+      let e = leaf-holds n T (z .place .accepted) m n (x + eastStep D - 1) (y + southStep D - 1) c (ne-eqb (type T m) forkType (λ f. nf (is ∙ f))) in
+      let g = leaf-holds n T (z .place .accepted) q n (x + eastStep D - 1) (y + southStep D - 1) (t .beyond) (water-leaf T q v) in
+      absurd (nb (is ∙ ap (type T) (sym e ∙ g) ∙ v .wet))
+
+  module _ (b : kind ≡ black) where
+    leaf-water : Water T m
+    leaf-water = record { node = z .place .node; wet = sym is ∙ b }
+
+    in-black : (W W' : List ℕ) → Joined W W' p m → MetIn n T W' p m D
+    unfolding MetIn
+    in-black W W' j q x y v t c =
+        let e = leaf-holds n T (z .place .accepted) m n (x + eastStep D - 1) (y + southStep D - 1) c (water-leaf T m leaf-water) in
+        let g = leaf-holds n T (z .place .accepted) q n (x + eastStep D - 1) (y + southStep D - 1) (t .beyond) (water-leaf T q v) in
+        j .one ∙ ap (leaderOf W') (sym e ∙ g)
+
+    further-black : (W W' : List ℕ) → Wired n T W → Joined W W' p m → Further n T W W'
+    further-black W W' w j = record {
+      wired = record {
+        each = j .long ∙ w .each;
+        falling = λ i. omega (arith, j .less i, w .falling i);
+        dry = λ i lt ne. omega (arith, j .less i, w .dry i lt ne);
+        linked = j .linked n T (link (z .water) (z .shares) (end leaf-water)) (w .linked);
+      };
+      together = j .together;
+    }
+
+  -- a fork's two sons at the near edge lie along the side too
+  module _ (fk : kind ≡ forkType) where
+    bank-fork : isFork T m ≡ true
+    bank-fork = eq-eqb (type T m) forkType (sym is ∙ fk)
+
+    bank-son : (q : ℕ) → q < 4 → Flush n T p (son T m q) D → Bank n T p (son T m q) (l - 1) D
+    bank-son q q4 f =
+        let at = son-at (z .place) bank-fork q q4 in
+        record {
+          water = z .water;
+          place = at;
+          way = z .way;
+          shares = flush-shares n T (z .place .accepted) D (z .way) p (son T m q) (z .water .node) (at .node) f;
+          flush = λ g. f;
+        }
+
+    bank-first : (s : ℕ) → s ≡ word T m 1 → Bank n T p s (l - 1) D
+    bank-first s e =
+        rw e (bank-son 0 (omega arith) (flush-first n T (z .place .accepted) D (z .way) m (z .place .node) bank-fork p (z .flush bank-fork)))
+
+    bank-second : (s far : ℕ) → far ≡ 3 - D → s ≡ word T m (1 + far) → Bank n T p s (l - 1) D
+    bank-second s far a e =
+        rw (e, a) (bank-son (3 - D) (omega arith) (flush-second n T (z .place .accepted) D (z .way) m (z .place .node) bank-fork p (z .flush bank-fork)))
+
+    -- and no other son touches p
+    in-fork : (W : List ℕ) → MetIn n T W p (son T m 0) D → MetIn n T W p (son T m (3 - D)) D → MetIn n T W p m D
+    unfolding MetIn
+    in-fork W a b q x y v t c =
+        let acc = z .place .accepted in
+        let way = z .way in
+        let x' : ℕ = x + eastStep D - 1 in
+        let y' : ℕ = y + southStep D - 1 in
+        let s = step D way x y in
+        let j = rw (s .0, s .1) at (pixel-lies n T acc D way m x' y' c) in
+        ⊎-elim
+        (λ i. a q x y v t (lies-pixel n T acc D way (son T m 0) x' y' (son-at (z .place) bank-fork 0 (omega arith) .node) (rw (s .0, s .1) i)))
+        (λ i. b q x y v t (lies-pixel n T acc D way (son T m (3 - D)) x' y' (son-at (z .place) bank-fork (3 - D) (omega arith) .node) (rw (s .0, s .1) i)))
+        (near n T acc D way m (z .place .node) bank-fork p (z .flush bank-fork) _ _ (pixel-lies n T acc D way p x y (t .here)) j)
+
+-- a fork is above the pixels, and its sons are asked one after the other
+module _ {T W : List ℕ} {p m l D : ℕ} (h : Ashore T W p m l D) (kind : ℕ) (is : kind ≡ type T m) (fk : kind ≡ forkType) where
+  pub ashore-level : 0 < l
+  ashore-level = fork-above (h .bank .place) (bank-fork (h .bank) kind is fk)
+
+  pub ashore-first : (s : ℕ) → s ≡ word T m 1 → Ashore T W p s (l - 1) D
+  ashore-first s e = record { n = h .n; bank = bank-first (h .bank) kind is fk s e; wired = h .wired }
+
+  pub ashore-second : (W' : List ℕ) (s r far : ℕ) → s ≡ word T m 1 → far ≡ 3 - D → r ≡ word T m (1 + far) → Reached T W W' p s (l - 1) D
+      → Ashore T W' p r (l - 1) D
+  ashore-second W' s r far es ef er a = record {
+    n = h .n;
+    bank = bank-second (h .bank) kind is fk r far ef er;
+    wired = a (h .n) (bank-first (h .bank) kind is fk s es) (h .wired) .0 .wired;
+  }
+
+-- what going down leaves, on each sheet: at a leaf, and at a fork
+module _ {T : List ℕ} {p m l D : ℕ} (kind : ℕ) (is : kind ≡ type T m) where
+  pub reached-other : (W : List ℕ) → (kind ≡ forkType → ⊥) → (kind ≡ black → ⊥) → Reached T W W p m l D
+  reached-other W nf nb n z w = (further-none n T W w, in-other z kind is W nf nb)
+
+  pub reached-black : (W W' : List ℕ) → kind ≡ black → Joined W W' p m → Reached T W W' p m l D
+  reached-black W W' b j n z w = (further-black z kind is b W W' w j, in-black z kind is b W W' j)
+
+  pub reached-fork : (W W' W'' : List ℕ) (s r far : ℕ) → kind ≡ forkType → s ≡ word T m 1 → far ≡ 3 - D → r ≡ word T m (1 + far)
+      → Reached T W W' p s (l - 1) D → Reached T W' W'' p r (l - 1) D → Reached T W W'' p m l D
+  reached-fork W W' W'' s r far fk es ef er a b n z w =
+      let first = a n (bank-first z kind is fk s es) w in
+      let second = b n (bank-second z kind is fk r far ef er) (first .0 .wired) in
+      let i = met-in-still n T W' W'' p s D (second .0 .together) (first .1) in
+      (further-on n T W W' W'' (first .0) (second .0), in-fork z kind is fk W'' (rw es at i) (rw (er, ef) at (second .1)))
 
 -- beyond side D of the black leaf p
-module _ (n : ℕ) (T : List ℕ) (p l D : ℕ) (z : Beside n T p l D) (found : Found) (e : found ≡ neighbourFound n T p D) where
-  pub found-below : (m k : ℕ) → found ≡ At m k → m < nodes T
-  found-below m k f = found-facts n T (z .accepted) p D (z .water .node) (omega (arith, z .straight)) m k (sym e ∙ f) .below
-
-module _ (n : ℕ) (T W : List ℕ) (p D : ℕ) (found : Found) (e : found ≡ neighbourFound n T p D) where
-  pub met-off : found ≡ Off → Met n T W p D
+module _ {n : ℕ} {T : List ℕ} {p l D : ℕ} (z : Beside n T p l D) (found : Found) (e : found ≡ neighbourFound n T p D) where
+  pub met-off : (W : List ℕ) → found ≡ Off → Met n T W p D
   unfolding Met
-  met-off o m k f b = absurd (let x : _≡_ {A = ℕ} 0 1 = cc in omega arith)
+  met-off W f q x y v t =
+      same-or-not p q
+      (λ s. ap (leaderOf W) s)
+      (λ ne. absurd (beyond-on n T (z .accepted) p (z .water) D (z .way) q x y v ne t (sym e ∙ f)))
 
-  -- a node m was found
-  module _ (m k : ℕ) (f : found ≡ At m k) where
-    pub met-other : (kind : ℕ) → kind ≡ type T m → (kind ≡ black → ⊥) → Met n T W p D
-    unfolding Met
-    met-other kind ek ne i j g b =
-        let a : m ≡ i = cc in
-        absurd (ne (ek ∙ ap (type T) a ∙ b))
+  module _ (W : List ℕ) (w : Wired n T W) (m k : ℕ) (f : found ≡ At m k) where
+    found-bank : Bank n T p m k D
+    found-bank = bank n T (z .accepted) p (z .water) D (z .way) m k (sym e ∙ f)
 
-    pub met-black : (W₀ : List ℕ) → Joined W₀ W p m → Met n T W p D
-    unfolding Met
-    met-black W₀ j i q g h =
-        let a : m ≡ i = cc in
-        rw (← a) (j .one)
+    pub ashore-found : Ashore T W p m k D
+    ashore-found = record { n = n; bank = found-bank; wired = w }
 
--- a black leaf m was found, and joined
-module _ (n : ℕ) (T : List ℕ) (p l D : ℕ) (z : Beside n T p l D) (found : Found) (e : found ≡ neighbourFound n T p D)
-    (m k kind : ℕ) (f : found ≡ At m k) (ek : kind ≡ type T m) (b : kind ≡ black) where
-  met-water : Chain n T p m
-  met-water =
-      let v : Water T m = record { node = found-below n T p l D z found e m k f; wet = sym ek ∙ b } in
-      link (z .water) (found-shares n T (z .accepted) p D m k (z .water .node) (z .straight) (sym e ∙ f) (water-leaf T m v)) (end v)
-
-  pub further-black : (W W' : List ℕ) → Wired n T W → Joined W W' p m → Further n T W W'
-  further-black W W' w j = record {
-    wired = record {
-      each = j .long ∙ w .each;
-      falling = λ i. omega (arith, j .less i, w .falling i);
-      dry = λ i lt ne. omega (arith, j .less i, w .dry i lt ne);
-      linked = j .linked n T met-water (w .linked);
-    };
-    together = j .together;
-  }
+    pub met-found : (W' : List ℕ) → Reached T W W' p m k D → Further n T W W' × Met n T W' p D
+    unfolding Met MetIn
+    met-found W' r =
+        let a = r n found-bank w in (
+          a .0,
+          λ q x y v t.
+              same-or-not p q
+              (λ s. ap (leaderOf W') s)
+              (λ ne. a .1 q x y v t (beyond-in n T (z .accepted) p (z .water) D (z .way) q x y v ne t m k (sym e ∙ f))),
+        )
 
 -- p's level is asked of an accepted table
 pub rising : (n : ℕ) (T : List ℕ) → Accepted n T → (p : ℕ) → p < nodes T → Rising T (p + 1)
 unfolding Rising
 rising n T acc p lt k h pos = father-below n T acc k (omega arith) pos
 
+-- and told by its depth
+pub beside-at : {n : ℕ} {T : List ℕ} {p : ℕ} → Accepted n T → p < nodes T → (kind : ℕ) → kind ≡ type T p → kind ≡ black
+    → (depth : ℕ) → depth ≡ depthTo T n p → (D : ℕ) → Forward D → Beside n T p (n - depth) D
+beside-at {n} acc lt kind is b depth e D way = record {
+  accepted = acc;
+  water = record { node = lt; wet = sym is ∙ b };
+  level = ap (λ (d : ℕ). n - d) e;
+  way = way;
+}
+
 -- a node that is no black leaf has no side to look beyond
-pub sides-dry : (n : ℕ) (T W : List ℕ) (p kind : ℕ) → kind ≡ type T p → (kind ≡ black → ⊥) → MetSides n T W p 4
+pub sides-dry : (n : ℕ) (T W : List ℕ) (p kind : ℕ) → kind ≡ type T p → (kind ≡ black → ⊥) → MetSides n T W p
 sides-dry n T W p kind e ne v = absurd (ne (e ∙ v .wet))
 
--- the first k sides of p have been looked at, and the words W₀ have become W
-pub record Looked (n : ℕ) (T W₀ W : List ℕ) (p k : ℕ) : Type 0 where
-  pub low : k ≤ 4
-  pub further : Further n T W₀ W
-  pub met : (D : ℕ) → D < k → Met n T W p D
-
-pub looked-none : (n : ℕ) (T W : List ℕ) (p : ℕ) → Wired n T W → Looked n T W W p 0
-looked-none n T W p w = record { low = omega arith; further = further-none n T W w; met = λ D l. absurd (omega arith) }
-
-module _ (n : ℕ) (T W₀ W : List ℕ) (p k : ℕ) (h : Looked n T W₀ W p k) where
-  pub looked-more : (W' : List ℕ) → k < 4 → Further n T W W' × Met n T W' p k → Looked n T W₀ W' p (k + 1)
-  looked-more W' lt a = record {
-    low = omega arith;
-    further = further-on n T W₀ W W' (h .further) (a .0);
-    met = λ D l.
-        last-or-before D k l
-        (λ e. rw e (a .1))
-        (λ g. met-still n T W W' p D (a .0 .together) (h .met D g));
-  }
-
-  pub looked-all : 4 ≤ k → MetSides n T W p 4
-  looked-all le v D l = h .met D (omega arith)
+-- both sides have been looked beyond, one after the other
+pub both-sides : (n : ℕ) (T W W' W'' : List ℕ) (p : ℕ) → Further n T W W' × Met n T W' p 1 → Further n T W' W'' × Met n T W'' p 2
+    → Further n T W W'' × MetSides n T W'' p
+both-sides n T W W' W'' p a b =
+    (further-on n T W W' W'' (a .0) (b .0), λ v. by-side (Met n T W'' p) (met-still n T W' W'' p 1 (b .0 .together) (a .1)) (b .1))
 
 -- the sides of one node more
-pub met-more : (n : ℕ) (T W W' : List ℕ) (p : ℕ) → MetAll n T W p → Further n T W W' × MetSides n T W' p 4 → MetAll n T W' (p + 1)
+pub met-more : (n : ℕ) (T W W' : List ℕ) (p : ℕ) → MetAll n T W p → Further n T W W' × MetSides n T W' p → MetAll n T W' (p + 1)
 met-more n T W W' p h a i l =
     last-or-before i p l
     (λ e. rw e (a .1))

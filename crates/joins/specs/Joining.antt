@@ -1,18 +1,18 @@
 -- The words while leaves are joined: from each node they lead down to a leader, which is its own word. Inner definitions: no outside call's statement
 -- cites them.
-use mathlib.Core.Bool.{cond}
+use mathlib.Core.Bool.{true, cond}
 use mathlib.Core.List.{List}
 use mathlib.Core.Path.{_≡_}
-use Prim.Native.Nat.{ℕ, zero, suc, _≤_, _<_}
+use Prim.Native.Nat.{ℕ, zero, suc, _+_, _-_, _≤_, _<_}
 use lib.Dec.{eqb}
 use lib.ListN.{length}
 use Rattle.quad.specs.Numbers.{black}
-use Rattle.table.specs.Table.{nodes, type}
-use Rattle.table.specs.Rules.{Accepted}
-use Rattle.table.specs.Nodes.{levelOf}
-use Rattle.neighbour.specs.declared.Found.the-variants.{At}
-use Rattle.neighbour.specs.Search.{neighbourFound}
-use Rattle.joins.specs.Chain.{Water, Chain}
+use Rattle.quad.specs.Direction.{eastStep, southStep}
+use Rattle.table.specs.Table.{nodes, type, isFork}
+use Rattle.table.specs.Rules.{Accepted, AtLevel}
+use Rattle.table.specs.Nodes.{levelOf, sideOf, leftOf, topOf}
+use Rattle.neighbour.specs.Containing.{Contains, Touches}
+use Rattle.joins.specs.Chain.{Water, Shares, Chain}
 use Rattle.joins.specs.Led.{wordOf}
 
 -- k words on from p
@@ -71,21 +71,67 @@ pub record Further (n : ℕ) (T W W' : List ℕ) : Type 0 where
 abbrev pub ownOf : List ℕ → ℕ → ℕ
 ownOf T p = cond (eqb (type T p) black) p 0
 
+-- sides E and S: each pair of leaves that share a length of side is met from its western or its northern leaf
+abbrev pub Forward : ℕ → Type 0
+Forward D = (0 < D) × (D < 3)
+
 -- what a look beyond side D of the black leaf p asks of its caller: l is its level
 pub record Beside (n : ℕ) (T : List ℕ) (p l D : ℕ) : Type 0 where
   pub accepted : Accepted n T
   pub water : Water T p
   pub level : l ≡ levelOf n T p
-  pub straight : D < 4
+  pub way : Forward D
 
--- p and its neighbour on side D have one leader, if the neighbour is a black leaf
+-- of a column and a row, the one that grows in the direction of side D, and the other one
+unfoldable pub ahead : ℕ → ℕ → ℕ → ℕ
+ahead D x y = cond (eqb D 1) x y
+
+unfoldable pub aside : ℕ → ℕ → ℕ → ℕ
+aside D x y = cond (eqb D 1) y x
+
+-- of a node's block, its first one of each
+abbrev pub aheadOf : ℕ → List ℕ → ℕ → ℕ → ℕ
+aheadOf n T D m = ahead D (leftOf n T m) (topOf n T m)
+
+abbrev pub asideOf : ℕ → List ℕ → ℕ → ℕ → ℕ
+asideOf n T D m = aside D (leftOf n T m) (topOf n T m)
+
+-- the block of m begins where that of p ends on side D, and has all of its near edge along that side
+pub record Flush (n : ℕ) (T : List ℕ) (p m D : ℕ) : Type 0 where
+  pub edge : aheadOf n T D m ≡ aheadOf n T D p + sideOf n T p
+  pub low : asideOf n T D p ≤ asideOf n T D m
+  pub high : asideOf n T D m + sideOf n T m ≤ asideOf n T D p + sideOf n T p
+
+-- what going down along side D of the black leaf p asks of its caller: m, of level l, shares a length of that side, and a fork has all of its near edge there
+pub record Bank (n : ℕ) (T : List ℕ) (p m l D : ℕ) : Type 0 where
+  pub water : Water T p
+  pub place : AtLevel n T m l
+  pub way : Forward D
+  pub shares : Shares n T p m
+  pub flush : isFork T m ≡ true → Flush n T p m D
+
+-- p and each black leaf that shares a length of its side D, at a pixel of m's block, have one leader
+unfoldable pub MetIn : ℕ → List ℕ → List ℕ → ℕ → ℕ → ℕ → Type 0
+MetIn n T W p m D = (q x y : ℕ) → Water T q → Touches n T p q D x y → Contains n T m n (x + eastStep D - 1) (y + southStep D - 1) → leaderOf W p ≡ leaderOf W q
+
+-- on a sheet of some level
+pub record Ashore (T W : List ℕ) (p m l D : ℕ) : Type 0 where
+  pub n : ℕ
+  pub bank : Bank n T p m l D
+  pub wired : Wired n T W
+
+-- and what going down leaves, on each such sheet
+abbrev pub Reached : List ℕ → List ℕ → List ℕ → ℕ → ℕ → ℕ → ℕ → Type 0
+Reached T W W' p m l D = (n : ℕ) → Bank n T p m l D → Wired n T W → Further n T W W' × MetIn n T W' p m D
+
+-- p and each black leaf that shares a length of its side D have one leader
 unfoldable pub Met : ℕ → List ℕ → List ℕ → ℕ → ℕ → Type 0
-Met n T W p D = (m l : ℕ) → neighbourFound n T p D ≡ At m l → type T m ≡ black → leaderOf W p ≡ leaderOf W m
+Met n T W p D = (q x y : ℕ) → Water T q → Touches n T p q D x y → leaderOf W p ≡ leaderOf W q
 
--- the first k sides of p have been looked at, if p is a black leaf
-abbrev pub MetSides : ℕ → List ℕ → List ℕ → ℕ → ℕ → Type 0
-MetSides n T W p k = Water T p → (D : ℕ) → D < k → Met n T W p D
+-- so on both sides, if p is a black leaf
+abbrev pub MetSides : ℕ → List ℕ → List ℕ → ℕ → Type 0
+MetSides n T W p = Water T p → (D : ℕ) → Forward D → Met n T W p D
 
--- the four sides of each node before k have been looked at
+-- each node before k has been so met
 abbrev pub MetAll : ℕ → List ℕ → List ℕ → ℕ → Type 0
-MetAll n T W k = (i : ℕ) → i < k → MetSides n T W i 4
+MetAll n T W k = (i : ℕ) → i < k → MetSides n T W i

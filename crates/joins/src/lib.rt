@@ -10,7 +10,7 @@ ghost use Rattle.quad.specs.Numbers.{maxWords};
 ghost use Rattle.table.specs.Table.{nodes};
 ghost use Rattle.table.specs.Rules.{Accepted};
 ghost use Rattle.joins.specs.Led.{Led};
-ghost use Rattle.joins.specs.Joining.{leaderOf, ownOf, Falling, Kept, Joined, Settled, Wired, Further, Beside, Met, MetSides, MetAll};
+ghost use Rattle.joins.specs.Joining.{leaderOf, ownOf, Falling, Kept, Joined, Settled, Wired, Further, Beside, Ashore, Reached, Met, MetSides, MetAll};
 
 // The word that a node begins with: a black leaf's is itself, the others' are 0.
 fn own(table: &[u32], p: usize) -> u32
@@ -63,36 +63,50 @@ fn join(words: &mut [u32], p: u32, q: u32)
     words[a as usize] = b;
 }
 
-// Joins p and its neighbour on one side, if that is a black leaf. A grey neighbour is passed over: what touches p under it is smaller, and meets p from its
-// own side.
-fn across(n: u32, table: &[u32], words: &mut [u32], p: usize, level: u32, side: usize)
-    requires { ⌜ Beside n (now table) p level side × Wired n (now table) (now words) ⌝ }
-    ensures { λ _. ⌜ Further n (now (table .entry)) (now (words .entry)) (now (words .exit)) × Met n (now (table .entry)) (now (words .exit)) p side ⌝ }
+// Joins p and the black leaves that lie along one side of it, in and under a node: at a fork it goes down to the two sons at the edge that faces p, the NW one and
+// the one at the edge's other end. What lies behind them does not touch p.
+fn shore(table: &[u32], words: &mut [u32], p: usize, node: usize, level: u32, side: usize)
+    requires { ⌜ Ashore (now table) (now words) p node level side ⌝ }
+    ensures { λ _. ⌜ Reached (now (table .entry)) (now (words .entry)) (now (words .exit)) p node level side ⌝ }
 {
-    let found = neighbour::find(n, table, p, level, side);
-    let Found::At { node, level: _ } = found else {
-        return;
-    };
     let kind = word_at(table, node, 5);
+    if kind == quad::FORK {
+        let half = level - 1;
+        let far = 3 - side;
+        let first = word_at(table, node, 1);
+        let second = word_at(table, node, 1 + far);
+        shore(table, words, p, first, half, side);
+        shore(table, words, p, second, half, side);
+        return;
+    }
     if kind == quad::BLACK {
         join(words, p as u32, node as u32);
     }
 }
 
-// Joins a black leaf and its neighbours on the four sides.
+// Joins p and the black leaves beyond one side of it: its neighbour there is a leaf, or a fork of p's size.
+fn across(n: u32, table: &[u32], words: &mut [u32], p: usize, level: u32, side: usize)
+    requires { ⌜ Beside n (now table) p level side × Wired n (now table) (now words) ⌝ }
+    ensures { λ _. ⌜ Further n (now (table .entry)) (now (words .entry)) (now (words .exit)) × Met n (now (table .entry)) (now (words .exit)) p side ⌝ }
+{
+    let found = neighbour::find(n, table, p, level, side);
+    let Found::At { node, level: its } = found else {
+        return;
+    };
+    shore(table, words, p, node, its, side);
+}
+
+// Joins a black leaf and those beyond its sides E and S. Those beyond N and W meet it from their own.
 fn around(n: u32, table: &[u32], words: &mut [u32], p: usize)
     requires { ⌜ Accepted n (now table) × (p < nodes (now table)) × Wired n (now table) (now words) ⌝ }
-    ensures { λ _. ⌜ Further n (now (table .entry)) (now (words .entry)) (now (words .exit)) × MetSides n (now (table .entry)) (now (words .exit)) p 4 ⌝ }
+    ensures { λ _. ⌜ Further n (now (table .entry)) (now (words .entry)) (now (words .exit)) × MetSides n (now (table .entry)) (now (words .exit)) p ⌝ }
 {
     if word_at(table, p, 5) != quad::BLACK {
         return;
     }
     let level = n - table::depth_to(table, n, p);
-    let mut side = 0;
-    while side < 4 {
-        across(n, table, words, p, level, side);
-        side += 1;
-    }
+    across(n, table, words, p, level, 1);
+    across(n, table, words, p, level, 2);
 }
 
 // Joins every black leaf and its neighbours.
