@@ -1,4 +1,5 @@
--- `joins::shore`: a black leaf is joined, and a fork's pixels along the side are those of its two sons at the near edge. The measure is the level. Assumes nothing.
+-- `joins::shore`: a black leaf is joined, and a fork's pixels along the side are those of its two sons at the near edge. The measure is the level.
+-- Assumes nothing.
 use mathlib.Core.Path.{_∙_}
 use Prim.Native.Nat.{ℕ, _<_}
 use native.Mathlib.Omega.{arith}
