@@ -1,6 +1,6 @@
 -- A black leaf meets those beyond its sides E and S: what going down along a side and a look beyond it leave, in the code's own values. What has been met stays
 -- so while more is joined.
-use mathlib.Core.Bool.{true}
+use mathlib.Core.Bool.{true, false}
 use mathlib.Core.List.{List}
 use mathlib.Core.Logic.{⊎-elim}
 use mathlib.Core.Path.{_≡_, ap, sym, _∙_}
@@ -15,6 +15,7 @@ use Rattle.table.specs.Links.{Rising}
 use Rattle.table.proofs.AcceptedLaws.{father-below, fork-above, son-at}
 use Rattle.neighbour.specs.declared.Found.{Found}
 use Rattle.neighbour.specs.declared.Found.the-variants.{At, Off}
+use Rattle.neighbour.specs.Containing.{Contains, Touches}
 use Rattle.neighbour.specs.Search.{neighbourFound}
 use Rattle.neighbour.proofs.SideLaws.{leaf-holds}
 use Rattle.joins.specs.Chain.{Water, end, link}
@@ -40,13 +41,17 @@ met-in-still n T W W' p m D t h q x y v c i = t p q (h q x y v c i)
 
 -- node m along side D of the black leaf p
 module _ {n : ℕ} {T : List ℕ} {p m l D : ℕ} (z : Bank n T p m l D) (kind : ℕ) (is : kind ≡ type T m) where
-  -- a leaf is met where it is black
+  -- what touches p at a pixel of a leaf is that leaf
+  leaf-only : isFork T m ≡ false → (q x y : ℕ) → Water T q → Touches n T p q D x y → Contains n T m n (x + eastStep D - 1) (y + southStep D - 1) → m ≡ q
+  leaf-only f q x y v t c =
+      let x' : ℕ = x + eastStep D - 1 in
+      let y' : ℕ = y + southStep D - 1 in
+      sym (leaf-holds n T (z .place .accepted) m n x' y' c f) ∙ leaf-holds n T (z .place .accepted) q n x' y' (t .beyond) (water-leaf T q v)
+
   in-other : (W : List ℕ) → (kind ≡ forkType → ⊥) → (kind ≡ black → ⊥) → MetIn n T W p m D
   unfolding MetIn
   in-other W nf nb q x y v t c =
-      let e = leaf-holds n T (z .place .accepted) m n (x + eastStep D - 1) (y + southStep D - 1) c (ne-eqb (type T m) forkType (λ f. nf (is ∙ f))) in
-      let g = leaf-holds n T (z .place .accepted) q n (x + eastStep D - 1) (y + southStep D - 1) (t .beyond) (water-leaf T q v) in
-      absurd (nb (is ∙ ap (type T) (sym e ∙ g) ∙ v .wet))
+      absurd (nb (is ∙ ap (type T) (leaf-only (ne-eqb (type T m) forkType (λ f. nf (is ∙ f))) q x y v t c) ∙ v .wet))
 
   module _ (b : kind ≡ black) where
     leaf-water : Water T m
@@ -54,10 +59,7 @@ module _ {n : ℕ} {T : List ℕ} {p m l D : ℕ} (z : Bank n T p m l D) (kind :
 
     in-black : (W W' : List ℕ) → Joined W W' p m → MetIn n T W' p m D
     unfolding MetIn
-    in-black W W' j q x y v t c =
-        let e = leaf-holds n T (z .place .accepted) m n (x + eastStep D - 1) (y + southStep D - 1) c (water-leaf T m leaf-water) in
-        let g = leaf-holds n T (z .place .accepted) q n (x + eastStep D - 1) (y + southStep D - 1) (t .beyond) (water-leaf T q v) in
-        j .one ∙ ap (leaderOf W') (sym e ∙ g)
+    in-black W W' j q x y v t c = j .one ∙ ap (leaderOf W') (leaf-only (water-leaf T m leaf-water) q x y v t c)
 
     further-black : (W W' : List ℕ) → Wired n T W → Joined W W' p m → Further n T W W'
     further-black W W' w j = record {
