@@ -1,9 +1,9 @@
--- What lies along side E or S of a black leaf. Columns and rows are read by the side's direction, `ahead` and `aside`, so that both sides are one: a block begins
--- where the leaf's ends, and at a fork its two sons at the near edge do so, while no pixel of the others touches the leaf.
-use mathlib.Core.Bool.{true, false}
+-- What lies along side E or S of a black leaf. Columns and rows are read by the side's direction, `ahead` and `aside`, so that both sides are one: a block
+-- begins where the leaf's ends; a fork's two sons at the near edge do so too, and no pixel of its other sons is beside one of the leaf's.
+use mathlib.Core.Bool.{true}
 use mathlib.Core.List.{List}
 use mathlib.Core.Logic.{_⊎_, inl, inr, ⊎-elim}
-use mathlib.Core.Path.{_≡_, refl, ap, sym, _∙_}
+use mathlib.Core.Path.{_≡_, refl, ap, _∙_}
 use Prim.Native.Nat.{ℕ, zero, suc, _+_, _-_, _*_, _/_, _%_, _^_, _≤_, _<_}
 use native.Mathlib.Nat.{add-comm, add-mul, mul-assoc, mul-comm}
 use native.Mathlib.Omega.{arith}
@@ -15,19 +15,23 @@ use Rattle.quad.specs.Direction.{eastStep, southStep}
 use Rattle.table.specs.Table.{nodes, son, isFork}
 use Rattle.table.specs.Rules.{depthTo, Accepted}
 use Rattle.table.specs.Nodes.{pathTo, levelOf, sideOf, leftOf, topOf}
-use Rattle.table.proofs.AcceptedLaws.{depth-le, depth-son, fork-deep}
+use Rattle.table.proofs.AcceptedLaws.{depth-son, fork-deep}
 use Rattle.table.proofs.HolderLaws.{path-son}
-use Rattle.neighbour.specs.Containing.{Contains, Touches}
+use Rattle.neighbour.specs.Containing.{Contains}
 use Rattle.neighbour.proofs.PixelLaws.{contains-covers, covers-contains}
 use Rattle.joins.specs.Chain.{Shares}
 use Rattle.joins.specs.Joining.{Forward, ahead, aside, aheadOf, asideOf, Flush}
 
--- the two sides
-pub by-side : (P : ℕ → Type 0) → P 1 → P 2 → (D : ℕ) → Forward D → P D
-by-side P east south zero w = absurd (omega (arith, w .0))
-by-side P east south (suc zero) w = east
-by-side P east south (suc (suc zero)) w = south
-by-side P east south (suc (suc (suc D))) w = absurd (omega (arith, w .1))
+-- the two sides, one by one
+pub data Side : ℕ → Type 0 where
+  east : Side 1
+  south : Side 2
+
+pub side-of : (D : ℕ) → Forward D → Side D
+side-of zero w = absurd (omega (arith, w .0))
+side-of (suc zero) w = east
+side-of (suc (suc zero)) w = south
+side-of (suc (suc (suc D))) w = absurd (omega (arith, w .1))
 
 -- the square of side v from (x, y) on lies in that of side w from (a, b) on
 pub record Lies (a b w x y v : ℕ) : Type 0 where
@@ -39,56 +43,63 @@ pub record Lies (a b w x y v : ℕ) : Type 0 where
 swapped : {a b w x y v : ℕ} → Lies a b w x y v → Lies b a w y x v
 swapped l = record { west = l .north; east = l .south; north = l .west; south = l .east }
 
--- read by the side's direction
-module _ (D : ℕ) (way : Forward D) where
-  pub turned : {a b w x y v : ℕ} → Lies a b w x y v → Lies (ahead D a b) (aside D a b) w (ahead D x y) (aside D x y) v
-  unfolding ahead aside
-  turned {a} {b} {w} {x} {y} {v} =
-      by-side (λ (D : ℕ). Lies a b w x y v → Lies (ahead D a b) (aside D a b) w (ahead D x y) (aside D x y) v) (λ l. l) swapped D way
+-- it lies in the block of node m, by the side's direction
+abbrev pub LiesIn : ℕ → List ℕ → ℕ → ℕ → ℕ → ℕ → ℕ → Type 0
+LiesIn n T D m = Lies (aheadOf n T D m) (asideOf n T D m) (sideOf n T m)
 
-  pub turned-back : {a b w x y v : ℕ} → Lies (ahead D a b) (aside D a b) w (ahead D x y) (aside D x y) v → Lies a b w x y v
-  unfolding ahead aside
-  turned-back {a} {b} {w} {x} {y} {v} =
-      by-side (λ (D : ℕ). Lies (ahead D a b) (aside D a b) w (ahead D x y) (aside D x y) v → Lies a b w x y v) (λ l. l) swapped D way
+pub turned : {D a b w x y v : ℕ} → Side D → Lies a b w x y v → Lies (ahead D a b) (aside D a b) w (ahead D x y) (aside D x y) v
+unfolding ahead aside
+turned east l = l
+turned south l = swapped l
 
-  pub turned-twice : (c d : ℕ) → (ahead D (ahead D c d) (aside D c d) ≡ c) × (aside D (ahead D c d) (aside D c d) ≡ d)
-  unfolding ahead aside
-  turned-twice c d = by-side (λ (D : ℕ). (ahead D (ahead D c d) (aside D c d) ≡ c) × (aside D (ahead D c d) (aside D c d) ≡ d)) (refl, refl) (refl, refl) D way
+pub turned-back : {D a b w x y v : ℕ} → Side D → Lies (ahead D a b) (aside D a b) w (ahead D x y) (aside D x y) v → Lies a b w x y v
+unfolding ahead aside
+turned-back east l = l
+turned-back south l = swapped l
 
-  -- a step in the direction of the side
-  pub step : (x y : ℕ) → (ahead D (x + eastStep D - 1) (y + southStep D - 1) ≡ ahead D x y + 1) × (aside D (x + eastStep D - 1) (y + southStep D - 1) ≡ aside D x y)
-  unfolding ahead aside eastStep southStep
-  step x y =
-      by-side (λ (D : ℕ). (ahead D (x + eastStep D - 1) (y + southStep D - 1) ≡ ahead D x y + 1) × (aside D (x + eastStep D - 1) (y + southStep D - 1) ≡ aside D x y))
-      (omega arith, omega arith)
-      (omega arith, omega arith)
-      D way
+turned-twice : {D : ℕ} → Side D → (c d : ℕ) → (ahead D (ahead D c d) (aside D c d) ≡ c) × (aside D (ahead D c d) (aside D c d) ≡ d)
+unfolding ahead aside
+turned-twice east c d = (refl, refl)
+turned-twice south c d = (refl, refl)
 
-  pub steps : (0 < eastStep D) × (0 < southStep D)
-  unfolding eastStep southStep
-  steps = by-side (λ (D : ℕ). (0 < eastStep D) × (0 < southStep D)) (omega arith, omega arith) (omega arith, omega arith) D way
+-- a step in the direction of the side
+pub step : {D : ℕ} → Side D → (x y : ℕ)
+    → (ahead D (x + eastStep D - 1) (y + southStep D - 1) ≡ ahead D x y + 1) × (aside D (x + eastStep D - 1) (y + southStep D - 1) ≡ aside D x y)
+unfolding ahead aside eastStep southStep
+step east x y = (omega arith, omega arith)
+step south x y = (omega arith, omega arith)
+
+pub record Steps (D : ℕ) : Type 0 where
+  pub straight : D < 4
+  pub east : 0 < eastStep D
+  pub south : 0 < southStep D
+
+pub steps : {D : ℕ} → Side D → Steps D
+unfolding eastStep southStep
+steps east = record { straight = omega arith; east = omega arith; south = omega arith }
+steps south = record { straight = omega arith; east = omega arith; south = omega arith }
 
 -- a half's first column or row, from its block's
 halved : (b C H : ℕ) → (b + 2 * C) * H ≡ C * (2 * H) + b * H
 halved b C H =
     add-mul b (2 * C) H ∙ add-comm (b * H) (2 * C * H) ∙ ap (λ (k : ℕ). k * H + b * H) (mul-comm 2 C) ∙ ap (λ (k : ℕ). k + b * H) (mul-assoc C 2 H)
 
-module _ (n : ℕ) (T : List ℕ) (acc : Accepted n T) (D : ℕ) (way : Forward D) where
-  -- the pixels of a node, by the side's direction
-  pub pixel-lies : (m x y : ℕ) → Contains n T m n x y → Lies (aheadOf n T D m) (asideOf n T D m) (sideOf n T m) (ahead D x y) (aside D x y) 1
-  pixel-lies m x y c =
+module _ {n : ℕ} {T : List ℕ} {D : ℕ} (way : Side D) where
+  -- the pixels of a node
+  pub pixel-lies : {m x y : ℕ} → Contains n T m n x y → LiesIn n T D m (ahead D x y) (aside D x y) 1
+  pixel-lies {m} {x} {y} c =
       let z : n - n ≡ 0 = omega arith in
       let k = contains-covers n T m n x y (omega arith) c in
       let w : leftOf n T m ≤ x * 2 ^ 0 = rw z at (k .west) in
       let e : (x + 1) * 2 ^ 0 ≤ leftOf n T m + sideOf n T m = rw z at (k .east) in
       let o : topOf n T m ≤ y * 2 ^ 0 = rw z at (k .north) in
       let s : (y + 1) * 2 ^ 0 ≤ topOf n T m + sideOf n T m = rw z at (k .south) in
-      turned D way (record { west = omega arith; east = omega arith; north = omega arith; south = omega arith })
+      turned way (record { west = omega arith; east = omega arith; north = omega arith; south = omega arith })
 
-  pub lies-pixel : (m x y : ℕ) → m < nodes T → Lies (aheadOf n T D m) (asideOf n T D m) (sideOf n T m) (ahead D x y) (aside D x y) 1 → Contains n T m n x y
+  lies-pixel : (m x y : ℕ) → m < nodes T → LiesIn n T D m (ahead D x y) (aside D x y) 1 → Contains n T m n x y
   lies-pixel m x y lt i =
       let z : n - n ≡ 0 = omega arith in
-      let l = turned-back D way i in
+      let l : Lies (leftOf n T m) (topOf n T m) (sideOf n T m) x y 1 = turned-back way i in
       covers-contains n T m n x y (omega arith) lt
       (record {
         west = rw z (omega (arith, l .west));
@@ -97,24 +108,33 @@ module _ (n : ℕ) (T : List ℕ) (acc : Accepted n T) (D : ℕ) (way : Forward 
         south = rw z (omega (arith, l .south));
       })
 
+  -- the next pixel, of the same node or another
+  pub next-lies : (m x y : ℕ) → Contains n T m n (x + eastStep D - 1) (y + southStep D - 1) → LiesIn n T D m (ahead D x y + 1) (aside D x y) 1
+  next-lies m x y c =
+      let s = step way x y in
+      rw (s .0, s .1) at (pixel-lies c)
+
+  pub lies-next : (m x y : ℕ) → m < nodes T → LiesIn n T D m (ahead D x y + 1) (aside D x y) 1 → Contains n T m n (x + eastStep D - 1) (y + southStep D - 1)
+  lies-next m x y lt i =
+      let s = step way x y in
+      lies-pixel m (x + eastStep D - 1) (y + southStep D - 1) lt (rw (s .0, s .1) i)
+
   -- a pixel of p, and of m the next one
-  pub shares-at : (p m c d : ℕ) → p < nodes T → m < nodes T → Lies (aheadOf n T D p) (asideOf n T D p) (sideOf n T p) c d 1
-      → Lies (aheadOf n T D m) (asideOf n T D m) (sideOf n T m) (c + 1) d 1 → Shares n T p m
+  pub shares-at : (p m c d : ℕ) → p < nodes T → m < nodes T → LiesIn n T D p c d 1 → LiesIn n T D m (c + 1) d 1 → Shares n T p m
   shares-at p m c d lp lm i j =
       let x : ℕ = ahead D c d in
       let y : ℕ = aside D c d in
-      let t = turned-twice D way c d in
-      let s = step D way x y in
+      let t = turned-twice way c d in
       record {
         side = D;
         x = x;
         y = y;
-        straight = omega (arith, way .1);
+        straight = steps way .straight;
         touch = record {
-          east = omega (arith, steps D way .0);
-          south = omega (arith, steps D way .1);
+          east = omega (arith, steps way .east);
+          south = omega (arith, steps way .south);
           here = lies-pixel p x y lp (rw (t .0, t .1) i);
-          beyond = lies-pixel m (x + eastStep D - 1) (y + southStep D - 1) lm (rw (s .0, s .1, t .0, t .1) j);
+          beyond = lies-next m x y lm (rw (t .0, t .1) j);
         };
       }
 
@@ -129,70 +149,61 @@ module _ (n : ℕ) (T : List ℕ) (acc : Accepted n T) (D : ℕ) (way : Forward 
       (record { west = omega arith; east = omega arith; north = omega arith; south = omega arith })
       (record { west = omega arith; east = omega arith; north = omega arith; south = omega arith })
 
-  -- a fork m
-  module _ (m : ℕ) (lm : m < nodes T) (fk : isFork T m ≡ true) where
-    pub son-side : (q : ℕ) → q < 4 → sideOf n T m ≡ 2 * sideOf n T (son T m q)
-    son-side q q4 =
-        let d = depth-son n T acc m q lm fk q4 in
-        let e : n - depthTo T n m - 1 ≡ levelOf n T (son T m q) = omega arith in
-        pow-less 2 (levelOf n T m) (omega (arith, fork-deep n T acc m lm fk)) ∙ rw e
+-- a fork m
+module _ {n : ℕ} {T : List ℕ} {m : ℕ} (acc : Accepted n T) (lm : m < nodes T) (fk : isFork T m ≡ true) where
+  son-side : (q : ℕ) → q < 4 → sideOf n T m ≡ 2 * sideOf n T (son T m q)
+  son-side q q4 =
+      let d = depth-son n T acc m q lm fk q4 in
+      let e : n - depthTo T n m - 1 ≡ levelOf n T (son T m q) = omega arith in
+      pow-less 2 (levelOf n T m) (omega (arith, fork-deep n T acc m lm fk)) ∙ rw e
 
-    son-left : (q : ℕ) → q < 4 → leftOf n T (son T m q) ≡ leftOf n T m + q % 2 * sideOf n T (son T m q)
-    unfolding column
-    son-left q q4 = rw (path-son n T acc m q lm fk q4, son-side q q4) (halved (q % 2) (column (pathTo T n m)) (sideOf n T (son T m q)))
+  son-left : (q : ℕ) → q < 4 → leftOf n T (son T m q) ≡ leftOf n T m + q % 2 * sideOf n T (son T m q)
+  unfolding column
+  son-left q q4 = rw (path-son n T acc m q lm fk q4, son-side q q4) (halved (q % 2) (column (pathTo T n m)) (sideOf n T (son T m q)))
 
-    son-top : (q : ℕ) → q < 4 → topOf n T (son T m q) ≡ topOf n T m + q / 2 * sideOf n T (son T m q)
-    unfolding row
-    son-top q q4 = rw (path-son n T acc m q lm fk q4, son-side q q4) (halved (q / 2) (row (pathTo T n m)) (sideOf n T (son T m q)))
+  son-top : (q : ℕ) → q < 4 → topOf n T (son T m q) ≡ topOf n T m + q / 2 * sideOf n T (son T m q)
+  unfolding row
+  son-top q q4 = rw (path-son n T acc m q lm fk q4, son-side q q4) (halved (q / 2) (row (pathTo T n m)) (sideOf n T (son T m q)))
 
-    -- the two at the near edge begin where m does, the second one half a side further along
-    first-at : (aheadOf n T D (son T m 0) ≡ aheadOf n T D m) × (asideOf n T D (son T m 0) ≡ asideOf n T D m)
-    unfolding ahead aside
-    first-at =
-        let a = son-left 0 (omega arith) in
-        let b = son-top 0 (omega arith) in
-        by-side (λ (D : ℕ). (aheadOf n T D (son T m 0) ≡ aheadOf n T D m) × (asideOf n T D (son T m 0) ≡ asideOf n T D m))
-        (omega arith, omega arith)
-        (omega arith, omega arith)
-        D way
+  -- its two sons at the near edge begin where it does, the second one half a side further along
+  first-at : {D : ℕ} → Side D → (aheadOf n T D (son T m 0) ≡ aheadOf n T D m) × (asideOf n T D (son T m 0) ≡ asideOf n T D m)
+  unfolding ahead aside
+  first-at east = (omega (arith, son-left 0 (omega arith)), omega (arith, son-top 0 (omega arith)))
+  first-at south = (omega (arith, son-top 0 (omega arith)), omega (arith, son-left 0 (omega arith)))
 
-    second-at : (aheadOf n T D (son T m (3 - D)) ≡ aheadOf n T D m) × (asideOf n T D (son T m (3 - D)) ≡ asideOf n T D m + sideOf n T (son T m (3 - D)))
-    unfolding ahead aside
-    second-at =
-        by-side (λ (D : ℕ). (aheadOf n T D (son T m (3 - D)) ≡ aheadOf n T D m) × (asideOf n T D (son T m (3 - D)) ≡ asideOf n T D m + sideOf n T (son T m (3 - D))))
-        (omega (arith, son-left 2 (omega arith)), omega (arith, son-top 2 (omega arith)))
-        (omega (arith, son-top 1 (omega arith)), omega (arith, son-left 1 (omega arith)))
-        D way
+  second-at : {D : ℕ} → Side D → (let r = son T m (3 - D) in (aheadOf n T D r ≡ aheadOf n T D m) × (asideOf n T D r ≡ asideOf n T D m + sideOf n T r))
+  unfolding ahead aside
+  second-at east = (omega (arith, son-left 2 (omega arith)), omega (arith, son-top 2 (omega arith)))
+  second-at south = (omega (arith, son-top 1 (omega arith)), omega (arith, son-left 1 (omega arith)))
 
-    module _ (p : ℕ) (f : Flush n T p m D) where
-      pub flush-first : Flush n T p (son T m 0) D
-      flush-first =
-          let s = son-side 0 (omega arith) in
-          let a = first-at in
-          let e = f .edge in
-          record { edge = omega (arith, a .0); low = omega (arith, a .1, f .low); high = omega (arith, a .1, f .high) }
+  -- along side D of p
+  module _ {p D : ℕ} (way : Side D) (f : Flush n T p m D) where
+    pub flush-first : Flush n T p (son T m 0) D
+    flush-first =
+        let s = son-side 0 (omega arith) in
+        let a = first-at way in
+        record { edge = omega (arith, a .0, f .edge); low = omega (arith, a .1, f .low); high = omega (arith, a .1, f .high) }
 
-      pub flush-second : Flush n T p (son T m (3 - D)) D
-      flush-second =
-          let s = son-side (3 - D) (omega arith) in
-          let a = second-at in
-          let e = f .edge in
-          record { edge = omega (arith, a .0); low = omega (arith, a .1, f .low); high = omega (arith, a .1, f .high) }
+    pub flush-second : Flush n T p (son T m (3 - D)) D
+    flush-second =
+        let s = son-side (3 - D) (omega arith) in
+        let a = second-at way in
+        record { edge = omega (arith, a .0, f .edge); low = omega (arith, a .1, f .low); high = omega (arith, a .1, f .high) }
 
-      -- a pixel of m beside one of p's is in one of them
-      pub near : (c d : ℕ) → Lies (aheadOf n T D p) (asideOf n T D p) (sideOf n T p) c d 1 → Lies (aheadOf n T D m) (asideOf n T D m) (sideOf n T m) (c + 1) d 1
-          → Lies (aheadOf n T D (son T m 0)) (asideOf n T D (son T m 0)) (sideOf n T (son T m 0)) (c + 1) d 1
-          ⊎ Lies (aheadOf n T D (son T m (3 - D))) (asideOf n T D (son T m (3 - D))) (sideOf n T (son T m (3 - D))) (c + 1) d 1
-      near c d i j =
-          let s = son-side 0 (omega arith) in
-          let s' = son-side (3 - D) (omega arith) in
-          let a = first-at in
-          let b = second-at in
-          let pos = pow-pos (levelOf n T (son T m 0)) in
-          let edge : c + 1 ≡ aheadOf n T D m = omega (arith, f .edge, i .east, j .west) in
-          ⊎-elim
-          (λ (l : d < asideOf n T D m + sideOf n T (son T m 0)).
-          inl (record { west = omega (arith, a .0); east = omega (arith, a .0); north = omega (arith, a .1, j .north); south = omega (arith, a .1) }))
-          (λ (g : asideOf n T D m + sideOf n T (son T m 0) ≤ d).
-          inr (record { west = omega (arith, b .0); east = omega (arith, b .0); north = omega (arith, b .1); south = omega (arith, b .1, j .south) }))
-          (lt-or-ge d (asideOf n T D m + sideOf n T (son T m 0)))
+    -- a pixel of m beside one of p's is in one of them
+    pub near : {c d : ℕ} → LiesIn n T D p c d 1 → LiesIn n T D m (c + 1) d 1
+        → LiesIn n T D (son T m 0) (c + 1) d 1 ⊎ LiesIn n T D (son T m (3 - D)) (c + 1) d 1
+    near {c} {d} i j =
+        let s = son-side 0 (omega arith) in
+        let r = son-side (3 - D) (omega arith) in
+        let a = first-at way in
+        let b = second-at way in
+        let pos = pow-pos (levelOf n T (son T m 0)) in
+        let edge : c + 1 ≡ aheadOf n T D m = omega (arith, f .edge, i .east, j .west) in
+        let middle : ℕ = asideOf n T D m + sideOf n T (son T m 0) in
+        ⊎-elim
+        (λ (l : d < middle).
+        inl (record { west = omega (arith, a .0); east = omega (arith, a .0); north = omega (arith, a .1, j .north); south = omega (arith, a .1) }))
+        (λ (g : middle ≤ d).
+        inr (record { west = omega (arith, b .0); east = omega (arith, b .0); north = omega (arith, b .1); south = omega (arith, b .1, j .south) }))
+        (lt-or-ge d middle)

@@ -40,7 +40,7 @@ module _ (n : ℕ) (T : List ℕ) where
         beyond = rw (bx, by) (t .here);
       }
 
-  pub shares-back : (p q : ℕ) → Shares n T p q → Shares n T q p
+  shares-back : (p q : ℕ) → Shares n T p q → Shares n T q p
   shares-back p q s =
       let D : ℕ = s .side in
       record {

@@ -1,10 +1,10 @@
 -- A black leaf meets those beyond its sides E and S: what going down along a side and a look beyond it leave, in the code's own values. What has been met stays
 -- so while more is joined.
-use mathlib.Core.Bool.{true}
+use mathlib.Core.Bool.{true, false}
 use mathlib.Core.List.{List}
 use mathlib.Core.Logic.{⊎-elim}
 use mathlib.Core.Path.{_≡_, ap, sym, _∙_}
-use Prim.Native.Nat.{ℕ, _+_, _-_, _≤_, _<_}
+use Prim.Native.Nat.{ℕ, _+_, _-_, _<_}
 use native.Mathlib.Omega.{arith}
 use borrow.Author.Tests.{eq-eqb, ne-eqb}
 use Rattle.quad.specs.Direction.{eastStep, southStep}
@@ -15,22 +15,23 @@ use Rattle.table.specs.Links.{Rising}
 use Rattle.table.proofs.AcceptedLaws.{father-below, fork-above, son-at}
 use Rattle.neighbour.specs.declared.Found.{Found}
 use Rattle.neighbour.specs.declared.Found.the-variants.{At, Off}
+use Rattle.neighbour.specs.Containing.{Contains, Touches}
 use Rattle.neighbour.specs.Search.{neighbourFound}
 use Rattle.neighbour.proofs.SideLaws.{leaf-holds}
-use Rattle.joins.specs.Chain.{Water, Chain, end, link}
+use Rattle.joins.specs.Chain.{Water, end, link}
 use Rattle.joins.specs.Joining.{leaderOf, Together, Joined, Wired, Further, Forward, Beside, Flush, Bank, MetIn, Ashore, Reached, Met, MetSides, MetAll}
 use Rattle.joins.proofs.LeaderLaws.{same-or-not, last-or-before}
-use Rattle.joins.proofs.BankLaws.{by-side, step, pixel-lies, lies-pixel, flush-shares, flush-first, flush-second, near}
+use Rattle.joins.proofs.BankLaws.{Side, east, south, side-of, pixel-lies, next-lies, lies-next, flush-shares, flush-first, flush-second, near}
 use Rattle.joins.proofs.BeyondLaws.{water-leaf, bank, beyond-in, beyond-on}
 
 pub further-none : (n : ℕ) (T W : List ℕ) → Wired n T W → Further n T W W
 further-none n T W w = record { wired = w; together = λ i j e. e }
 
-pub further-on : (n : ℕ) (T W W' W'' : List ℕ) → Further n T W W' → Further n T W' W'' → Further n T W W''
+further-on : (n : ℕ) (T W W' W'' : List ℕ) → Further n T W W' → Further n T W' W'' → Further n T W W''
 further-on n T W W' W'' f g = record { wired = g .wired; together = λ i j e. g .together i j (f .together i j e) }
 
 -- what has been met stays so
-pub met-still : (n : ℕ) (T W W' : List ℕ) (p D : ℕ) → Together W W' → Met n T W p D → Met n T W' p D
+met-still : (n : ℕ) (T W W' : List ℕ) (p D : ℕ) → Together W W' → Met n T W p D → Met n T W' p D
 unfolding Met
 met-still n T W W' p D t h q x y v c = t p q (h q x y v c)
 
@@ -40,13 +41,17 @@ met-in-still n T W W' p m D t h q x y v c i = t p q (h q x y v c i)
 
 -- node m along side D of the black leaf p
 module _ {n : ℕ} {T : List ℕ} {p m l D : ℕ} (z : Bank n T p m l D) (kind : ℕ) (is : kind ≡ type T m) where
-  -- a leaf is met where it is black
+  -- what touches p at a pixel of a leaf is that leaf
+  leaf-only : isFork T m ≡ false → (q x y : ℕ) → Water T q → Touches n T p q D x y → Contains n T m n (x + eastStep D - 1) (y + southStep D - 1) → m ≡ q
+  leaf-only f q x y v t c =
+      let x' : ℕ = x + eastStep D - 1 in
+      let y' : ℕ = y + southStep D - 1 in
+      sym (leaf-holds n T (z .place .accepted) m n x' y' c f) ∙ leaf-holds n T (z .place .accepted) q n x' y' (t .beyond) (water-leaf T q v)
+
   in-other : (W : List ℕ) → (kind ≡ forkType → ⊥) → (kind ≡ black → ⊥) → MetIn n T W p m D
   unfolding MetIn
   in-other W nf nb q x y v t c =
-      let e = leaf-holds n T (z .place .accepted) m n (x + eastStep D - 1) (y + southStep D - 1) c (ne-eqb (type T m) forkType (λ f. nf (is ∙ f))) in
-      let g = leaf-holds n T (z .place .accepted) q n (x + eastStep D - 1) (y + southStep D - 1) (t .beyond) (water-leaf T q v) in
-      absurd (nb (is ∙ ap (type T) (sym e ∙ g) ∙ v .wet))
+      absurd (nb (is ∙ ap (type T) (leaf-only (ne-eqb (type T m) forkType (λ f. nf (is ∙ f))) q x y v t c) ∙ v .wet))
 
   module _ (b : kind ≡ black) where
     leaf-water : Water T m
@@ -54,10 +59,7 @@ module _ {n : ℕ} {T : List ℕ} {p m l D : ℕ} (z : Bank n T p m l D) (kind :
 
     in-black : (W W' : List ℕ) → Joined W W' p m → MetIn n T W' p m D
     unfolding MetIn
-    in-black W W' j q x y v t c =
-        let e = leaf-holds n T (z .place .accepted) m n (x + eastStep D - 1) (y + southStep D - 1) c (water-leaf T m leaf-water) in
-        let g = leaf-holds n T (z .place .accepted) q n (x + eastStep D - 1) (y + southStep D - 1) (t .beyond) (water-leaf T q v) in
-        j .one ∙ ap (leaderOf W') (sym e ∙ g)
+    in-black W W' j q x y v t c = j .one ∙ ap (leaderOf W') (leaf-only (water-leaf T m leaf-water) q x y v t c)
 
     further-black : (W W' : List ℕ) → Wired n T W → Joined W W' p m → Further n T W W'
     further-black W W' w j = record {
@@ -82,32 +84,27 @@ module _ {n : ℕ} {T : List ℕ} {p m l D : ℕ} (z : Bank n T p m l D) (kind :
           water = z .water;
           place = at;
           way = z .way;
-          shares = flush-shares n T (z .place .accepted) D (z .way) p (son T m q) (z .water .node) (at .node) f;
+          shares = flush-shares (side-of D (z .way)) p (son T m q) (z .water .node) (at .node) f;
           flush = λ g. f;
         }
 
     bank-first : (s : ℕ) → s ≡ word T m 1 → Bank n T p s (l - 1) D
     bank-first s e =
-        rw e (bank-son 0 (omega arith) (flush-first n T (z .place .accepted) D (z .way) m (z .place .node) bank-fork p (z .flush bank-fork)))
+        rw e (bank-son 0 (omega arith) (flush-first (z .place .accepted) (z .place .node) bank-fork (side-of D (z .way)) (z .flush bank-fork)))
 
     bank-second : (s far : ℕ) → far ≡ 3 - D → s ≡ word T m (1 + far) → Bank n T p s (l - 1) D
     bank-second s far a e =
-        rw (e, a) (bank-son (3 - D) (omega arith) (flush-second n T (z .place .accepted) D (z .way) m (z .place .node) bank-fork p (z .flush bank-fork)))
+        rw (e, a) (bank-son (3 - D) (omega arith) (flush-second (z .place .accepted) (z .place .node) bank-fork (side-of D (z .way)) (z .flush bank-fork)))
 
     -- and no other son touches p
     in-fork : (W : List ℕ) → MetIn n T W p (son T m 0) D → MetIn n T W p (son T m (3 - D)) D → MetIn n T W p m D
     unfolding MetIn
     in-fork W a b q x y v t c =
-        let acc = z .place .accepted in
-        let way = z .way in
-        let x' : ℕ = x + eastStep D - 1 in
-        let y' : ℕ = y + southStep D - 1 in
-        let s = step D way x y in
-        let j = rw (s .0, s .1) at (pixel-lies n T acc D way m x' y' c) in
+        let way = side-of D (z .way) in
         ⊎-elim
-        (λ i. a q x y v t (lies-pixel n T acc D way (son T m 0) x' y' (son-at (z .place) bank-fork 0 (omega arith) .node) (rw (s .0, s .1) i)))
-        (λ i. b q x y v t (lies-pixel n T acc D way (son T m (3 - D)) x' y' (son-at (z .place) bank-fork (3 - D) (omega arith) .node) (rw (s .0, s .1) i)))
-        (near n T acc D way m (z .place .node) bank-fork p (z .flush bank-fork) _ _ (pixel-lies n T acc D way p x y (t .here)) j)
+        (λ i. a q x y v t (lies-next way (son T m 0) x y (son-at (z .place) bank-fork 0 (omega arith) .node) i))
+        (λ i. b q x y v t (lies-next way (son T m (3 - D)) x y (son-at (z .place) bank-fork (3 - D) (omega arith) .node) i))
+        (near (z .place .accepted) (z .place .node) bank-fork way (z .flush bank-fork) (pixel-lies way (t .here)) (next-lies way m x y c))
 
 -- a fork is above the pixels, and its sons are asked one after the other
 module _ {T W : List ℕ} {p m l D : ℕ} (h : Ashore T W p m l D) (kind : ℕ) (is : kind ≡ type T m) (fk : kind ≡ forkType) where
@@ -141,32 +138,21 @@ module _ {T : List ℕ} {p m l D : ℕ} (kind : ℕ) (is : kind ≡ type T m) wh
       let i = met-in-still n T W' W'' p s D (second .0 .together) (first .1) in
       (further-on n T W W' W'' (first .0) (second .0), in-fork z kind is fk W'' (rw es at i) (rw (er, ef) at (second .1)))
 
--- beyond side D of the black leaf p
+-- beyond side D of the black leaf p; p itself has its own leader
 module _ {n : ℕ} {T : List ℕ} {p l D : ℕ} (z : Beside n T p l D) (found : Found) (e : found ≡ neighbourFound n T p D) where
   pub met-off : (W : List ℕ) → found ≡ Off → Met n T W p D
   unfolding Met
-  met-off W f q x y v t =
-      same-or-not p q
-      (λ s. ap (leaderOf W) s)
-      (λ ne. absurd (beyond-on n T (z .accepted) p (z .water) D (z .way) q x y v ne t (sym e ∙ f)))
+  met-off W f q x y v t = same-or-not p q (λ s. ap (leaderOf W) s) (λ ne. absurd (beyond-on z v ne t (sym e ∙ f)))
 
   module _ (W : List ℕ) (w : Wired n T W) (m k : ℕ) (f : found ≡ At m k) where
-    found-bank : Bank n T p m k D
-    found-bank = bank n T (z .accepted) p (z .water) D (z .way) m k (sym e ∙ f)
-
     pub ashore-found : Ashore T W p m k D
-    ashore-found = record { n = n; bank = found-bank; wired = w }
+    ashore-found = record { n = n; bank = bank z (sym e ∙ f); wired = w }
 
     pub met-found : (W' : List ℕ) → Reached T W W' p m k D → Further n T W W' × Met n T W' p D
     unfolding Met MetIn
     met-found W' r =
-        let a = r n found-bank w in (
-          a .0,
-          λ q x y v t.
-              same-or-not p q
-              (λ s. ap (leaderOf W') s)
-              (λ ne. a .1 q x y v t (beyond-in n T (z .accepted) p (z .water) D (z .way) q x y v ne t m k (sym e ∙ f))),
-        )
+        let a = r n (bank z (sym e ∙ f)) w in
+        (a .0, λ q x y v t. same-or-not p q (λ s. ap (leaderOf W') s) (λ ne. a .1 q x y v t (beyond-in z v ne t (sym e ∙ f))))
 
 -- p's level is asked of an accepted table
 pub rising : (n : ℕ) (T : List ℕ) → Accepted n T → (p : ℕ) → p < nodes T → Rising T (p + 1)
@@ -188,10 +174,14 @@ pub sides-dry : (n : ℕ) (T W : List ℕ) (p kind : ℕ) → kind ≡ type T p 
 sides-dry n T W p kind e ne v = absurd (ne (e ∙ v .wet))
 
 -- both sides have been looked beyond, one after the other
+by-side : (P : ℕ → Type 0) → P 1 → P 2 → {D : ℕ} → Side D → P D
+by-side P a b east = a
+by-side P a b south = b
+
 pub both-sides : (n : ℕ) (T W W' W'' : List ℕ) (p : ℕ) → Further n T W W' × Met n T W' p 1 → Further n T W' W'' × Met n T W'' p 2
     → Further n T W W'' × MetSides n T W'' p
 both-sides n T W W' W'' p a b =
-    (further-on n T W W' W'' (a .0) (b .0), λ v. by-side (Met n T W'' p) (met-still n T W' W'' p 1 (b .0 .together) (a .1)) (b .1))
+    (further-on n T W W' W'' (a .0) (b .0), λ v D w. by-side (Met n T W'' p) (met-still n T W' W'' p 1 (b .0 .together) (a .1)) (b .1) (side-of D w))
 
 -- the sides of one node more
 pub met-more : (n : ℕ) (T W W' : List ℕ) (p : ℕ) → MetAll n T W p → Further n T W W' × MetSides n T W' p → MetAll n T W' (p + 1)

@@ -110,17 +110,17 @@ pub record Bank (n : ℕ) (T : List ℕ) (p m l D : ℕ) : Type 0 where
   pub shares : Shares n T p m
   pub flush : isFork T m ≡ true → Flush n T p m D
 
--- p and each black leaf that shares a length of its side D, at a pixel of m's block, have one leader
-unfoldable pub MetIn : ℕ → List ℕ → List ℕ → ℕ → ℕ → ℕ → Type 0
-MetIn n T W p m D = (q x y : ℕ) → Water T q → Touches n T p q D x y → Contains n T m n (x + eastStep D - 1) (y + southStep D - 1) → leaderOf W p ≡ leaderOf W q
-
--- on a sheet of some level
+-- the same on a sheet of some level, whose words are wired
 pub record Ashore (T W : List ℕ) (p m l D : ℕ) : Type 0 where
   pub n : ℕ
   pub bank : Bank n T p m l D
   pub wired : Wired n T W
 
--- and what going down leaves, on each such sheet
+-- p and each black leaf that shares a length of its side D, at a pixel of m's block, have one leader
+unfoldable pub MetIn : ℕ → List ℕ → List ℕ → ℕ → ℕ → ℕ → Type 0
+MetIn n T W p m D = (q x y : ℕ) → Water T q → Touches n T p q D x y → Contains n T m n (x + eastStep D - 1) (y + southStep D - 1) → leaderOf W p ≡ leaderOf W q
+
+-- what going down leaves, on each such sheet
 abbrev pub Reached : List ℕ → List ℕ → List ℕ → ℕ → ℕ → ℕ → ℕ → Type 0
 Reached T W W' p m l D = (n : ℕ) → Bank n T p m l D → Wired n T W → Further n T W W' × MetIn n T W' p m D
 

@@ -63,7 +63,7 @@ fn join(words: &mut [u32], p: u32, q: u32)
     words[a as usize] = b;
 }
 
-// Joins p and the black leaves that lie along one side of it, in and under a node: at a fork it goes down to the two sons at the edge that faces p, the NW one and
+// Joins p and the black leaves along one of its sides, E or S, in and under a node: a fork's two sons at the edge that faces p are gone down to, the NW one and
 // the one at the edge's other end. What lies behind them does not touch p.
 fn shore(table: &[u32], words: &mut [u32], p: usize, node: usize, level: u32, side: usize)
     requires { ⌜ Ashore (now table) (now words) p node level side ⌝ }
@@ -109,7 +109,7 @@ fn around(n: u32, table: &[u32], words: &mut [u32], p: usize)
     across(n, table, words, p, level, 2);
 }
 
-// Joins every black leaf and its neighbours.
+// Joins every black leaf and those beyond its sides.
 fn meet(n: u32, table: &[u32], words: &mut [u32])
     requires { ⌜ Accepted n (now table) × Wired n (now table) (now words) ⌝ }
     ensures { λ _. ⌜ Wired n (now (table .entry)) (now (words .exit)) × MetAll n (now (table .entry)) (now (words .exit)) (nodes (now (table .entry))) ⌝ }

@@ -1,4 +1,5 @@
--- `joins::shore`: a black leaf is joined, and a fork's pixels along the side are those of its two sons at the near edge. The measure is the level. Assumes nothing.
+-- `joins::shore`: a black leaf is joined, and a fork's pixels along the side are those of its two sons at the near edge. The measure is the level.
+-- Assumes nothing.
 use mathlib.Core.Path.{_∙_}
 use Prim.Native.Nat.{ℕ, _<_}
 use native.Mathlib.Omega.{arith}
@@ -33,8 +34,7 @@ shore-sub-half t c =
     omega (arith, ashore-level (c .before .before .before .before .pre .1) _ (c .before .word-at .ensures) (c .if1 .taken))
 
 shore-sub-far : (t : ℕ) → shore-lts.Need-sub-far (calls t) (shore-at t) shore.Post
-shore-sub-far t c =
-    omega (arith, c .before .before .before .before .pre .1 .bank .way .1)
+shore-sub-far t c = omega (arith, c .before .before .before .before .pre .1 .bank .way .1)
 
 shore-word-at-requires-2 : (t : ℕ) → shore-lts.Need-word-at-requires-2 (calls t) (shore-at t) shore.Post
 shore-word-at-requires-2 t c κs = (c .before .before .before .before .pre .1 .bank .place .node, omega arith)
@@ -43,7 +43,7 @@ shore-add-word-at : (t : ℕ) → shore-lts.Need-add-word-at (calls t) (shore-at
 shore-add-word-at t c = omega arith
 
 shore-word-at-requires-3 : (t : ℕ) → shore-lts.Need-word-at-requires-3 (calls t) (shore-at t) shore.Post
-shore-word-at-requires-3 t c κs = (c .before .before .before .before .before .pre .1 .bank .place .node, omega (arith, c .before .before .before .before .before .pre .1 .bank .way .0))
+shore-word-at-requires-3 t c κs = let h = c .before .before .before .before .before .pre .1 .bank in (h .place .node, omega (arith, h .way .0))
 
 shore-shore-requires : (t : ℕ) → shore-lts.Need-shore-requires (calls t) (shore-at t) shore.Post
 shore-shore-requires t c κs =
@@ -60,7 +60,8 @@ shore-shore-requires-2 t c κs =
     let h = f .before .before .before .before .pre in
     let is = f .before .word-at .ensures in (
       omega (arith, h .0, ashore-level (h .1) _ is (f .if1 .taken)),
-      ashore-second (h .1) _ is (f .if1 .taken) _ _ _ _ (w .before .word-at2 .ensures) (omega arith) (w .word-at3 .ensures) (c .before .before .before .shore .ensures),
+      ashore-second (h .1) _ is (f .if1 .taken) _ _ _ _ (w .before .word-at2 .ensures) (omega arith) (w .word-at3 .ensures)
+          (c .before .before .before .shore .ensures),
     )
 
 shore-same-length : (t : ℕ) → shore-lts.Need-same-length (calls t) (shore-at t) shore.Post
@@ -89,7 +90,9 @@ shore-same-length-2 : (t : ℕ) → shore-lts.Need-same-length-2 (calls t) (shor
 shore-same-length-2 t c = c .before .before .join .kept .0
 
 shore-returns-2 : (t : ℕ) → shore-lts.Need-returns-2 (calls t) (shore-at t) shore.Post
-shore-returns-2 t c = reached-black _ (c .before .before .before .before .before .before .word-at .ensures) _ _ (c .before .before .before .before .if2 .taken) (c .before .before .join .ensures)
+shore-returns-2 t c =
+    let b = c .before .before .before .before in
+    reached-black _ (b .before .before .word-at .ensures) _ _ (b .if2 .taken) (c .before .before .join .ensures)
 
 shore-returns-3 : (t : ℕ) → shore-lts.Need-returns-3 (calls t) (shore-at t) shore.Post
 shore-returns-3 t c = reached-other _ (c .before .before .word-at .ensures) _ (c .before .if1 .left) (c .if2 .left)

@@ -23,16 +23,18 @@ sub-level c = let s = c .before .before .before .before .before .args in omega (
 across-requires : tie.Need-across-requires
 across-requires c κs =
     let wet = c .before .before in
+    let is = wet .before .word-at .ensures in
     let h = wet .before .before .before .before .pre in
-    (beside-at (h .0) (h .1) _ (wet .before .word-at .ensures) (omega (arith, wet .if1 .left)) _ (c .before .depth-to .ensures) 1 (omega arith, omega arith), h .2)
+    (beside-at (h .0) (h .1) _ is (omega (arith, wet .if1 .left)) _ (c .before .depth-to .ensures) _ (omega arith, omega arith), h .2)
 
 across-requires-2 : tie.Need-across-requires-2
 across-requires-2 c κs =
     let first = c .before .before .before in
     let deep = first .before .before in
     let wet = deep .before in
+    let is = wet .before .word-at .ensures in
     let h = wet .before .before .before .before .pre in (
-      beside-at (h .0) (h .1) _ (wet .before .word-at .ensures) (omega (arith, wet .if1 .left)) _ (deep .depth-to .ensures) 2 (omega arith, omega arith),
+      beside-at (h .0) (h .1) _ is (omega (arith, wet .if1 .left)) _ (deep .depth-to .ensures) _ (omega arith, omega arith),
       first .across .ensures .0 .wired,
     )
 
