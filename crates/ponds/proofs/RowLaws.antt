@@ -14,7 +14,7 @@ use Rattle.quad.specs.Numbers.{topLevel, forkType, maxWords}
 use Rattle.quad.specs.Block.{column, row}
 use Rattle.quad.proofs.PathLaws.{half-last}
 use Rattle.table.specs.Table.{word, son, type, isFork}
-use Rattle.table.specs.Rules.{Accepted, AtLevel}
+use Rattle.table.specs.Rules.{Accepted}
 use Rattle.table.specs.Nodes.{pathTo, levelOf, leftOf}
 use Rattle.table.proofs.AcceptedLaws.{sons-of, root-at, level-top, level-is, fork-above, son-at}
 use Rattle.table.proofs.NodeLaws.{path-root}
@@ -59,6 +59,12 @@ part-rest l y pos top =
     let e : m * 2 ^ (32 - (l - 1)) ≡ 2 * (m * G) = ap (λ (k : ℕ). m * k) side ∙ mul-left-comm m 2 G in
     let f = parted l y pos top in
     omega (arith, e, f .0, f .1)
+
+part-side : (l y : ℕ) → l ≤ 32 → partAbove l y < 2 ^ 32
+unfolding partAbove
+part-side l y top =
+    let whole : 2 ^ 32 ≡ 2 ^ l * 2 ^ (32 - l) = pow-product l (32 - l) 32 (omega arith) in
+    omega (arith, whole, digits-lt {q = y % 2 ^ l} {m = 2 ^ l} {r = 0} {c = 2 ^ (32 - l)} (mod-lt y (pow-pos l)) (pow-pos (32 - l)))
 
 -- where a part lies above, the row above crosses the block too
 part-some : (l y : ℕ) → (partAbove l y ≡ 0 → ⊥) → 0 < y % 2 ^ l
@@ -174,9 +180,21 @@ record Halves (n : ℕ) (T : List ℕ) (p l y west east part : ℕ) : Type 0 whe
   middle : startOf n T east y ≡ startOf n T west y + 2 ^ (l - 1)
   finish : startOf n T p y + 2 ^ l ≡ startOf n T east y + 2 ^ (l - 1)
 
--- fewer nodes stand after a later node
-sooner : {n : ℕ} {T : List ℕ} {p l s : ℕ} → AtLevel n T p l → p < s → maxWords - s < maxWords - p
-sooner h lt = omega (arith, h .node, h .accepted .sized .few, h .accepted .sized .whole)
+-- a node has fewer than the most nodes before it, and a part is less than the side
+below-most : {T W : List ℕ} {p above k : ℕ} → Reached T W p above k → p < maxWords
+below-most r = let h = r .crossed .place in omega (arith, h .node, h .accepted .sized .few, h .accepted .sized .whole)
+
+pub part-below : {T W : List ℕ} {p above k : ℕ} → Reached T W p above k → above < 2 ^ 32
+part-below r = rw (r .crossed .part) (part-side (r .l) (r .y) (omega (arith, level-top (r .crossed .place))))
+
+-- the row has come from one node to another under it: what passes the pixels of that one now, passes all that were to be passed
+pub record Onward (T : List ℕ) (p₀ above₀ : ℕ) (W₀ : List ℕ) (k₀ p above : ℕ) (W : List ℕ) (k : ℕ) : Type 0 where
+  pub after : p₀ ≤ p
+  pub reached : Reached T W p above k
+  pub whole : (W₁ : List ℕ) (r : ℕ) → Passes T p above W k W₁ r → Passes T p₀ above₀ W₀ k₀ W₁ r
+
+pub onward-none : {T W : List ℕ} {p above k : ℕ} → Reached T W p above k → Onward T p above W k p above W k
+onward-none r = record { after = omega arith; reached = r; whole = λ W₁ r h. h }
 
 -- fork p in the code's numbers
 module _ {T : List ℕ} {p above q west east part : ℕ} (f : isFork T p ≡ true) (eq : q ≡ 2 * (above / 2 ^ 31))
@@ -204,42 +222,45 @@ module _ {T : List ℕ} {p above q west east part : ℕ} (f : isFork T p ≡ tru
         finish = omega arith;
       }
 
-  -- the row comes to the western son, then to the eastern one, and then the fork's pixels are passed
-  pub to-west : {W : List ℕ} {k : ℕ} → Reached T W p above k → (maxWords - west < maxWords - p) × Reached T W west part k
-  to-west r =
-      let s = halves (r .n) (r .l) (r .y) (r .crossed) in (
-        sooner (r .crossed .place) (s .west-after),
-        record { n = r .n; l = r .l - 1; y = r .y; crossed = s .left; counting = rw (s .begin) (r .counting) },
-      )
+  -- the row comes to the western son, and then to the eastern one
+  module _ {W₀ W : List ℕ} {p₀ above₀ k₀ k : ℕ} (o : Onward T p₀ above₀ W₀ k₀ p above W k) where
+    pub to-west : (maxWords - west < maxWords - p₀) × Reached T W west part k
+    to-west =
+        let r = o .reached in
+        let s = halves (r .n) (r .l) (r .y) (r .crossed) in (
+          omega (arith, o .after, s .west-after, below-most r),
+          record { n = r .n; l = r .l - 1; y = r .y; crossed = s .left; counting = rw (s .begin) (r .counting) },
+        )
 
-  pub to-east : {W W₁ : List ℕ} {k m : ℕ} → Reached T W p above k → Passes T west part W k W₁ m
-      → (maxWords - east < maxWords - p) × Reached T W₁ east part m
-  to-east r a =
-      let s = halves (r .n) (r .l) (r .y) (r .crossed) in (
-        sooner (r .crossed .place) (s .east-after),
-        record {
-          n = r .n;
-          l = r .l - 1;
-          y = r .y;
-          crossed = s .right;
-          counting = rw (s .middle) (a .on (r .n) (r .l - 1) (r .y) (s .left) (rw (s .begin) (r .counting)));
-        },
-      )
+    pub to-east : {W₁ : List ℕ} {m : ℕ} → Passes T west part W k W₁ m → (maxWords - east < maxWords - p) × Onward T p₀ above₀ W₀ k₀ east part W₁ m
+    to-east {W₁} {m} a =
+        let r = o .reached in
+        let s = halves (r .n) (r .l) (r .y) (r .crossed) in (
+          omega (arith, s .east-after, below-most r),
+          record {
+            after = omega (arith, o .after, s .east-after);
+            reached = record {
+              n = r .n;
+              l = r .l - 1;
+              y = r .y;
+              crossed = s .right;
+              counting = rw (s .middle) (a .on (r .n) (r .l - 1) (r .y) (s .left) (rw (s .begin) (r .counting)));
+            };
+            whole = λ W₂ v b. o .whole W₂ v (record {
+              on = λ n l y h c.
+                  let s = halves n l y h in
+                  rw (s .finish) (b .on n (l - 1) y (s .right) (rw (s .middle) (a .on n (l - 1) y (s .left) (rw (s .begin) c))));
+            });
+          },
+        )
 
-  pub row-fork : {W W₁ W₂ : List ℕ} {k m r : ℕ} → Passes T west part W k W₁ m → Passes T east part W₁ m W₂ r → Passes T p above W k W₂ r
-  row-fork a b = record {
-    on = λ n l y h c.
-        let s = halves n l y h in
-        rw (s .finish) (b .on n (l - 1) y (s .right) (rw (s .middle) (a .on n (l - 1) y (s .left) (rw (s .begin) c))));
-  }
-
--- a leaf in the code's numbers: it is met, or was met
-module _ {T W : List ℕ} {p above k : ℕ} (kind : ℕ) (is : kind ≡ type T p) (z : kind ≡ forkType → ⊥) where
+-- a leaf is met, or was met
+module _ {T W : List ℕ} {p above k : ℕ} (f : isFork T p ≡ false) where
   pub row-leaf : {W₁ : List ℕ} {r : ℕ} → Met T W p k r W₁ → Passes T p above W k W₁ r
-  row-leaf m = record { on = λ n l y h c. rw (m .count, m .words) (counting-leaf h (ne-eqb (type T p) forkType (λ q. z (is ∙ q))) c) }
+  row-leaf m = record { on = λ n l y h c. rw (m .count, m .words) (counting-leaf h f c) }
 
   pub row-old : (above ≡ 0 → ⊥) → Passes T p above W k W k
-  row-old some = record { on = λ n l y h c. counting-old h (ne-eqb (type T p) forkType (λ q. z (is ∙ q))) some c }
+  row-old some = record { on = λ n l y h c. counting-old h f some c }
 
 -- what meeting leaf p asks for
 pub meets : {T W : List ℕ} {p above k : ℕ} → Reached T W p above k → Meets T W p k
