@@ -1,19 +1,16 @@
 -- Numbering along a row: a leaf's pixels in the row are met at once; a fork's are those of the two sons that the row crosses, the western first.
 use mathlib.Core.Bool.{true, false}
 use mathlib.Core.List.{List}
-use mathlib.Core.Logic.{⊎-elim}
 use mathlib.Core.Path.{_≡_, refl, ap, sym, _∙_}
-use Prim.Native.Nat.{ℕ, suc, _+_, _-_, _*_, _/_, _%_, _^_, _≤_, _<_, zero-le}
-use native.Mathlib.Nat.{add-comm, add-mul, mul-assoc, mul-comm, mul-left-comm, one-mul, zero-mul, div-eq-of-lt, div-add-mod', mod-lt, mod-eq-of-lt, eq-or-lt-of-le}
+use Prim.Native.Nat.{ℕ, suc, _+_, _-_, _*_, _/_, _%_, _^_, _≤_, _<_}
+use native.Mathlib.Nat.{add-comm, add-mul, mul-assoc, mul-comm, one-mul, zero-mul, div-eq-of-lt}
 use native.Mathlib.Omega.{arith}
-use lib.Arith.{digits-lt, digits-div}
-use lib.Pow.{pow-pos, mod-pow-add}
-use borrow.Author.Tests.{ne-eqb}
-use Rattle.base.proofs.PowLaws.{pow-less, pow-product, four-pow}
-use Rattle.quad.specs.Numbers.{topLevel, forkType, maxWords}
+use lib.Pow.{pow-pos}
+use Rattle.base.proofs.PowLaws.{pow-less, four-pow}
+use Rattle.quad.specs.Numbers.{maxWords}
 use Rattle.quad.specs.Block.{column, row}
 use Rattle.quad.proofs.PathLaws.{half-last}
-use Rattle.table.specs.Table.{word, son, type, isFork}
+use Rattle.table.specs.Table.{word, son, isFork}
 use Rattle.table.specs.Rules.{Accepted}
 use Rattle.table.specs.Nodes.{pathTo, levelOf, leftOf}
 use Rattle.table.proofs.AcceptedLaws.{sons-of, root-at, level-top, level-is, fork-above, son-at}
@@ -22,6 +19,7 @@ use Rattle.table.proofs.HolderLaws.{path-son}
 use Rattle.joins.specs.Led.{Led}
 use Rattle.register.specs.Entries.{leafAt}
 use Rattle.ponds.specs.Counted.{metCount, metWords, Meets, Met, Counting, startOf, partAbove, Crossed, Reached, Passes}
+use Rattle.ponds.proofs.PartLaws.{part-half, part-rest, part-side, part-some, row-before}
 use Rattle.ponds.proofs.LeafLaws.{leaf-along}
 use Rattle.ponds.proofs.CountedLaws.{counted-none, counted-few, passed-more, met-leaf}
 
@@ -29,72 +27,6 @@ use Rattle.ponds.proofs.CountedLaws.{counted-none, counted-few, passed-
 halved : (b C H : ℕ) → (b + 2 * C) * H ≡ C * (2 * H) + b * H
 halved b C H =
     add-mul b (2 * C) H ∙ add-comm (b * H) (2 * C * H) ∙ ap (λ (k : ℕ). k * H + b * H) (mul-comm 2 C) ∙ ap (λ (k : ℕ). k + b * H) (mul-assoc C 2 H)
-
--- the part above the row, in a block of level l above the pixels: half a side where the row crosses the southern half, and the rest lies in that half
-parted : (l y : ℕ) → 0 < l → l ≤ 32
-    → (partAbove l y ≡ y / 2 ^ (l - 1) % 2 * 2 ^ 31 + y % 2 ^ (l - 1) * 2 ^ (32 - l)) × (y % 2 ^ (l - 1) * 2 ^ (32 - l) < 2 ^ 31)
-unfolding partAbove
-parted l y pos top =
-    let H : ℕ = 2 ^ (l - 1) in
-    let G : ℕ = 2 ^ (32 - l) in
-    let whole : 2 ^ 31 ≡ H * G = pow-product (l - 1) (32 - l) 31 (omega arith) in
-    let s : 1 + (l - 1) ≡ l = omega arith in
-    let two : y % 2 ^ l ≡ y / H % 2 * H + y % H = rw s at (mod-pow-add y 1 (l - 1)) in (
-      ap (λ (k : ℕ). k * G) two ∙ add-mul (y / H % 2 * H) (y % H) G
-      ∙ ap (λ (k : ℕ). k + y % H * G) (mul-assoc (y / H % 2) H G ∙ ap (λ (k : ℕ). y / H % 2 * k) (sym whole)),
-      omega (arith, whole, digits-lt {q = y % H} {m = H} {r = 0} {c = G} (mod-lt y (pow-pos (l - 1))) (pow-pos (32 - l))),
-    )
-
--- so its first digit tells the half, and the others the part of the half
-part-half : (l y : ℕ) → 0 < l → l ≤ 32 → partAbove l y / 2 ^ 31 ≡ y / 2 ^ (l - 1) % 2
-part-half l y pos top = let e = parted l y pos top in omega (arith, e .0, e .1)
-
-part-rest : (l y : ℕ) → 0 < l → l ≤ 32 → partAbove l y * 2 % 2 ^ 32 ≡ partAbove (l - 1) y
-unfolding partAbove
-part-rest l y pos top =
-    let m : ℕ = y % 2 ^ (l - 1) in
-    let G : ℕ = 2 ^ (32 - l) in
-    let s : 32 - (l - 1) - 1 ≡ 32 - l = omega arith in
-    let side : 2 ^ (32 - (l - 1)) ≡ 2 * G = rw s at (pow-less 2 (32 - (l - 1)) (omega arith)) in
-    let e : m * 2 ^ (32 - (l - 1)) ≡ 2 * (m * G) = ap (λ (k : ℕ). m * k) side ∙ mul-left-comm m 2 G in
-    let f = parted l y pos top in
-    omega (arith, e, f .0, f .1)
-
-part-side : (l y : ℕ) → l ≤ 32 → partAbove l y < 2 ^ 32
-unfolding partAbove
-part-side l y top =
-    let whole : 2 ^ 32 ≡ 2 ^ l * 2 ^ (32 - l) = pow-product l (32 - l) 32 (omega arith) in
-    omega (arith, whole, digits-lt {q = y % 2 ^ l} {m = 2 ^ l} {r = 0} {c = 2 ^ (32 - l)} (mod-lt y (pow-pos l)) (pow-pos (32 - l)))
-
--- where a part lies above, the row above crosses the block too
-part-some : (l y : ℕ) → (partAbove l y ≡ 0 → ⊥) → 0 < y % 2 ^ l
-unfolding partAbove
-part-some l y z = ⊎-elim (λ (e : 0 ≡ y % 2 ^ l). absurd (z (rw (← e) (zero-mul (2 ^ (32 - l)))))) (λ lt. lt) (eq-or-lt-of-le zero-le)
-
-row-before : (w y : ℕ) → 0 < y % w → 0 < w → (0 < y) × ((y - 1) / w ≡ y / w)
-row-before w y some pos =
-    let d = div-add-mod' y w in
-    let lt = mod-lt y pos in
-    let e : y - 1 ≡ y / w * w + (y % w - 1) = omega arith in
-    (omega arith, ap (λ (k : ℕ). k / w) e ∙ digits-div (y / w) (omega arith))
-
--- the part of the whole sheet
-module _ (n y : ℕ) (top : n ≤ topLevel) (lt : y < 2 ^ n) where
-  part-small : y * 2 ^ (31 - n) < 2 ^ 31
-  part-small =
-      let whole : 2 ^ 31 ≡ 2 ^ n * 2 ^ (31 - n) = pow-product n (31 - n) 31 (omega arith) in
-      omega (arith, whole, digits-lt {q = y} {m = 2 ^ n} {r = 0} {c = 2 ^ (31 - n)} lt (pow-pos (31 - n)))
-
-  pub part-fits : 2 * (y * 2 ^ (31 - n) % 2 ^ 32) < 2 ^ 32
-  part-fits = omega (arith, part-small)
-
-  pub part-root : 2 * (y * 2 ^ (31 - n) % 2 ^ 32) ≡ partAbove n y
-  unfolding partAbove
-  part-root =
-      let s : 32 - n - 1 ≡ 31 - n = omega arith in
-      let side : 2 ^ (32 - n) ≡ 2 * 2 ^ (31 - n) = rw s at (pow-less 2 (32 - n) (omega arith)) in
-      let e : y % 2 ^ n * 2 ^ (32 - n) ≡ 2 * (y * 2 ^ (31 - n)) = rw (mod-eq-of-lt lt, side) (mul-left-comm y 2 (2 ^ (31 - n))) in
-      omega (arith, e, part-small)
 
 -- the root is crossed by every row, which begins where the row does
 pub crossed-root : {n : ℕ} {T : List ℕ} → Accepted n T → (y above : ℕ) → y < 2 ^ n → above ≡ partAbove n y → Crossed n T 0 n y above

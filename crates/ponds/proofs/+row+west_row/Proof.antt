@@ -1,5 +1,5 @@
--- `ponds::row` and `ponds::west_row`: at each fork the western half's leaves are passed, and what is left is the eastern half, down to a leaf. The measure is twice
--- the nodes that can stand after p, and one more where p is still to be looked at; in the loop, the nodes after the one come to. Assumes nothing.
+-- `ponds::row` and `ponds::west_row`: at each fork the western half's leaves are passed, and what is left is the eastern half, down to a leaf. The measure is
+-- twice the nodes that can stand after p, and one more where p is still to be looked at; in the loop, the nodes after the one come to. Assumes nothing.
 use mathlib.Core.Path.{_≡_, refl, sym, _∙_}
 use Prim.Native.Nat.{ℕ, _+_, _-_, _*_, _<_}
 use native.Mathlib.Omega.{arith}
