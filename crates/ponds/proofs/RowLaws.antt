@@ -1,20 +1,17 @@
 -- Numbering along a row: a leaf's pixels in the row are met at once; a fork's are those of the two sons that the row crosses, the western first.
 use mathlib.Core.Bool.{true, false}
 use mathlib.Core.List.{List}
-use mathlib.Core.Logic.{⊎-elim}
 use mathlib.Core.Path.{_≡_, refl, ap, sym, _∙_}
-use Prim.Native.Nat.{ℕ, suc, _+_, _-_, _*_, _/_, _%_, _^_, _≤_, _<_, zero-le}
-use native.Mathlib.Nat.{add-comm, add-mul, mul-assoc, mul-comm, mul-left-comm, one-mul, zero-mul, div-eq-of-lt, div-add-mod', mod-lt, mod-eq-of-lt, eq-or-lt-of-le}
+use Prim.Native.Nat.{ℕ, suc, _+_, _-_, _*_, _/_, _%_, _^_, _≤_, _<_}
+use native.Mathlib.Nat.{add-comm, add-mul, mul-assoc, mul-comm, one-mul, zero-mul, div-eq-of-lt}
 use native.Mathlib.Omega.{arith}
-use lib.Arith.{digits-lt, digits-div}
-use lib.Pow.{pow-pos, mod-pow-add}
-use borrow.Author.Tests.{ne-eqb}
-use Rattle.base.proofs.PowLaws.{pow-less, pow-product, four-pow}
-use Rattle.quad.specs.Numbers.{topLevel, forkType, maxWords}
+use lib.Pow.{pow-pos}
+use Rattle.base.proofs.PowLaws.{pow-less, four-pow}
+use Rattle.quad.specs.Numbers.{maxWords}
 use Rattle.quad.specs.Block.{column, row}
 use Rattle.quad.proofs.PathLaws.{half-last}
-use Rattle.table.specs.Table.{word, son, type, isFork}
-use Rattle.table.specs.Rules.{Accepted, AtLevel}
+use Rattle.table.specs.Table.{word, son, isFork}
+use Rattle.table.specs.Rules.{Accepted}
 use Rattle.table.specs.Nodes.{pathTo, levelOf, leftOf}
 use Rattle.table.proofs.AcceptedLaws.{sons-of, root-at, level-top, level-is, fork-above, son-at}
 use Rattle.table.proofs.NodeLaws.{path-root}
@@ -22,6 +19,7 @@ use Rattle.table.proofs.HolderLaws.{path-son}
 use Rattle.joins.specs.Led.{Led}
 use Rattle.register.specs.Entries.{leafAt}
 use Rattle.ponds.specs.Counted.{metCount, metWords, Meets, Met, Counting, startOf, partAbove, Crossed, Reached, Passes}
+use Rattle.ponds.proofs.PartLaws.{part-half, part-rest, part-side, part-some, row-before}
 use Rattle.ponds.proofs.LeafLaws.{leaf-along}
 use Rattle.ponds.proofs.CountedLaws.{counted-none, counted-few, passed-more, met-leaf}
 
@@ -29,66 +27,6 @@ use Rattle.ponds.proofs.CountedLaws.{counted-none, counted-few, passed-
 halved : (b C H : ℕ) → (b + 2 * C) * H ≡ C * (2 * H) + b * H
 halved b C H =
     add-mul b (2 * C) H ∙ add-comm (b * H) (2 * C * H) ∙ ap (λ (k : ℕ). k * H + b * H) (mul-comm 2 C) ∙ ap (λ (k : ℕ). k + b * H) (mul-assoc C 2 H)
-
--- the part above the row, in a block of level l above the pixels: half a side where the row crosses the southern half, and the rest lies in that half
-parted : (l y : ℕ) → 0 < l → l ≤ 32
-    → (partAbove l y ≡ y / 2 ^ (l - 1) % 2 * 2 ^ 31 + y % 2 ^ (l - 1) * 2 ^ (32 - l)) × (y % 2 ^ (l - 1) * 2 ^ (32 - l) < 2 ^ 31)
-unfolding partAbove
-parted l y pos top =
-    let H : ℕ = 2 ^ (l - 1) in
-    let G : ℕ = 2 ^ (32 - l) in
-    let whole : 2 ^ 31 ≡ H * G = pow-product (l - 1) (32 - l) 31 (omega arith) in
-    let s : 1 + (l - 1) ≡ l = omega arith in
-    let two : y % 2 ^ l ≡ y / H % 2 * H + y % H = rw s at (mod-pow-add y 1 (l - 1)) in (
-      ap (λ (k : ℕ). k * G) two ∙ add-mul (y / H % 2 * H) (y % H) G
-      ∙ ap (λ (k : ℕ). k + y % H * G) (mul-assoc (y / H % 2) H G ∙ ap (λ (k : ℕ). y / H % 2 * k) (sym whole)),
-      omega (arith, whole, digits-lt {q = y % H} {m = H} {r = 0} {c = G} (mod-lt y (pow-pos (l - 1))) (pow-pos (32 - l))),
-    )
-
--- so its first digit tells the half, and the others the part of the half
-part-half : (l y : ℕ) → 0 < l → l ≤ 32 → partAbove l y / 2 ^ 31 ≡ y / 2 ^ (l - 1) % 2
-part-half l y pos top = let e = parted l y pos top in omega (arith, e .0, e .1)
-
-part-rest : (l y : ℕ) → 0 < l → l ≤ 32 → partAbove l y * 2 % 2 ^ 32 ≡ partAbove (l - 1) y
-unfolding partAbove
-part-rest l y pos top =
-    let m : ℕ = y % 2 ^ (l - 1) in
-    let G : ℕ = 2 ^ (32 - l) in
-    let s : 32 - (l - 1) - 1 ≡ 32 - l = omega arith in
-    let side : 2 ^ (32 - (l - 1)) ≡ 2 * G = rw s at (pow-less 2 (32 - (l - 1)) (omega arith)) in
-    let e : m * 2 ^ (32 - (l - 1)) ≡ 2 * (m * G) = ap (λ (k : ℕ). m * k) side ∙ mul-left-comm m 2 G in
-    let f = parted l y pos top in
-    omega (arith, e, f .0, f .1)
-
--- where a part lies above, the row above crosses the block too
-part-some : (l y : ℕ) → (partAbove l y ≡ 0 → ⊥) → 0 < y % 2 ^ l
-unfolding partAbove
-part-some l y z = ⊎-elim (λ (e : 0 ≡ y % 2 ^ l). absurd (z (rw (← e) (zero-mul (2 ^ (32 - l)))))) (λ lt. lt) (eq-or-lt-of-le zero-le)
-
-row-before : (w y : ℕ) → 0 < y % w → 0 < w → (0 < y) × ((y - 1) / w ≡ y / w)
-row-before w y some pos =
-    let d = div-add-mod' y w in
-    let lt = mod-lt y pos in
-    let e : y - 1 ≡ y / w * w + (y % w - 1) = omega arith in
-    (omega arith, ap (λ (k : ℕ). k / w) e ∙ digits-div (y / w) (omega arith))
-
--- the part of the whole sheet
-module _ (n y : ℕ) (top : n ≤ topLevel) (lt : y < 2 ^ n) where
-  part-small : y * 2 ^ (31 - n) < 2 ^ 31
-  part-small =
-      let whole : 2 ^ 31 ≡ 2 ^ n * 2 ^ (31 - n) = pow-product n (31 - n) 31 (omega arith) in
-      omega (arith, whole, digits-lt {q = y} {m = 2 ^ n} {r = 0} {c = 2 ^ (31 - n)} lt (pow-pos (31 - n)))
-
-  pub part-fits : 2 * (y * 2 ^ (31 - n) % 2 ^ 32) < 2 ^ 32
-  part-fits = omega (arith, part-small)
-
-  pub part-root : 2 * (y * 2 ^ (31 - n) % 2 ^ 32) ≡ partAbove n y
-  unfolding partAbove
-  part-root =
-      let s : 32 - n - 1 ≡ 31 - n = omega arith in
-      let side : 2 ^ (32 - n) ≡ 2 * 2 ^ (31 - n) = rw s at (pow-less 2 (32 - n) (omega arith)) in
-      let e : y % 2 ^ n * 2 ^ (32 - n) ≡ 2 * (y * 2 ^ (31 - n)) = rw (mod-eq-of-lt lt, side) (mul-left-comm y 2 (2 ^ (31 - n))) in
-      omega (arith, e, part-small)
 
 -- the root is crossed by every row, which begins where the row does
 pub crossed-root : {n : ℕ} {T : List ℕ} → Accepted n T → (y above : ℕ) → y < 2 ^ n → above ≡ partAbove n y → Crossed n T 0 n y above
@@ -174,9 +112,21 @@ record Halves (n : ℕ) (T : List ℕ) (p l y west east part : ℕ) : Type 0 whe
   middle : startOf n T east y ≡ startOf n T west y + 2 ^ (l - 1)
   finish : startOf n T p y + 2 ^ l ≡ startOf n T east y + 2 ^ (l - 1)
 
--- fewer nodes stand after a later node
-sooner : {n : ℕ} {T : List ℕ} {p l s : ℕ} → AtLevel n T p l → p < s → maxWords - s < maxWords - p
-sooner h lt = omega (arith, h .node, h .accepted .sized .few, h .accepted .sized .whole)
+-- a node has fewer than the most nodes before it, and a part is less than the side
+below-most : {T W : List ℕ} {p above k : ℕ} → Reached T W p above k → p < maxWords
+below-most r = let h = r .crossed .place in omega (arith, h .node, h .accepted .sized .few, h .accepted .sized .whole)
+
+pub part-below : {T W : List ℕ} {p above k : ℕ} → Reached T W p above k → above < 2 ^ 32
+part-below r = rw (r .crossed .part) (part-side (r .l) (r .y) (omega (arith, level-top (r .crossed .place))))
+
+-- the row has come from one node to another under it: what passes the pixels of that one now, passes all that were to be passed
+pub record Onward (T : List ℕ) (p₀ above₀ : ℕ) (W₀ : List ℕ) (k₀ p above : ℕ) (W : List ℕ) (k : ℕ) : Type 0 where
+  pub after : p₀ ≤ p
+  pub reached : Reached T W p above k
+  pub whole : (W₁ : List ℕ) (r : ℕ) → Passes T p above W k W₁ r → Passes T p₀ above₀ W₀ k₀ W₁ r
+
+pub onward-none : {T W : List ℕ} {p above k : ℕ} → Reached T W p above k → Onward T p above W k p above W k
+onward-none r = record { after = omega arith; reached = r; whole = λ W₁ r h. h }
 
 -- fork p in the code's numbers
 module _ {T : List ℕ} {p above q west east part : ℕ} (f : isFork T p ≡ true) (eq : q ≡ 2 * (above / 2 ^ 31))
@@ -204,42 +154,45 @@ module _ {T : List ℕ} {p above q west east part : ℕ} (f : isFork T p ≡ tru
         finish = omega arith;
       }
 
-  -- the row comes to the western son, then to the eastern one, and then the fork's pixels are passed
-  pub to-west : {W : List ℕ} {k : ℕ} → Reached T W p above k → (maxWords - west < maxWords - p) × Reached T W west part k
-  to-west r =
-      let s = halves (r .n) (r .l) (r .y) (r .crossed) in (
-        sooner (r .crossed .place) (s .west-after),
-        record { n = r .n; l = r .l - 1; y = r .y; crossed = s .left; counting = rw (s .begin) (r .counting) },
-      )
+  -- the row comes to the western son, and then to the eastern one
+  module _ {W₀ W : List ℕ} {p₀ above₀ k₀ k : ℕ} (o : Onward T p₀ above₀ W₀ k₀ p above W k) where
+    pub to-west : (maxWords - west < maxWords - p₀) × Reached T W west part k
+    to-west =
+        let r = o .reached in
+        let s = halves (r .n) (r .l) (r .y) (r .crossed) in (
+          omega (arith, o .after, s .west-after, below-most r),
+          record { n = r .n; l = r .l - 1; y = r .y; crossed = s .left; counting = rw (s .begin) (r .counting) },
+        )
 
-  pub to-east : {W W₁ : List ℕ} {k m : ℕ} → Reached T W p above k → Passes T west part W k W₁ m
-      → (maxWords - east < maxWords - p) × Reached T W₁ east part m
-  to-east r a =
-      let s = halves (r .n) (r .l) (r .y) (r .crossed) in (
-        sooner (r .crossed .place) (s .east-after),
-        record {
-          n = r .n;
-          l = r .l - 1;
-          y = r .y;
-          crossed = s .right;
-          counting = rw (s .middle) (a .on (r .n) (r .l - 1) (r .y) (s .left) (rw (s .begin) (r .counting)));
-        },
-      )
+    pub to-east : {W₁ : List ℕ} {m : ℕ} → Passes T west part W k W₁ m → (maxWords - east < maxWords - p) × Onward T p₀ above₀ W₀ k₀ east part W₁ m
+    to-east {W₁} {m} a =
+        let r = o .reached in
+        let s = halves (r .n) (r .l) (r .y) (r .crossed) in (
+          omega (arith, s .east-after, below-most r),
+          record {
+            after = omega (arith, o .after, s .east-after);
+            reached = record {
+              n = r .n;
+              l = r .l - 1;
+              y = r .y;
+              crossed = s .right;
+              counting = rw (s .middle) (a .on (r .n) (r .l - 1) (r .y) (s .left) (rw (s .begin) (r .counting)));
+            };
+            whole = λ W₂ v b. o .whole W₂ v (record {
+              on = λ n l y h c.
+                  let s = halves n l y h in
+                  rw (s .finish) (b .on n (l - 1) y (s .right) (rw (s .middle) (a .on n (l - 1) y (s .left) (rw (s .begin) c))));
+            });
+          },
+        )
 
-  pub row-fork : {W W₁ W₂ : List ℕ} {k m r : ℕ} → Passes T west part W k W₁ m → Passes T east part W₁ m W₂ r → Passes T p above W k W₂ r
-  row-fork a b = record {
-    on = λ n l y h c.
-        let s = halves n l y h in
-        rw (s .finish) (b .on n (l - 1) y (s .right) (rw (s .middle) (a .on n (l - 1) y (s .left) (rw (s .begin) c))));
-  }
-
--- a leaf in the code's numbers: it is met, or was met
-module _ {T W : List ℕ} {p above k : ℕ} (kind : ℕ) (is : kind ≡ type T p) (z : kind ≡ forkType → ⊥) where
+-- a leaf is met, or was met
+module _ {T W : List ℕ} {p above k : ℕ} (f : isFork T p ≡ false) where
   pub row-leaf : {W₁ : List ℕ} {r : ℕ} → Met T W p k r W₁ → Passes T p above W k W₁ r
-  row-leaf m = record { on = λ n l y h c. rw (m .count, m .words) (counting-leaf h (ne-eqb (type T p) forkType (λ q. z (is ∙ q))) c) }
+  row-leaf m = record { on = λ n l y h c. rw (m .count, m .words) (counting-leaf h f c) }
 
   pub row-old : (above ≡ 0 → ⊥) → Passes T p above W k W k
-  row-old some = record { on = λ n l y h c. counting-old h (ne-eqb (type T p) forkType (λ q. z (is ∙ q))) some c }
+  row-old some = record { on = λ n l y h c. counting-old h f some c }
 
 -- what meeting leaf p asks for
 pub meets : {T W : List ℕ} {p above k : ℕ} → Reached T W p above k → Meets T W p k

@@ -3,7 +3,7 @@ use answer::Outcome;
 use register::Pond;
 use table::word_at;
 ghost use mathlib.Core.Path.{_≡_};
-ghost use mathlib.Core.Bool.{true};
+ghost use mathlib.Core.Bool.{false};
 ghost use Prim.Native.Nat.{_+_, _*_, _/_, _^_, _<_, _≤_};
 ghost use lib.Dec.{eqb};
 ghost use lib.ListN.{length};
@@ -61,31 +61,45 @@ fn western(above: u32) -> usize
     2 * (above >> 31) as usize
 }
 
-// Meets the leaves that a row crosses under node p, from west to east. A leaf of which a part lies above the row was met in a row before.
-fn row(table: &[u32], words: &mut [u32], p: usize, above: u32, count: u32) -> u32
-    requires { ⌜ Reached (now table) (now words) p above count ⌝ }
+// Meets leaf p, which a row crosses: where a part of it lies above the row, it was met in the row before.
+fn leaf_row(table: &[u32], words: &mut [u32], p: usize, above: u32, count: u32) -> u32
+    requires { ⌜ Reached (now table) (now words) p above count × (isFork (now table) p ≡ false) ⌝ }
     ensures { λ r. ⌜ Passes (now (table .entry)) p above (now (words .entry)) count (now (words .exit)) r ⌝ }
 {
-    if word_at(table, p, 5) == quad::FORK {
-        return fork_row(table, words, p, above, count);
-    }
     if above != 0 {
         return count;
     }
     meet(table, words, p, count)
 }
 
-// The same under fork p: the two sons that the row crosses.
-fn fork_row(table: &[u32], words: &mut [u32], p: usize, above: u32, count: u32) -> u32
-    requires { ⌜ Reached (now table) (now words) p above count × (isFork (now table) p ≡ true) ⌝ }
+// Meets the leaves that a row crosses under node p, from west to east: those under the western half of each fork, on the way down the eastern halves.
+fn row(table: &[u32], words: &mut [u32], p: usize, above: u32, count: u32) -> u32
+    requires { ⌜ Reached (now table) (now words) p above count ⌝ }
     ensures { λ r. ⌜ Passes (now (table .entry)) p above (now (words .entry)) count (now (words .exit)) r ⌝ }
 {
-    let q = western(above);
-    let west = word_at(table, p, 1 + q);
-    let east = word_at(table, p, 2 + q);
-    let part = above << 1;
-    let met = row(table, words, west, part, count);
-    row(table, words, east, part, met)
+    let mut node = p;
+    let mut part = above;
+    let mut met = count;
+    while word_at(table, node, 5) == quad::FORK {
+        let q = western(part);
+        let west = word_at(table, node, 1 + q);
+        let east = word_at(table, node, 2 + q);
+        part = part << 1;
+        met = west_row(table, words, west, part, met);
+        node = east;
+    }
+    leaf_row(table, words, node, part, met)
+}
+
+// The same; a leaf takes no walk.
+fn west_row(table: &[u32], words: &mut [u32], p: usize, above: u32, count: u32) -> u32
+    requires { ⌜ Reached (now table) (now words) p above count ⌝ }
+    ensures { λ r. ⌜ Passes (now (table .entry)) p above (now (words .entry)) count (now (words .exit)) r ⌝ }
+{
+    if word_at(table, p, 5) == quad::FORK {
+        return row(table, words, p, above, count);
+    }
+    leaf_row(table, words, p, above, count)
 }
 
 // Meets the leaves of all rows, from the top: each leader gets its number. Gives the count.

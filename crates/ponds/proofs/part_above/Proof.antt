@@ -1,7 +1,7 @@
 -- `ponds::part_above`: no digit of the row is lost. Assumes nothing.
 use native.Mathlib.Omega.{arith}
 use borrow.Author.Needs.{needs}
-use Rattle.ponds.proofs.RowLaws.{part-fits, part-root}
+use Rattle.ponds.proofs.PartLaws.{part-fits, part-root}
 use Rattle.ponds.proofs.part_above.Statement.{statement}
 use Rattle.ponds.proofs.part_above.Tie as tie
 
