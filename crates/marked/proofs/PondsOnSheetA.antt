@@ -149,5 +149,5 @@ ponds-on-A r numbers reg f =
       f .number ∙ ap numberOf (a .1) ∙ ap (λ (c : ℕ). numberOf (Answered c)) (same .1),
       same .0,
       a .2 .register ∙ ap (λ (m : List ℕ). overlay (wordsOf (entries 2 tableA m (a .0))) (blank 12)) (same .0)
-      ∙ ap (λ (c : ℕ). overlay (wordsOf (entries 2 tableA numbersA c)) (blank 12)) (same .1),
+          ∙ ap (λ (c : ℕ). overlay (wordsOf (entries 2 tableA numbersA c)) (blank 12)) (same .1),
     )

@@ -67,11 +67,15 @@ module _ (n : ℕ) (T : List ℕ) (wide have : ℕ) (numbers : List ℕ) (s : Ou
       let p = passed-call h in
       record {
         refused = λ bad. absurd (false≢true (sym bad ∙ ap answers (sym e) ∙ on u (answers s) a h));
-        answered = λ good. (count, refl, record {
-          numbered = m;
-          filling = numbers-of n T numbers' count (p .0) m;
-          room = le-trans (mul-le-mul-left wide (few-ponds n T numbers' count m)) (p .2);
-        });
+        answered = λ good. (
+          count,
+          refl,
+          record {
+            numbered = m;
+            filling = numbers-of n T numbers' count (p .0) m;
+            room = le-trans (mul-le-mul-left wide (few-ponds n T numbers' count m)) (p .2);
+          },
+        );
       }
 
 -- and the register
@@ -123,7 +127,7 @@ one-finding n T written wide numbers reg o o' a a' b b' f g =
       x .1 ∙ ap Answered (same .1) ∙ sym (y .1),
       same .0,
       x .2 .register ∙ ap (λ (m : List ℕ). overlay (written (entries n T m (x .0))) reg) (same .0)
-      ∙ ap (λ (c : ℕ). overlay (written (entries n T a' c)) reg) (same .1) ∙ sym (y .2 .register),
+          ∙ ap (λ (c : ℕ). overlay (written (entries n T a' c)) reg) (same .1) ∙ sym (y .2 .register),
     ))
     (λ (bad : answers test ≡ false).
     let x = f .refused bad in

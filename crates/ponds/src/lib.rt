@@ -188,7 +188,9 @@ fn test(n: u32, table: &[u32], words: usize, wide: usize, have: usize) -> Outcom
     }
     let need = wide * black_leaves(table);
     if have < need {
-        return Outcome::NoRoom { needed: need as u32 };
+        return Outcome::NoRoom {
+            needed: need as u32,
+        };
     }
     Outcome::Answered { value: 0 }
 }
