@@ -6,6 +6,7 @@ pub mod FewPonds
 pub mod CallLaws
 pub mod PictureLaws
 pub mod CountedLaws
+pub mod LeaderLaws
 pub mod PartLaws
 pub mod RowLaws
 pub mod SettledLaws
