@@ -1,7 +1,7 @@
--- Powers: one factor more or less, products of powers of two, and 4 ^ n as the square of 2 ^ n.
+-- Powers: one factor more or less, products of powers of two, and 4 ^ n as the square of 2 ^ n; where the halves of a block begin.
 use mathlib.Core.Path.{_≡_, refl, ap, sym, _∙_}
 use Prim.Native.Nat.{ℕ, zero, suc, _+_, _-_, _*_, _/_, _^_, _<_}
-use native.Mathlib.Nat.{pow-succ', div-lt-iff-lt-mul}
+use native.Mathlib.Nat.{add-comm, add-mul, mul-assoc, mul-comm, pow-succ', div-lt-iff-lt-mul}
 use native.Mathlib.Numerals.{add-one}
 use native.Mathlib.Omega.{arith}
 use lib.Pow.{pow-add, pow-pos}
@@ -29,3 +29,8 @@ four-pow n = go n ∙ pow-add 2 n n
     go (suc k) =
         let e : suc k + suc k ≡ suc (suc (k + k)) = omega arith in
         rw e (omega (arith, pow-succ' 4 k, pow-succ' 2 (k + k), pow-succ' 2 (suc (k + k)), go k))
+
+-- where half b of block C begins, H being the half's side
+pub halved : (b C H : ℕ) → (b + 2 * C) * H ≡ C * (2 * H) + b * H
+halved b C H =
+    add-mul b (2 * C) H ∙ add-comm (b * H) (2 * C * H) ∙ ap (λ (k : ℕ). k * H + b * H) (mul-comm 2 C) ∙ ap (λ (k : ℕ). k + b * H) (mul-assoc C 2 H)

@@ -3,13 +3,12 @@
 use mathlib.Core.Bool.{true}
 use mathlib.Core.List.{List}
 use mathlib.Core.Logic.{_⊎_, inl, inr, ⊎-elim}
-use mathlib.Core.Path.{_≡_, refl, ap, _∙_}
+use mathlib.Core.Path.{_≡_, refl, _∙_}
 use Prim.Native.Nat.{ℕ, zero, suc, _+_, _-_, _*_, _/_, _%_, _^_, _≤_, _<_}
-use native.Mathlib.Nat.{add-comm, add-mul, mul-assoc, mul-comm}
 use native.Mathlib.Omega.{arith}
 use lib.Pow.{pow-pos}
 use Rattle.base.proofs.BoolLaws.{lt-or-ge}
-use Rattle.base.proofs.PowLaws.{pow-less}
+use Rattle.base.proofs.PowLaws.{halved, pow-less}
 use Rattle.quad.specs.Block.{column, row}
 use Rattle.quad.specs.Direction.{eastStep, southStep}
 use Rattle.table.specs.Table.{nodes, son, isFork}
@@ -78,11 +77,6 @@ pub steps : {D : ℕ} → Side D → Steps D
 unfolding eastStep southStep
 steps east = record { straight = omega arith; east = omega arith; south = omega arith }
 steps south = record { straight = omega arith; east = omega arith; south = omega arith }
-
--- a half's first column or row, from its block's
-halved : (b C H : ℕ) → (b + 2 * C) * H ≡ C * (2 * H) + b * H
-halved b C H =
-    add-mul b (2 * C) H ∙ add-comm (b * H) (2 * C * H) ∙ ap (λ (k : ℕ). k * H + b * H) (mul-comm 2 C) ∙ ap (λ (k : ℕ). k + b * H) (mul-assoc C 2 H)
 
 module _ {n : ℕ} {T : List ℕ} {D : ℕ} (way : Side D) where
   -- the pixels of a node

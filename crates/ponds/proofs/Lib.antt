@@ -7,6 +7,7 @@ pub mod CallLaws
 pub mod PictureLaws
 pub mod LongestRegister
 pub mod CountedLaws
+pub mod LeaderLaws
 pub mod PartLaws
 pub mod RowLaws
 pub mod SettledLaws

@@ -3,10 +3,10 @@ use mathlib.Core.Bool.{true, false}
 use mathlib.Core.List.{List}
 use mathlib.Core.Path.{_≡_, refl, ap, sym, _∙_}
 use Prim.Native.Nat.{ℕ, suc, _+_, _-_, _*_, _/_, _%_, _^_, _≤_, _<_}
-use native.Mathlib.Nat.{add-comm, add-mul, mul-assoc, mul-comm, one-mul, zero-mul, div-eq-of-lt}
+use native.Mathlib.Nat.{add-mul, one-mul, zero-mul, div-eq-of-lt}
 use native.Mathlib.Omega.{arith}
 use lib.Pow.{pow-pos}
-use Rattle.base.proofs.PowLaws.{pow-less, four-pow}
+use Rattle.base.proofs.PowLaws.{halved, pow-less, four-pow}
 use Rattle.quad.specs.Numbers.{maxWords}
 use Rattle.quad.specs.Block.{column, row}
 use Rattle.quad.proofs.PathLaws.{half-last}
@@ -22,11 +22,6 @@ use Rattle.ponds.specs.Counted.{metCount, metWords, Meets, Met, Counting
 use Rattle.ponds.proofs.PartLaws.{part-half, part-rest, part-side, part-some, row-before}
 use Rattle.ponds.proofs.LeafLaws.{leaf-along}
 use Rattle.ponds.proofs.CountedLaws.{counted-none, counted-few, passed-more, met-leaf}
-
--- a half's left side, from its block's
-halved : (b C H : ℕ) → (b + 2 * C) * H ≡ C * (2 * H) + b * H
-halved b C H =
-    add-mul b (2 * C) H ∙ add-comm (b * H) (2 * C * H) ∙ ap (λ (k : ℕ). k * H + b * H) (mul-comm 2 C) ∙ ap (λ (k : ℕ). k + b * H) (mul-assoc C 2 H)
 
 -- the root is crossed by every row, which begins where the row does
 pub crossed-root : {n : ℕ} {T : List ℕ} → Accepted n T → (y above : ℕ) → y < 2 ^ n → above ≡ partAbove n y → Crossed n T 0 n y above

@@ -1,15 +1,16 @@
 -- How the numbers are given (document 02, No. 1): row by row the pixels are passed, and a leader's word becomes N + k when its pond's first pixel is met as
 -- the k-th; then each black leaf's word becomes its leader's, less N. No other word changes, so the words tell a leaf's leader all the while.
-use mathlib.Core.Bool.{cond}
+use mathlib.Core.Bool.{Bool, false, cond}
 use mathlib.Core.List.{List}
 use mathlib.Core.Path.{_≡_}
 use Prim.Native.Nat.{ℕ, _+_, _-_, _*_, _/_, _%_, _^_, _≤_, _<_}
 use lib.Dec.{eqb, ltb}
 use lib.ListN.{length, set}
+use Rattle.base.specs.Tab.{sum}
 use Rattle.quad.specs.Numbers.{black}
 use Rattle.quad.specs.Block.{row}
 use Rattle.table.specs.Table.{nodes, type}
-use Rattle.table.specs.Rules.{AtLevel}
+use Rattle.table.specs.Rules.{one, AtLevel}
 use Rattle.table.specs.Nodes.{pathTo, leftOf}
 use Rattle.joins.specs.Chain.{Water}
 use Rattle.joins.specs.Led.{wordOf, Led}
@@ -18,6 +19,13 @@ use Rattle.register.specs.Entries.{leafAt}
 -- the leader of a black leaf p: its word, or itself where its word is from N on
 unfoldable pub leadOf : List ℕ → ℕ → ℕ
 leadOf words p = cond (ltb (wordOf words p) (length words)) (wordOf words p) p
+
+-- p is a leader: a black leaf that is its own; and how many there are, one for each pond
+unfoldable pub leads : List ℕ → List ℕ → ℕ → Bool
+leads T words p = cond (eqb (wordOf words p) p) (eqb (type T p) black) false
+
+unfoldable pub leaders : List ℕ → List ℕ → ℕ
+leaders T words = sum (λ p. one (leads T words p)) (nodes T)
 
 -- the count, and the words, once leaf p is met: a black leaf's leader that has no number gets the next
 unfoldable pub metCount : List ℕ → List ℕ → ℕ → ℕ → ℕ

@@ -13,7 +13,7 @@ ghost use Rattle.table.specs.Table.{nodes, type, isFork};
 ghost use Rattle.table.specs.Rules.{one, Accepted};
 ghost use Rattle.joins.specs.Led.{Led};
 ghost use Rattle.ponds.specs.Numbered.{Numbered};
-ghost use Rattle.ponds.specs.Counted.{leadOf, Meets, Met, Counting, partAbove, Reached, Passes, settledAt, Settles, Tells, Settled};
+ghost use Rattle.ponds.specs.Counted.{leadOf, leads, leaders, Meets, Met, Counting, partAbove, Reached, Passes, settledAt, Settles, Tells, Settled};
 ghost use Rattle.ponds.specs.Calls.{blackLeaves, pondsTest, FindsInWords, FindsInEntries};
 ghost use Rattle.ponds.specs.Found.{Found};
 
@@ -27,6 +27,31 @@ fn leader(words: &[u32], p: usize) -> usize
         return word;
     }
     p
+}
+
+// 1 for a leader, else 0.
+fn leads(table: &[u32], words: &[u32], p: usize) -> usize
+    requires { ⌜ (p < nodes (now table)) × (length (now words) ≡ nodes (now table)) ⌝ }
+    ensures { λ r. ⌜ r ≡ one (leads (now (table .entry)) (now (words .entry)) p) ⌝ }
+{
+    if words[p] as usize != p {
+        return 0;
+    }
+    black(table, p)
+}
+
+// How many leaders there are.
+fn leaders(table: &[u32], words: &[u32]) -> usize
+    requires { ⌜ length (now words) ≡ nodes (now table) ⌝ }
+    ensures { λ r. ⌜ r ≡ leaders (now (table .entry)) (now (words .entry)) ⌝ }
+{
+    let mut count = 0;
+    let mut p = 0;
+    while p < words.len() {
+        count += leads(table, words, p);
+        p += 1;
+    }
+    count
 }
 
 // Meets leaf p: where it is black and its leader has no number, that gets the next. Gives the count.
@@ -102,15 +127,19 @@ fn west_row(table: &[u32], words: &mut [u32], p: usize, above: u32, count: u32) 
     leaf_row(table, words, p, above, count)
 }
 
-// Meets the leaves of all rows, from the top: each leader gets its number. Gives the count.
+// Meets the leaves of the rows, from the top, until each leader has its number. Gives the count.
 fn rows(n: u32, table: &[u32], words: &mut [u32]) -> u32
     requires { ⌜ Accepted n (now table) × Led n (now table) (now words) ⌝ }
     ensures { λ r. ⌜ Counting n (now (table .entry)) (now (words .exit)) (4 ^ n) r ⌝ }
 {
     let across = quad::side(n);
+    let ponds = leaders(table, words);
     let mut y = 0;
     let mut count = 0;
     while y < across {
+        if ponds <= count as usize {
+            return count;
+        }
         count = row(table, words, 0, part_above(n, y), count);
         y += 1;
     }
