@@ -13,7 +13,7 @@ use base.Logic.{SProp, ent, emp, sep, id⊢, fst∗}
 use base.Fml.{Fml, GName, Lft, Share, ftrue, flft, fobs, fbor}
 use prog.Memory.{Memory}
 use prog.Routine.{Routine}
-use prog.Wp.{Heap, Env, Calls, Loops, WpFn, Tables}
+use prog.Wp.{Heap, Env, WpFn, Tables}
 use ghost.Atoms.{Atoms, sem}
 use contract.Monad.{Fun}
 use contract.Running.{givenOf, tables, tablesOf}
