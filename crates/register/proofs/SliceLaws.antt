@@ -94,12 +94,16 @@ module _ (n : ℕ) (table numbers : List ℕ) (count : ℕ) (before : List Pond)
     long : j < length es
     long = rw (gatherings-length n table numbers p count 1) h
 
-    pub filled-more : (r : Pond) → getD numbers p 0 ≡ suc j → r ≡ grownOf (getD (filled p) j emptyPond) (blockOf n table p)
-        → set (filled p) j r ≡ filled (p + 1)
+    pub filled-more : getD numbers p 0 ≡ suc j → set (filled p) j (grownOf (getD (filled p) j emptyPond) (blockOf n table p)) ≡ filled (p + 1)
     unfolding filled
-    filled-more r is f =
+    filled-more is =
         let rest : List Pond = drop (length es) before in
-        rw (gatherings-more n table numbers p count j h is, set-append-left es rest j r long, f, front es rest j emptyPond long, length-set)
+        rw (
+          gatherings-more n table numbers p count j h is,
+          front es rest j emptyPond long,
+          set-append-left es rest j (grownOf (getD es j emptyPond) (blockOf n table p)) long,
+          length-set,
+        )
 
     pub filled-fits : Numbers n table numbers count → p < nodes table → Fitting (getD (filled p) j emptyPond) (blockOf n table p)
     unfolding filled

@@ -16,7 +16,7 @@ use base.Fml.{GName, Share, fat, froom, fdies, flft, flent}
 use prog.Wp.{Heap, Env, Calls, Loops, spotOf}
 use ghost.Atoms.{Atoms}
 use sound.WpLaws.{FmC}
-use types.Kit.{Given, Item, Goal, Soaks, Post, Seq, Step, Sq, nth, put, runs, lands, frees, ‵, raw, some, later, _⊛_, _$_, ! }
+use types.Kit.{Given, Item, Goal, Soaks, Post, Seq, Step, Sq, nth, put, runs, lands, frees, ‵, raw, some, later, !, _⊛_, _$_}
 use types.Kit.{step, move, drop, use1, use3, split, fsplit, pick, await}
 use types.Run.{Opd, Opds, Rv as Gives, look, init, stop, from, load, assigns, free1, free0}
 use types.SemTy.{cells, Arr}

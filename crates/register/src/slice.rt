@@ -48,15 +48,14 @@ pub fn fill(n: u32, table: &[u32], numbers: &[u32], reg: &mut [Pond], count: usi
 {
     let mut i: usize = 0;
     while i < count {
-        reg[i] = super::empty();
+        put(reg, i, super::empty());
         i += 1;
     }
     let mut p: usize = 0;
     while p < numbers.len() {
         let k = number_at(numbers, p);
         if k != 0 {
-            let j = k - 1;
-            reg[j] = grown_at(n, table, p, reg[j]);
+            grow(n, table, p, reg, k - 1);
         }
         p += 1;
     }

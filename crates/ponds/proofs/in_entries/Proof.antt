@@ -1,6 +1,6 @@
--- `ponds::in_entries` meets its contract: a walk of its MIR, by hand. The borrow of the numbers is opened once; what it holds is lent to `numbered` for a lifetime of
--- its own, and shared with `register::slice::fill` for another. The register is given to `fill` for good, or, where the outcome is a refusal, kept as it was.
--- Assumes nothing.
+-- `ponds::in_entries` meets its contract: a walk of its MIR, by hand. The borrow of the numbers is opened once; what it holds is lent to `numbered` for a
+-- lifetime of its own, and shared with `register::slice::fill` for another. The register is given to `fill` for good, or, where the outcome is a refusal, kept
+-- as it was. Assumes nothing.
 use mathlib.Core.Bool.{Bool, not}
 use mathlib.Core.Path.{_≡_, refl, sym, ap, subst}
 use Prim.Native.Nat.{ℕ, _≤_, _<_, _^_}
@@ -193,7 +193,7 @@ module _ {M : Type 1} (𝓤 : URA M) (H : Heap 𝓤) (A : Atoms 𝓤) (at-mem : 
 
     -- ---- the calls
     -- so many elements of the register are asked for an entry
-    module _ (wide : ℕ) (few : wide ≤ 5) (α : ℕ) (δ : GName) where
+    module _ (wide α : ℕ) (δ : GName) where
       abbrev to-numbered : Numbering .Ghost
       to-numbered = (
         (
@@ -206,8 +206,9 @@ module _ {M : Type 1} (𝓤 : URA M) (H : Heap 𝓤) (A : Atoms 𝓤) (at-mem : 
         tt,
       )
 
-      asks-numbered : ent 𝓤 (⋆ 𝓤 H A (‵ (flft κ₀ q₀) ∷ ‵ (flft (α ∷ []) fullShare) ∷ ‵ (lent-numbers (α ∷ []) δ) ∷ ‵ tab ∷ [])) (Numbering .pre to-numbered)
-      asks-numbered =
+      asks-numbered : wide ≤ 5
+          → ent 𝓤 (⋆ 𝓤 H A (‵ (flft κ₀ q₀) ∷ ‵ (flft (α ∷ []) fullShare) ∷ ‵ (lent-numbers (α ∷ []) δ) ∷ ‵ tab ∷ [])) (Numbering .pre to-numbered)
+      asks-numbered few =
           qed W (‵ (flft κ₀ q₀) ∷ ‵ (flft (α ∷ []) fullShare) ∷ ‵ (lent-numbers (α ∷ []) δ) ∷ ‵ tab ∷ []) ∵ says ! few $
           nothing ! $ move ! (2 ∷ 0 ∷ []) $ join ! $ move ! (1 ∷ 0 ∷ []) $ join ! $ frame ! $
           nothing ! $ owned ! usize (Is usize) (uint-makes 𝓤 H A W w64) (length ys) _ (refl, room .0) $ fjoin ! $
@@ -224,15 +225,15 @@ module _ {M : Type 1} (𝓤 : URA M) (H : Heap 𝓤) (A : Atoms 𝓤) (at-mem : 
           qed W (‵ ftrue ∷ []) ∵ owned ! O.the-row (Is O.the-row) ((EL.makes O.the-type O′.the-plain) 𝓤 H A) r _ g $ fjoin ! $ nothing ! $ join ! $
           nothing ! $ move ! (1 ∷ 0 ∷ []) $ done !
 
-      -- an answer's numbers are such as `fill` asks for
-      ready : (ws : List ℕ) (t : Bool) (k : ℕ) → Found n (table .now) 1 (length ys) xs r ws → t ≡ answers r → Holds t → k ≡ valueOf r
-          → Numbers n (table .now) ws k × (k ≤ length ys)
-      ready ws t k found is on counted =
-          let has = found-ready n (table .now) (λ (es : List Pond). es) 1 xs ys r ws found t is (ap not (told t on)) k counted in
-          (has .0, omega (arith, has .1))
-
       typed : Holds (hasTy O′.mir v) × WT v
       typed = EL.lawful O.the-type O′.the-laws 𝓤 H A W tt .typed r _ g .0
+
+    -- an answer's numbers are such as `fill` asks for
+    ready : (r : Outcome) (ws : List ℕ) (t : Bool) (k : ℕ) → Found n (table .now) 1 (length ys) xs r ws → t ≡ answers r → Holds t → k ≡ valueOf r
+        → Numbers n (table .now) ws k × (k ≤ length ys)
+    ready r ws t k found is on counted =
+        let has = found-ready n (table .now) (λ (es : List Pond). es) 1 xs ys r ws found t is (ap not (told t on)) k counted in
+        (has .0, omega (arith, has .1))
 
     module _ (ws : List ℕ) (k : ℕ) (gk : k < 2 ^ 64) where
       abbrev to-fill : ℕ → GName → Filling .Ghost
@@ -320,8 +321,7 @@ module _ {M : Type 1} (𝓤 : URA M) (H : Heap 𝓤) (A : Atoms 𝓤) (at-mem : 
           (lends-shr-slice 𝓤 H A W u32 (named 1) (β ∷ []) fullShare ws b₁ o₁ (subst (Room u32) (sym long) gs)) $ await ! tt $ pick ! (λ ε. split ! $
           move ! (4 ∷ []) $ use1 W (‵ tab ⊛ ‵ tab) (shr-slice-copy 𝓤 H A W (named 0) κ₀ u32 .twice table (slice-vals table)) $ split ! $
           move ! (5 ∷ 4 ∷ 7 ∷ 0 ∷ 2 ∷ 6 ∷ []) $ group ! 6 $
-          use1 W (raw (Filling .pre (to-fill ws k (m .1) β ε))) (asks-fill ws k (m .1) β ε
-          (ready r v g ws t k found is on counted)) $
+          use1 W (raw (Filling .pre (to-fill ws k (m .1) β ε))) (asks-fill ws k (m .1) β ε (ready r ws t k found is on counted)) $
           rewrite ! 10 (λ (j : ℕ). cell (words erased imm) l₁₂ (sliceVal (b₁, o₁) j)) (sym long) refl $
           calls-at-last ! fm Filling (known .is-fill) (to-fill ws k (m .1) β ε) (and-then ! (its ! 14 refl) (and-then ! (its ! 15 refl) (and-then !
           (its ! 10 refl) (and-then ! (its ! 12 refl)
@@ -341,7 +341,8 @@ module _ {M : Type 1} (𝓤 : URA M) (H : Heap 𝓤) (A : Atoms 𝓤) (at-mem : 
           use1 W (‵ (fres γ (codedHoleys P.the-row .code (heres P.the-row ys)))) (W .names .obs-res γ _) $
           use1 W (‵ (finally P.the-row γ ys)) (res-finally 𝓤 H A W (named 2) κ₂ P.the-row γ ys) $ move ! (1 ∷ []) $ drop ! $ move ! (1 ∷ 2 ∷ 3 ∷ 0 ∷ []) $
           forget ! 9 refl $
-          exec ! C Λ En pieces.t-7 (atRet En Post) $ ends ws ys r v g (found-none n (table .now) (λ es. es) 1 xs ys r ws found t is (told (not t) off)) long refl))
+          exec ! C Λ En pieces.t-7 (atRet En Post) $ ends ws ys r v g
+          (found-none n (table .now) (λ es. es) 1 xs ys r ws found t is (told (not t) off)) long refl))
 
       -- the numbers are found where one element is asked for an entry
       numbering : (wide : ℕ) → Holds (eqb wide 1) → Sq W (State xs (‵ lent-reg) (‵ (froom O′.mir l₅ 0)))
@@ -356,8 +357,8 @@ module _ {M : Type 1} (𝓤 : URA M) (H : Heap 𝓤) (A : Atoms 𝓤) (at-mem : 
           lends ! tt u32 (named 1) xs b₁ o₁ gs (λ α δ.
           move ! (4 ∷ []) $ use1 W (‵ tab ⊛ ‵ tab) (shr-slice-copy 𝓤 H A W (named 0) κ₀ u32 .twice table (slice-vals table)) $ split ! $
           move ! (5 ∷ 2 ∷ 3 ∷ 0 ∷ []) $ group ! 4 $
-          use1 W (raw (Numbering .pre (to-numbered wide few α δ))) (asks-numbered wide few α δ) $
-          asks ! fm numbered.ended (numbered.clauses 𝓤 H A at-mem run) (known .is-numbered) (to-numbered wide few α δ)
+          use1 W (raw (Numbering .pre (to-numbered wide α δ))) (asks-numbered wide α δ (omega (arith, is))) $
+          asks ! fm numbered.ended (numbered.clauses 𝓤 H A at-mem run) (known .is-numbered) (to-numbered wide α δ)
           (λ r ws. Found n (table .now) wide (length ys) xs r (ws .1 .1 .0)) (λ r ws. id⊢ 𝓤 _)
           (and-then ! (its ! 16 refl) (and-then ! (its ! 17 refl) (and-then ! (its ! 7 refl) (and-then ! (lit ! (lt→ltb wide (2 ^ 64) (omega (arith, is))))
           (and-then ! (its ! 8 refl) (no-more !)))))) (λ v r ws found g.
@@ -370,9 +371,6 @@ module _ {M : Type 1} (𝓤 : URA M) (H : Heap 𝓤) (A : Atoms 𝓤) (at-mem : 
         where
           is : wide ≡ 1
           is = eqb→eq wide 1 one
-
-          few : wide ≤ 5
-          few = omega (arith, is)
 
     -- the machine values passed
     abbrev passed : List Val

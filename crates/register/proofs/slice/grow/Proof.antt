@@ -1,5 +1,5 @@
--- `register::slice::grow` meets its contract: a walk of its MIR, by hand. The borrow is opened and entry i taken out of the row; it is read, `grown_at` is called
--- on it, and its answer is stored in its place. All that is known of `grown_at` is that it meets its contract. Assumes nothing.
+-- `register::slice::grow` meets its contract: a walk of its MIR, by hand. The borrow is opened and entry i taken out of the row; it is read, `grown_at` is
+-- called on it, and its answer is stored in its place. All that is known of `grown_at` is that it meets its contract. Assumes nothing.
 use mathlib.Core.Path.{_≡_, refl, sym, ap, subst}
 use Prim.Native.Nat.{ℕ, _<_, _*_, _^_}
 use mathlib.Core.List.{List, [], _∷_}
@@ -193,7 +193,8 @@ module _ {M : Type 1} (𝓤 : URA M) (H : Heap 𝓤) (A : Atoms 𝓤) (at-mem : 
         rewrite ! 30 (λ (x : ℕ). cell tyPtr l₁₁ (vptr b x)) (sym (place-is 20 o i)) refl $
         assigns ! (of-opd ! (its ! 20 refl)) (from ! (hop ! (look ! 30 refl) (stop !))) (store-raw ! 2 refl (typed r v g)) $
         move ! (3 ∷ []) $ drop ! $ owned ! T.the-row (Is T.the-row) ((LL.makes T.the-type T′.the-plain) 𝓤 H A) r _ g $ move ! (3 ∷ 0 ∷ 4 ∷ []) $
-        elem-put ! T.the-row fullShare ys i r (v ∷ []) b o within $ move ! (0 ∷ 3 ∷ 4 ∷ 5 ∷ []) $ closes-slice ! tt T.the-row ys (zs r) (length-set ys i r) b o $
+        elem-put ! T.the-row fullShare ys i r (v ∷ []) b o within $ move ! (0 ∷ 3 ∷ 4 ∷ 5 ∷ []) $
+        closes-slice ! tt T.the-row ys (zs r) (length-set ys i r) b o $
         -- [obs; the borrow; its token; the table's token; the table; _0; …; _11; …]
         begins ! 5 (of-opd ! (unit-lit !)) refl (tt, tt) $ returns ! (look ! 5 refl) $
         forget ! 5 refl $ forget ! 7 refl $ forget ! 9 refl $ forget ! 11 refl $ forget ! 13 refl $ forget ! 15 refl $ forget ! 17 refl $ forget ! 19 refl $
@@ -221,8 +222,8 @@ module _ {M : Type 1} (𝓤 : URA M) (H : Heap 𝓤) (A : Atoms 𝓤) (at-mem : 
         needs 𝓤 ((a .1 .1 .1 .1 .0 < length (a .1 .1 .1 .0 .now)) × (Asked (a .0) (a .1 .0 .now) (a .1 .1 .0)
         × Fitting (getD (a .1 .1 .1 .0 .now) (a .1 .1 .1 .1 .0) emptyPond) (blockOf (a .0) (a .1 .0 .now) (a .1 .1 .0)))) _ (λ both.
         walk W (κs .0) (κs .1 .0) (qs .0) (qs .1 .0) (a .0) (a .1 .0) (a .1 .1 .0) (a .1 .1 .1 .0 .ptr .0) (a .1 .1 .1 .0 .ptr .1) (a .1 .1 .1 .0 .name)
-        (a .1 .1 .1 .0 .now) (a .1 .1 .1 .1 .0) (are .0 .1) (are .1 .0 .0 .1) (are .1 .1 .0 .1) (are .1 .1 .1 .0 .0 .1) (are .1 .1 .1 .1 .0 .1) (both .0) (both .1)
-        𝓣 known))
+        (a .1 .1 .1 .0 .now) (a .1 .1 .1 .1 .0) (are .0 .1) (are .1 .0 .0 .1) (are .1 .1 .0 .1) (are .1 .1 .1 .0 .0 .1) (are .1 .1 .1 .1 .0 .1)
+        (both .0) (both .1) 𝓣 known))
 
     goes : AllGo 𝓤 H A W 2 (grow.signature .params) (grow.ended .kept) stayed
     goes = (

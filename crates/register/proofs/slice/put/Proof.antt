@@ -92,8 +92,8 @@ module _ {M : Type 1} (𝓤 : URA M) (H : Heap 𝓤) (A : Atoms 𝓤) (at-mem : 
     exits : ent 𝓤 (⋆ 𝓤 H A AtEnd) (Post vunit)
     exits =
         qed W AtEnd ∵ suffices ! _
-        (ends-at 𝓤 H A put.ended stayed (put.clauses 𝓤 H A at-mem run) W bound vunit tt (zs, (tt, (tt, tt))) (length-set ys i e, (tt, (tt, tt)))) $ says ! refl $
-        nothing ! $ move ! (3 ∷ 0 ∷ []) $ join ! $ frame ! $ fjoin ! $ pureI ! (at-slice T.the-row (reg zs) (at .0)) (tt, (tt, tt))
+        (ends-at 𝓤 H A put.ended stayed (put.clauses 𝓤 H A at-mem run) W bound vunit tt (zs, (tt, (tt, tt))) (length-set ys i e, (tt, (tt, tt)))) $
+        says ! refl $ nothing ! $ move ! (3 ∷ 0 ∷ []) $ join ! $ frame ! $ fjoin ! $ pureI ! (at-slice T.the-row (reg zs) (at .0)) (tt, (tt, tt))
         (ap (λ (m : ℕ). sliceVal (b, o) m ∷ []) (sym (length-set ys i e)), subst (Room T.the-row) (sym (length-set ys i e)) room) $ fjoin ! $
         nothing ! $ owned ! T.the-row (Is T.the-row) ((LL.makes T.the-type T′.the-plain) 𝓤 H A) e _ ge $ fjoin ! $
         owned ! usize (Is usize) (uint-makes 𝓤 H A W w64) i _ (refl, gi) $ fjoin ! $ move ! (1 ∷ 0 ∷ []) $ fjoin ! $ frame ! $
@@ -118,9 +118,11 @@ module _ {M : Type 1} (𝓤 : URA M) (H : Heap 𝓤) (A : Atoms 𝓤) (at-mem : 
     walk C Λ =
         qed W ((‵ (flft κ q) ⊛ ‵ ftrue) ∷ ‵ (owns (MutSlice (named 0) κ T.the-row ∷ usize ∷ T.the-row ∷ []) a at) ∷ []) ∵ enter ! C Λ code.function passed _ $
         alloc1 ! (λ l₀. alloc1 ! (λ l₁. alloc1 ! (λ l₂. alloc1 ! (λ l₃. alloc1 ! (λ l₄. alloc1 ! (λ l₅. alloc0 ! $ params1 ! $
-        pass1 ! (init ! 8 refl (tt, (tt, (record { fits = room .0 }, tt)))) $ pass1 ! (init ! 6 refl (tt, record { fits = gi })) $ pass1 ! (init ! 4 refl typed) $ pass0 ! $
+        pass1 ! (init ! 8 refl (tt, (tt, (record { fits = room .0 }, tt)))) $ pass1 ! (init ! 6 refl (tt, record { fits = gi })) $
+        pass1 ! (init ! 4 refl typed) $ pass0 ! $
         -- [_5; …; _4; …; _0; …; the token; what the parameters own]
-        move ! (13 ∷ []) $ fsplit ! $ fsplit ! $ move ! (1 ∷ []) $ fsplit ! $ move ! (16 ∷ []) $ split ! $ move ! (2 ∷ 3 ∷ 0 ∷ []) $ opens-slice ! tt T.the-row ys b o $
+        move ! (13 ∷ []) $ fsplit ! $ fsplit ! $ move ! (1 ∷ []) $ fsplit ! $ move ! (16 ∷ []) $ split ! $ move ! (2 ∷ 3 ∷ 0 ∷ []) $
+        opens-slice ! tt T.the-row ys b o $
         -- [the entries; the open borrow; obs; auth; true; the register's fact; what else is owned; _5; …]
         keep ! (0 ∷ 1 ∷ 2 ∷ 3 ∷ 17 ∷ 18 ∷ 15 ∷ 16 ∷ 13 ∷ 14 ∷ 11 ∷ 12 ∷ 9 ∷ 10 ∷ 7 ∷ 8 ∷ []) $
         -- [the entries; the open borrow; obs; auth; _0; …; _5; …]
