@@ -73,16 +73,20 @@ module _ (n : ℕ) (T first begun : List ℕ) (led : Led n T first) (was : Led n
   all-led i c p w e =
       ⊎-elim
       (λ (free : wordOf W p < nodes T).
-      absurd (omega (arith, few, no-more-than (λ q. cond (eqb q p) k (wordOf W q - (nodes T + 1))) (leads T begun) (nodes T) (k + 1) (λ a l.
-      ⊎-elim
-      (λ (s : a ≡ k). (p, w .node, own p w e, rw (eq-eqb p p refl) (sym s)))
-      (λ (s : a < k).
-      let h = c .all (a + 1) (omega arith) (omega arith) in
-      let leaf = leafAt n T (h .pixel) in
-      let m = led .leader leaf (h .water) in
-      let z : wordOf first leaf ≡ p → ⊥ = λ (f : wordOf first leaf ≡ p). let g = h .number in let g' = rw f at g in omega arith in
-      (wordOf first leaf, m .node, own (wordOf first leaf) m (led .own leaf (h .water)), rw (ne-eqb (wordOf first leaf) p z) (omega (arith, h .number))))
-      (eq-or-lt-of-le (omega arith))))))
+      absurd (omega (
+        arith,
+        few,
+        no-more-than (λ q. cond (eqb q p) k (wordOf W q - (nodes T + 1))) (leads T begun) (nodes T) (k + 1) (λ a l.
+            ⊎-elim
+            (λ (s : a ≡ k). (p, w .node, own p w e, rw (eq-eqb p p refl) (sym s)))
+            (λ (s : a < k).
+            let h = c .all (a + 1) (omega arith) (omega arith) in
+            let leaf = leafAt n T (h .pixel) in
+            let m = led .leader leaf (h .water) in
+            let z : wordOf first leaf ≡ p → ⊥ = λ (f : wordOf first leaf ≡ p). let g = h .number in let g' = rw f at g in omega arith in
+            (wordOf first leaf, m .node, own (wordOf first leaf) m (led .own leaf (h .water)), rw (ne-eqb (wordOf first leaf) p z) (omega (arith, h .number))))
+            (eq-or-lt-of-le (omega arith))),
+      )))
       (λ (g : nodes T ≤ wordOf W p). g)
       (lt-or-ge (wordOf W p) (nodes T))
 
