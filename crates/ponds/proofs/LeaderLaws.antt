@@ -1,6 +1,6 @@
 -- The leaders, one for each pond: they are counted node by node, and once as many numbers are given each of them has one, so the pixels that are left change
 -- nothing.
-use mathlib.Core.Bool.{true, cond}
+use mathlib.Core.Bool.{true, false, cond}
 use mathlib.Core.List.{List}
 use mathlib.Core.Logic.{⊎-elim}
 use mathlib.Core.Path.{_≡_, refl, sym, _∙_}
@@ -8,19 +8,19 @@ use Prim.Native.Nat.{ℕ, zero, suc, _+_, _-_, _*_, _^_, _≤_, _<_}
 use native.Mathlib.Nat.{add-zero, eq-or-lt-of-le, mul-le-mul-right}
 use native.Mathlib.Omega.{arith}
 use lib.Dec.{eqb}
-use borrow.Author.Tests.{eq-eqb, ne-eqb}
+use borrow.Author.Tests.{eq-eqb, ne-eqb, eqb-true, eqb-false}
 use Rattle.base.specs.Tab.{sum}
-use Rattle.base.proofs.BoolLaws.{lt-or-ge}
+use Rattle.base.proofs.BoolLaws.{by-bool, lt-or-ge}
 use Rattle.base.proofs.CaseLaws.{cond-case}
 use Rattle.base.proofs.PowLaws.{four-pow}
 use Rattle.base.proofs.SumLaws.{no-more-than}
 use Rattle.quad.specs.Numbers.{black}
 use Rattle.table.specs.Table.{nodes, type}
-use Rattle.table.specs.Rules.{one}
+use Rattle.table.specs.Rules.{one, Accepted}
 use Rattle.joins.specs.Chain.{Water}
 use Rattle.joins.specs.Led.{wordOf, Led}
 use Rattle.register.specs.Entries.{leafAt}
-use Rattle.ponds.specs.Counted.{leads, leaders, Counted, Counting}
+use Rattle.ponds.specs.Counted.{leads, leaders, Fresh, Counted, Counting}
 use Rattle.ponds.proofs.CountedLaws.{passed}
 
 -- among the first p nodes
@@ -28,30 +28,57 @@ abbrev pub leadersTo : List ℕ → List ℕ → ℕ → ℕ
 leadersTo T W p = sum (λ q. one (leads T W q)) p
 
 module _ (T W : List ℕ) where
-  pub leads-not : (p : ℕ) → (wordOf W p ≡ p → ⊥) → 0 ≡ one (leads T W p)
+  leads-own : (p : ℕ) → wordOf W p ≡ p → leads T W p ≡ eqb (type T p) black
+  unfolding leads
+  leads-own p e = rw (eq-eqb (wordOf W p) p e)
+
+  leads-not : (p : ℕ) → (wordOf W p ≡ p → ⊥) → leads T W p ≡ false
   unfolding leads
   leads-not p z = rw (ne-eqb (wordOf W p) p z)
 
-  pub leads-own : (p r : ℕ) → wordOf W p ≡ p → r ≡ one (eqb (type T p) black) → r ≡ one (leads T W p)
-  unfolding leads
-  leads-own p r e h = rw (eq-eqb (wordOf W p) p e) h
+  module _ (h : Fresh T W) where
+    -- above the root the word tells
+    leads-is : (p : ℕ) → 0 < p → p < nodes T → leads T W p ≡ eqb (wordOf W p) p
+    leads-is p pos lt =
+        ⊎-elim
+        (λ (e : eqb (wordOf W p) p ≡ true).
+        ⊎-elim
+        (λ (b : eqb (type T p) black ≡ true). leads-own p (eqb-true (wordOf W p) p e) ∙ b ∙ sym e)
+        (λ (b : eqb (type T p) black ≡ false). absurd (omega (arith, eqb-true (wordOf W p) p e, h .dry p lt (eqb-false (type T p) black b))))
+        (by-bool (eqb (type T p) black)))
+        (λ (e : eqb (wordOf W p) p ≡ false). leads-not p (eqb-false (wordOf W p) p e) ∙ sym e)
+        (by-bool (eqb (wordOf W p) p))
 
-  pub leads-one : (p r : ℕ) → r ≡ one (leads T W p) → r ≤ 1
-  leads-one p r e = rw e (cond-case (λ (k : ℕ). k ≤ 1) (leads T W p) 1 0 (λ e. omega arith) (λ e. omega arith))
+    pub leaders-root : (r : ℕ) → r ≡ one (eqb (type T 0) black) → r ≡ leadersTo T W 1
+    unfolding sum
+    leaders-root r e = rw (leads-own 0 (h .root)) (omega (arith, e))
 
-  pub leaders-none : 0 ≡ leadersTo T W 0
-  unfolding sum
-  leaders-none = refl
-
-  pub leaders-more : (p r count : ℕ) → count ≡ leadersTo T W p → r ≡ one (leads T W p) → count + r ≡ leadersTo T W (p + 1)
-  unfolding sum
-  leaders-more p r count e h =
-      let s : p + 1 ≡ suc p = omega arith in
-      rw s (omega (arith, e, h))
+    pub leaders-more : (p r count : ℕ) → 0 < p → p < nodes T → count ≡ leadersTo T W p → r ≡ one (eqb (wordOf W p) p) → count + r ≡ leadersTo T W (p + 1)
+    unfolding sum
+    leaders-more p r count pos lt e f =
+        let s : p + 1 ≡ suc p = omega arith in
+        rw (s, leads-is p pos lt) (omega (arith, e, f))
 
   pub leaders-all : (p count : ℕ) → p ≡ nodes T → count ≡ leadersTo T W p → count ≡ leaders T W
   unfolding leaders
   leaders-all p count at h = rw at at h
+
+pub own-one : (W : List ℕ) (p r : ℕ) → r ≡ one (eqb (wordOf W p) p) → r ≤ 1
+own-one W p r e = rw e (cond-case (λ (k : ℕ). k ≤ 1) (eqb (wordOf W p) p) 1 0 (λ e. omega arith) (λ e. omega arith))
+
+-- words that joining left
+pub fresh : {n : ℕ} {T W : List ℕ} → Accepted n T → Led n T W → Fresh T W
+fresh {n} {T} {W} acc led = record {
+  some = acc .sized .some;
+  few = omega (arith, acc .sized .few, acc .sized .whole);
+  size = led .each;
+  dry = led .dry;
+  root =
+      ⊎-elim
+      (λ (b : eqb (type T 0) black ≡ true). omega (arith, led .low 0 (record { node = acc .sized .some; wet = eqb-true (type T 0) black b })))
+      (λ (b : eqb (type T 0) black ≡ false). led .dry 0 (acc .sized .some) (eqb-false (type T 0) black b))
+      (by-bool (eqb (type T 0) black));
+}
 
 -- a pond's leader is its least leaf, so there is one choice of leaders
 led-low : {n : ℕ} {T A B : List ℕ} → Led n T A → Led n T B → (p : ℕ) → Water T p → wordOf B p ≤ wordOf A p
@@ -63,9 +90,9 @@ led-same : {n : ℕ} {T A B : List ℕ} → Led n T A → Led n T B → (p : ℕ
 led-same a b p w = omega (arith, led-low a b p w, led-low b a p w)
 
 module _ (n : ℕ) (T first begun : List ℕ) (led : Led n T first) (was : Led n T begun) (W : List ℕ) (k : ℕ) (few : leaders T begun ≤ k) where
-  own : (p : ℕ) → Water T p → wordOf first p ≡ p → leads T begun p ≡ true
+  is-one : (p : ℕ) → Water T p → wordOf first p ≡ p → leads T begun p ≡ true
   unfolding leads
-  own p w e = rw (eq-eqb (wordOf begun p) p (led-same was led p w ∙ e)) (eq-eqb (type T p) black (w .wet))
+  is-one p w e = rw (eq-eqb (wordOf begun p) p (led-same was led p w ∙ e)) (eq-eqb (type T p) black (w .wet))
 
   -- a leader without a number would be one more than there are
   all-led : (i : ℕ) → Counted n T first W i k → (p : ℕ) → Water T p → wordOf first p ≡ p → nodes T ≤ wordOf W p
@@ -78,13 +105,13 @@ module _ (n : ℕ) (T first begun : List ℕ) (led : Led n T first) (was : Led n
         few,
         no-more-than (λ q. cond (eqb q p) k (wordOf W q - (nodes T + 1))) (leads T begun) (nodes T) (k + 1) (λ a l.
             ⊎-elim
-            (λ (s : a ≡ k). (p, w .node, own p w e, rw (eq-eqb p p refl) (sym s)))
+            (λ (s : a ≡ k). (p, w .node, is-one p w e, rw (eq-eqb p p refl) (sym s)))
             (λ (s : a < k).
             let h = c .all (a + 1) (omega arith) (omega arith) in
             let leaf = leafAt n T (h .pixel) in
             let m = led .leader leaf (h .water) in
             let z : wordOf first leaf ≡ p → ⊥ = λ (f : wordOf first leaf ≡ p). let g = h .number in let g' = rw f at g in omega arith in
-            (wordOf first leaf, m .node, own (wordOf first leaf) m (led .own leaf (h .water)), rw (ne-eqb (wordOf first leaf) p z) (omega (arith, h .number))))
+            (wordOf first leaf, m .node, is-one (wordOf first leaf) m (led .own leaf (h .water)), rw (ne-eqb (wordOf first leaf) p z) (omega (arith, h .number))))
             (eq-or-lt-of-le (omega arith))),
       )))
       (λ (g : nodes T ≤ wordOf W p). g)

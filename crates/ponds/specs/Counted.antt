@@ -27,6 +27,14 @@ leads T words p = cond (eqb (wordOf words p) p) (eqb (type T p) black) false
 unfoldable pub leaders : List ℕ → List ℕ → ℕ
 leaders T words = sum (λ p. one (leads T words p)) (nodes T)
 
+-- words as joining leaves them: no fork and no white leaf is its own, but for node 0
+pub record Fresh (T words : List ℕ) : Type 0 where
+  pub some : 0 < nodes T
+  pub few : nodes T < 2 ^ 32
+  pub size : length words ≡ nodes T
+  pub dry : (p : ℕ) → p < nodes T → (type T p ≡ black → ⊥) → wordOf words p ≡ 0
+  pub root : wordOf words 0 ≡ 0
+
 -- the count, and the words, once leaf p is met: a black leaf's leader that has no number gets the next
 unfoldable pub metCount : List ℕ → List ℕ → ℕ → ℕ → ℕ
 metCount T words p k = cond (eqb (type T p) black) (cond (ltb (wordOf words (leadOf words p)) (length words)) (k + 1) k) k

@@ -11,9 +11,9 @@ ghost use Rattle.answer.specs.Numbers.{valueOf};
 ghost use Rattle.quad.specs.Numbers.{black, topLevel, maxWords};
 ghost use Rattle.table.specs.Table.{nodes, type, isFork};
 ghost use Rattle.table.specs.Rules.{one, Accepted};
-ghost use Rattle.joins.specs.Led.{Led};
+ghost use Rattle.joins.specs.Led.{wordOf, Led};
 ghost use Rattle.ponds.specs.Numbered.{Numbered};
-ghost use Rattle.ponds.specs.Counted.{leadOf, leads, leaders, Meets, Met, Counting, partAbove, Reached, Passes, settledAt, Settles, Tells, Settled};
+ghost use Rattle.ponds.specs.Counted.{leadOf, leaders, Fresh, Meets, Met, Counting, partAbove, Reached, Passes, settledAt, Settles, Tells, Settled};
 ghost use Rattle.ponds.specs.Calls.{blackLeaves, pondsTest, FindsInWords, FindsInEntries};
 ghost use Rattle.ponds.specs.Found.{Found};
 
@@ -29,26 +29,27 @@ fn leader(words: &[u32], p: usize) -> usize
     p
 }
 
-// 1 for a leader, else 0.
-fn leads(table: &[u32], words: &[u32], p: usize) -> usize
-    requires { ⌜ (p < nodes (now table)) × (length (now words) ≡ nodes (now table)) ⌝ }
-    ensures { λ r. ⌜ r ≡ one (leads (now (table .entry)) (now (words .entry)) p) ⌝ }
+// 1 for a node whose word is the node itself, else 0.
+fn own(words: &[u32], p: u32) -> u32
+    requires { ⌜ p < length (now words) ⌝ }
+    ensures { λ r. ⌜ r ≡ one (eqb (wordOf (now (words .entry)) p) p) ⌝ }
 {
-    if words[p] as usize != p {
-        return 0;
+    if words[p as usize] == p {
+        return 1;
     }
-    black(table, p)
+    0
 }
 
-// How many leaders there are.
-fn leaders(table: &[u32], words: &[u32]) -> usize
-    requires { ⌜ length (now words) ≡ nodes (now table) ⌝ }
+// How many leaders there are: nodes above the root that are their own, and the root where it is black.
+fn leaders(table: &[u32], words: &[u32]) -> u32
+    requires { ⌜ Fresh (now table) (now words) ⌝ }
     ensures { λ r. ⌜ r ≡ leaders (now (table .entry)) (now (words .entry)) ⌝ }
 {
-    let mut count = 0;
-    let mut p = 0;
-    while p < words.len() {
-        count += leads(table, words, p);
+    let all = words.len() as u32;
+    let mut count = black(table, 0) as u32;
+    let mut p = 1;
+    while p < all {
+        count += own(words, p);
         p += 1;
     }
     count
@@ -137,7 +138,7 @@ fn rows(n: u32, table: &[u32], words: &mut [u32]) -> u32
     let mut y = 0;
     let mut count = 0;
     while y < across {
-        if ponds <= count as usize {
+        if ponds <= count {
             return count;
         }
         count = row(table, words, 0, part_above(n, y), count);

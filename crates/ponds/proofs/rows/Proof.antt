@@ -5,8 +5,7 @@ use native.Mathlib.Omega.{arith}
 use lib.ListN.{length}
 use borrow.Author.Needs.{needs}
 use Rattle.ponds.specs.Counted.{leaders, Counting, startOf, Crossed}
-use Rattle.ponds.proofs.CountedLaws.{counted-few}
-use Rattle.ponds.proofs.LeaderLaws.{rows-enough}
+use Rattle.ponds.proofs.LeaderLaws.{fresh, rows-enough}
 use Rattle.ponds.proofs.RowLaws.{crossed-root, rows-none, row-begins, row-ends, rows-all}
 use Rattle.ponds.proofs.rows.Statement.{statement}
 use Rattle.ponds.proofs.rows.Tie as tie
@@ -22,18 +21,12 @@ side-requires : tie.Need-side-requires Inv-loop μ-loop
 side-requires c κs = c .before .before .pre .0 .sized .level
 
 leaders-requires : tie.Need-leaders-requires Inv-loop μ-loop
-leaders-requires c κs = c .before .before .before .before .pre .1 .each
+leaders-requires c κs = let h = c .before .before .before .before .pre in fresh (h .0) (h .1)
 
 loop-holds : tie.Need-loop-holds Inv-loop μ-loop
 loop-holds c =
     let side = c .before .before in
     (omega arith, side .side .ensures, refl, c .leaders .ensures, rows-none (side .before .before .before .pre .1))
-
-cast-if1 : tie.Need-cast-if1 Inv-loop μ-loop
-cast-if1 c =
-    let k = c .before .loop .inv .4 in
-    let acc = c .before .before .before .before .before .before .before .pre .0 in
-    omega (arith, counted-few _ _ (k .first) (k .led) _ _ _ (k .counted), acc .sized .few, acc .sized .whole)
 
 same-length : tie.Need-same-length Inv-loop μ-loop
 same-length c = c .before .before .loop .inv .2
@@ -102,7 +95,6 @@ rows-spec =
     side-requires
     leaders-requires
     loop-holds
-    cast-if1
     same-length
     returns
     part-above-requires
