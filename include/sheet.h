@@ -541,9 +541,11 @@ uint64_t sheet_distance(uint32_t n, const uint32_t *table, size_t table_len, uin
  *            numbers; the answer is then a refusal. With reg_len 0 the register
  *            may be NULL; the answer is then a refusal, or SHEET_OK with value 0
  *            for a sheet that has no black pixel.
- * Cost:      sheet_check's, then for each black leaf a search of its four
- *            neighbours, and a way along every row from leaf to leaf, with no
- *            memory that grows with N.
+ * Cost:      sheet_check's; for each black leaf a search for its neighbours to
+ *            the east and to the south, and down the near edge of a grey one; a
+ *            way along the rows from leaf to leaf until each pond has its
+ *            number; and for each black leaf a climb to the root. No memory that
+ *            grows with N.
  *
  * Example: the table of sheet_check's example, which is called 'table'.
  *
