@@ -3,7 +3,7 @@
 use mathlib.Core.Bool.{true, false, cond}
 use mathlib.Core.List.{List}
 use mathlib.Core.Logic.{⊎-elim}
-use mathlib.Core.Path.{_≡_, refl, sym, _∙_}
+use mathlib.Core.Path.{_≡_, refl, ap, sym, _∙_}
 use Prim.Native.Nat.{ℕ, zero, suc, _+_, _-_, _*_, _^_, _≤_, _<_}
 use native.Mathlib.Nat.{add-zero, eq-or-lt-of-le, mul-le-mul-right}
 use native.Mathlib.Omega.{arith}
@@ -94,28 +94,32 @@ module _ (n : ℕ) (T first begun : List ℕ) (led : Led n T first) (was : Led n
   unfolding leads
   is-one p w e = rw (eq-eqb (wordOf begun p) p (led-same was led p w ∙ e)) (eq-eqb (type T p) black (w .wet))
 
-  -- a leader without a number would be one more than there are
-  all-led : (i : ℕ) → Counted n T first W i k → (p : ℕ) → Water T p → wordOf first p ≡ p → nodes T ≤ wordOf W p
-  unfolding leaders
-  all-led i c p w e =
-      ⊎-elim
-      (λ (free : wordOf W p < nodes T).
-      absurd (omega (
-        arith,
-        few,
-        no-more-than (λ q. cond (eqb q p) k (wordOf W q - (nodes T + 1))) (leads T begun) (nodes T) (k + 1) (λ a l.
-            ⊎-elim
-            (λ (s : a ≡ k). (p, w .node, is-one p w e, rw (eq-eqb p p refl) (sym s)))
-            (λ (s : a < k).
-            let h = c .all (a + 1) (omega arith) (omega arith) in
-            let leaf = leafAt n T (h .pixel) in
-            let m = led .leader leaf (h .water) in
-            let z : wordOf first leaf ≡ p → ⊥ = λ (f : wordOf first leaf ≡ p). let g = h .number in let g' = rw f at g in omega arith in
-            (wordOf first leaf, m .node, is-one (wordOf first leaf) m (led .own leaf (h .water)), rw (ne-eqb (wordOf first leaf) p z) (omega (arith, h .number))))
-            (eq-or-lt-of-le (omega arith))),
-      )))
-      (λ (g : nodes T ≤ wordOf W p). g)
-      (lt-or-ge (wordOf W p) (nodes T))
+  -- a leader without a number would be one more than there are: it can take place k, where each of the others has the place of its number
+  module _ (i : ℕ) (c : Counted n T first W i k) (p : ℕ) (w : Water T p) (e : wordOf first p ≡ p) where
+    place : ℕ → ℕ
+    place q = cond (eqb q p) k (wordOf W q - (nodes T + 1))
+
+    placed : wordOf W p < nodes T → (a : ℕ) → a < k + 1 → (q : ℕ) × (q < nodes T) × (leads T begun q ≡ true) × (place q ≡ a)
+    unfolding place
+    placed free a l =
+        ⊎-elim
+        (λ (s : a ≡ k). (p, w .node, is-one p w e, rw (eq-eqb p p refl) (sym s)))
+        (λ (s : a < k).
+        let h = c .all (a + 1) (omega arith) (omega arith) in
+        let leaf = leafAt n T (h .pixel) in
+        let q = wordOf first leaf in
+        let m = led .leader leaf (h .water) in
+        let other : q ≡ p → ⊥ = λ (f : q ≡ p). omega (arith, ap (wordOf W) f, h .number, free) in
+        (q, m .node, is-one q m (led .own leaf (h .water)), rw (ne-eqb q p other) (omega (arith, h .number))))
+        (eq-or-lt-of-le (omega arith))
+
+    all-led : nodes T ≤ wordOf W p
+    unfolding leaders
+    all-led =
+        ⊎-elim
+        (λ (free : wordOf W p < nodes T). absurd (omega (arith, few, no-more-than place (leads T begun) (nodes T) (k + 1) (placed free))))
+        (λ (g : nodes T ≤ wordOf W p). g)
+        (lt-or-ge (wordOf W p) (nodes T))
 
   -- so the pixels that are left are passed as they are
   pass : (i d : ℕ) → Counted n T first W i k → Counted n T first W (i + d) k

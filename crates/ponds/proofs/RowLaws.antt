@@ -1,4 +1,5 @@
--- Numbering along a row: a leaf's pixels in the row are met at once; a fork's are those of the two sons that the row crosses, the western first.
+-- Numbering along a row: a leaf's pixels in the row are met at once, in its first row, and passed as they are in the others; a fork's are those of the two sons
+-- that the row crosses, the western first.
 use mathlib.Core.Bool.{true, false}
 use mathlib.Core.List.{List}
 use mathlib.Core.Path.{_≡_, refl, ap, sym, _∙_}
@@ -149,6 +150,11 @@ module _ {T : List ℕ} {p above q west east part : ℕ} (f : isFork T p ≡ tru
         finish = omega arith;
       }
 
+  -- once the western son's pixels are passed, the eastern one's are next
+  west-passed : {W W₁ : List ℕ} {k m : ℕ} → Passes T west part W k W₁ m → (n l y : ℕ) → Crossed n T p l y above → Counting n T W (startOf n T p y) k
+      → Counting n T W₁ (startOf n T east y) m
+  west-passed a n l y h c = let s = halves n l y h in rw (s .middle) (a .on n (l - 1) y (s .left) (rw (s .begin) c))
+
   -- the row comes to the western son, and then to the eastern one
   module _ {W₀ W : List ℕ} {p₀ above₀ k₀ k : ℕ} (o : Onward T p₀ above₀ W₀ k₀ p above W k) where
     pub to-west : (maxWords - west < maxWords - p₀) × Reached T W west part k
@@ -171,12 +177,10 @@ module _ {T : List ℕ} {p above q west east part : ℕ} (f : isFork T p ≡ tru
               l = r .l - 1;
               y = r .y;
               crossed = s .right;
-              counting = rw (s .middle) (a .on (r .n) (r .l - 1) (r .y) (s .left) (rw (s .begin) (r .counting)));
+              counting = west-passed a (r .n) (r .l) (r .y) (r .crossed) (r .counting);
             };
             whole = λ W₂ v b. o .whole W₂ v (record {
-              on = λ n l y h c.
-                  let s = halves n l y h in
-                  rw (s .finish) (b .on n (l - 1) y (s .right) (rw (s .middle) (a .on n (l - 1) y (s .left) (rw (s .begin) c))));
+              on = λ n l y h c. let s = halves n l y h in rw (s .finish) (b .on n (l - 1) y (s .right) (west-passed a n l y h c));
             });
           },
         )

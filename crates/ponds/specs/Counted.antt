@@ -27,7 +27,7 @@ leads T words p = cond (eqb (wordOf words p) p) (eqb (type T p) black) false
 unfoldable pub leaders : List ℕ → List ℕ → ℕ
 leaders T words = sum (λ p. one (leads T words p)) (nodes T)
 
--- words as joining leaves them: no fork and no white leaf is its own, but for node 0
+-- what counting the leaders asks of words that joining left: no fork and no white leaf is its own, but for the root, which always is
 pub record Fresh (T words : List ℕ) : Type 0 where
   pub some : 0 < nodes T
   pub few : nodes T < 2 ^ 32

@@ -72,7 +72,7 @@ fn meet(table: &[u32], words: &mut [u32], p: usize, count: u32) -> u32
     count + 1
 }
 
-// The part of a sheet that lies above row y.
+// The part of a sheet that lies above row y, in 2 ^ 32nds of its side.
 fn part_above(n: u32, y: u32) -> u32
     requires { ⌜ (n ≤ topLevel) × (y < 2 ^ n) ⌝ }
     ensures { λ r. ⌜ r ≡ partAbove n y ⌝ }
