@@ -40,7 +40,7 @@ fn own(words: &[u32], p: u32) -> u32
     0
 }
 
-// How many leaders there are: nodes above the root that are their own, and the root where it is black.
+// How many leaders there are: the nodes after the root that are their own, and the root where it is black.
 fn leaders(table: &[u32], words: &[u32]) -> u32
     requires { ⌜ Fresh (now table) (now words) ⌝ }
     ensures { λ r. ⌜ r ≡ leaders (now (table .entry)) (now (words .entry)) ⌝ }

@@ -11,6 +11,7 @@ ghost use Rattle.register.specs.Words.{pondAt, putAt, passedOf, Passing}
 
 pub mod slice;
 
+// What a pond covers: how many pixels, its first and last row, its first and last column.
 pub struct Pond {
     pub pixels: u32,
     pub top: u32,
