@@ -4,3 +4,4 @@ pub mod PondsOnSheetA
 pub mod Walks
 pub mod WrongLibraries
 pub mod RowsOfRaster
+pub mod PondsOfRaster

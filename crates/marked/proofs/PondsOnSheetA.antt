@@ -8,13 +8,14 @@ use Prim.Native.Nat.{ℕ, _+_, _-_, _*_, _/_, _%_, _<_, _≤_}
 use native.Mathlib.Nat.{eq-zero-or-pos}
 use native.Mathlib.Omega.{arith}
 use lib.Dec.{eqb, ltb, leb}
-use lib.ListN.{getD}
+use lib.ListN.{length, getD}
 use borrow.Author.Tests.{eq-eqb, ne-eqb, lt-ltb, eqb-true, leb-true, ltb-true}
 use Rattle.base.specs.All.{all, all2}
 use Rattle.base.specs.Tab.{tabFrom, sum, least, greatest, overlay}
 use Rattle.base.proofs.AllLaws.{all-at, all2-at}
 use Rattle.base.proofs.BoolLaws.{and-left, and-right, lt-or-ge}
 use Rattle.answer.specs.Numbers.{answers, numberOf}
+use Rattle.answer.specs.declared.Outcome.{Outcome}
 use Rattle.answer.specs.declared.Outcome.the-variants.{Answered}
 use Rattle.quad.specs.Numbers.{black}
 use Rattle.quad.specs.Block.{pathOf}
@@ -27,9 +28,10 @@ use Rattle.neighbour.proofs.SmallestLaws.{holder-contains}
 use Rattle.joins.specs.Chain.{Chain, end}
 use Rattle.joins.specs.Led.{wordOf}
 use Rattle.joins.proofs.ChainLaws.{chain-start, chain-end}
+use Rattle.register.specs.declared.Pond.{Pond}
 use Rattle.register.specs.Entries.{leafAt, numberAt, entryOf, entries, entriesFrom, wordsOf}
 use Rattle.ponds.specs.Numbered.{Numbered}
-use Rattle.ponds.specs.Calls.{blackLeaves, pondsTest}
+use Rattle.ponds.specs.Calls.{blackLeaves, pondsTest, Finds, FindsInEntries}
 use Rattle.ponds.specs.Paths.{Wet}
 use Rattle.ponds.proofs.LeafLaws.{black-leaf, leaf-pixel}
 use Rattle.ponds.proofs.PathLaws.{chain-path, path-keeps}
@@ -139,15 +141,43 @@ numbered = record {
       (lt-or-ge a 2);
 }
 
--- what any library that meets the statement gives there
+-- what any library that meets the statement gives there, however an entry is written
+on-A : {A : Type 0} (written : List Pond → List A) (wide : ℕ) (reg reg' : List A) (o : Outcome) (numbers : List ℕ)
+    → answers (pondsTest 2 tableA 9 (wide * blackLeaves tableA) (length reg)) ≡ true → Finds 2 tableA written wide (blank 9) reg o numbers reg'
+    → (o ≡ Answered 2) × (numbers ≡ numbersA) × (reg' ≡ overlay (written (entries 2 tableA numbersA 2)) reg)
+unfolding tabFrom
+on-A written wide reg reg' o numbers good f =
+    let a = f .answered good in
+    let same = one-numbering 2 tableA accepted numbers numbersA (a .0) 2 (a .2 .numbered) numbered in (
+      a .1 ∙ ap Answered (same .1),
+      same .0,
+      a .2 .register ∙ ap (λ (m : List ℕ). overlay (written (entries 2 tableA m (a .0))) reg) (same .0)
+          ∙ ap (λ (c : ℕ). overlay (written (entries 2 tableA numbersA c)) reg) (same .1),
+    )
+
+-- the C call, on words
 pub ponds-on-A : (r : ℕ) (numbers reg : List ℕ) → FindsPonds 2 tableA (blank 9) (blank 12) r numbers reg
     → (r ≡ 256 * 2) × (numbers ≡ numbersA) × (reg ≡ registerA)
 unfolding tabFrom entryOf entriesFrom wordsOf leafAt pathOf holder sum least greatest
 ponds-on-A r numbers reg f =
-    let a = f .slices .answered passes in
-    let same = one-numbering 2 tableA accepted numbers numbersA (a .0) 2 (a .2 .numbered) numbered in (
-      f .number ∙ ap numberOf (a .1) ∙ ap (λ (c : ℕ). numberOf (Answered c)) (same .1),
-      same .0,
-      a .2 .register ∙ ap (λ (m : List ℕ). overlay (wordsOf (entries 2 tableA m (a .0))) (blank 12)) (same .0)
-          ∙ ap (λ (c : ℕ). overlay (wordsOf (entries 2 tableA numbersA c)) (blank 12)) (same .1),
-    )
+    let a = on-A wordsOf 5 (blank 12) reg (f .outcome) numbers passes (f .slices) in
+    (f .number ∙ ap numberOf (a .0), a .1, a .2)
+
+-- and the call on structs, lent room for three
+abbrev pub old : Pond
+old = record { pixels = 7; top = 7; bottom = 7; left = 7; right = 7 }
+
+abbrev pub three : List Pond
+three = old ∷ old ∷ old ∷ []
+
+abbrev pub entriesA : List Pond
+entriesA =
+    record { pixels = 4; top = 0; bottom = 1; left = 0; right = 1 }
+    ∷ record { pixels = 1; top = 1; bottom = 1; left = 3; right = 3 }
+    ∷ old
+    ∷ []
+
+pub entries-on-A : (o : Outcome) (numbers : List ℕ) (reg : List Pond) → FindsInEntries 2 tableA (blank 9) three o numbers reg
+    → (o ≡ Answered 2) × (numbers ≡ numbersA) × (reg ≡ entriesA)
+unfolding pondsTest blackLeaves eachNodeOf depthTo allOf typeOk fatherOk onceOk sonOk wordOk sonsOk depthOk sonAlike mixedOk faultAt faultFrom faultsOf lengthOk sizesOf entryOf entriesFrom leafAt pathOf holder sum least greatest
+entries-on-A o numbers reg f = on-A (λ es. es) 1 three reg o numbers refl f

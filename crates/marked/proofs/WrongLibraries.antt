@@ -1,23 +1,28 @@
 -- Wrong libraries, as a C caller would meet them, and the statements of the calls that each breaks (demand 2): one that refuses everything, one that names
 -- the same node, distance or place always, one that writes nothing. Sheet A is enough to tell.
 use mathlib.Core.List.{List, []}
+use mathlib.Core.Bool.{true}
 use mathlib.Core.Path.{_≡_, refl, ap, sym, _∙_}
 use Prim.Native.Nat.{ℕ, _*_, _/_, _%_, _<_}
 use native.Mathlib.Omega.{arith}
 use lib.ListN.{getD}
 use lib.Ieee.{Float}
 use Rattle.base.specs.Tab.{tabFrom}
-use Rattle.answer.specs.Numbers.{numberOf}
+use Rattle.answer.specs.declared.Outcome.{Outcome}
+use Rattle.answer.specs.declared.Outcome.the-variants.{Answered}
+use Rattle.answer.specs.Numbers.{answers, numberOf}
 use Rattle.quad.specs.Numbers.{black}
 use Rattle.table.specs.Table.{nodes, type}
 use Rattle.table.specs.SheetA.{rasterA, tableA, fileA}
 use Rattle.neighbour.proofs.OnSheetA.{on-sheet-a}
 use Rattle.ground.specs.declared.Ground.{Ground}
 use Rattle.ground.proofs.CentreCall.{place, lent, on-A, moved, apart}
+use Rattle.register.specs.declared.Pond.{Pond}
+use Rattle.ponds.specs.Calls.{FindsInEntries}
 use Rattle.sheet.specs.Calls.{Builds, Decodes, FindsNeighbour, FindsCornerLeaf, FindsDiagonalLeaf, FindsDistances, FindsPonds, ReadsFile, WritesFile, FindsCentre}
 use Rattle.marked.proofs.Marked.{sheet-A}
 use Rattle.marked.proofs.Tied.{given, blank, tied}
-use Rattle.marked.proofs.PondsOnSheetA.{numbersA, ponds-on-A}
+use Rattle.marked.proofs.PondsOnSheetA.{numbersA, ponds-on-A, old, three, entriesA, entries-on-A}
 
 -- a call on a node: its numbers, which always meet its statement
 module _ (number : ℕ → List ℕ → ℕ → ℕ → ℕ) (meets : (n : ℕ) (T : List ℕ) (p D : ℕ) → FindsNeighbour n T p D (number n T p D)) where
@@ -142,6 +147,30 @@ module _ (number : ℕ → List ℕ → List ℕ → List ℕ → ℕ) (numbers'
   ponds-register idle =
       let is = ponds-on-A _ _ _ (meets 2 tableA (blank 9) (blank 12)) .2 in
       omega (arith, ap (λ (l : List ℕ). getD l 0 0) (sym is ∙ idle 2 tableA (blank 9) (blank 12)))
+
+-- the same call on structs, for callers in Rattle
+module _ (outcome : ℕ → List ℕ → List ℕ → List Pond → Outcome) (numbers' : ℕ → List ℕ → List ℕ → List Pond → List ℕ) (reg' : ℕ → List ℕ → List ℕ → List Pond → List Pond)
+    (meets : (n : ℕ) (T numbers : List ℕ) (reg : List Pond) → FindsInEntries n T numbers reg (outcome n T numbers reg) (numbers' n T numbers reg) (reg' n T numbers reg)) where
+  found : (outcome 2 tableA (blank 9) three ≡ Answered 2) × (numbers' 2 tableA (blank 9) three ≡ numbersA) × (reg' 2 tableA (blank 9) three ≡ entriesA)
+  found = entries-on-A _ _ _ (meets 2 tableA (blank 9) three)
+
+  pub entries-answers : ((n : ℕ) (T numbers : List ℕ) (reg : List Pond) → answers (outcome n T numbers reg) ≡ true → ⊥) → ⊥
+  entries-answers refuses = refuses 2 tableA (blank 9) three (ap answers (found .0))
+
+  pub entries-not-one : (v : ℕ)
+      → ((n : ℕ) (T numbers : List ℕ) (reg : List Pond) → answers (outcome n T numbers reg) ≡ true
+      → (p : ℕ) → p < nodes T → type T p ≡ black → getD (numbers' n T numbers reg) p 0 ≡ v) → ⊥
+  entries-not-one v same =
+      let one = same 2 tableA (blank 9) three (ap answers (found .0)) in
+      let at : (p : ℕ) → getD (numbers' 2 tableA (blank 9) three) p 0 ≡ getD numbersA p 0 = λ p. ap (λ (l : List ℕ). getD l p 0) (found .1) in
+      omega (arith, at 1, at 6, one 1 (omega arith) refl, one 6 (omega arith) refl)
+
+  pub entries-numbers : ((n : ℕ) (T numbers : List ℕ) (reg : List Pond) → numbers' n T numbers reg ≡ numbers) → ⊥
+  unfolding tabFrom
+  entries-numbers idle = omega (arith, ap (λ (l : List ℕ). getD l 0 0) (sym (found .1) ∙ idle 2 tableA (blank 9) three))
+
+  pub entries-register : ((n : ℕ) (T numbers : List ℕ) (reg : List Pond) → reg' n T numbers reg ≡ reg) → ⊥
+  entries-register idle = omega (arith, ap (λ (l : List Pond). getD l 0 old .pixels) (sym (found .2) ∙ idle 2 tableA (blank 9) three))
 
 module _ (number : List ℕ → List ℕ → ℕ) (after : List ℕ → List ℕ → List ℕ) (meets : (s before : List ℕ) → ReadsFile s before (number s before) (after s before)) where
   pub read-answers : ((s before : List ℕ) → number s before % 256 ≡ 0 → ⊥) → ⊥

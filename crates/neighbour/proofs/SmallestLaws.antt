@@ -4,7 +4,7 @@ use mathlib.Core.Bool.{true, false}
 use mathlib.Core.List.{List, [], _∷_}
 use mathlib.Core.Logic.{⊎-elim}
 use mathlib.Core.Path.{_≡_, ap, sym, _∙_}
-use Prim.Native.Nat.{ℕ, zero, suc, _-_, _/_, _^_, _≤_, _<_}
+use Prim.Native.Nat.{ℕ, zero, suc, _-_, _^_, _≤_, _<_}
 use native.Mathlib.Nat.{eq-or-lt-of-le, le-refl, le-trans}
 use native.Mathlib.Omega.{arith}
 use lib.Dec.{eqb}
@@ -12,15 +12,15 @@ use lib.ListN.{length, drop}
 use lib.Pow.{pow-lt}
 use borrow.Author.Tests.{eqb-true, eqb-false}
 use Rattle.base.proofs.BoolLaws.{by-bool}
-use Rattle.quad.specs.Block.{pathOf, column, row, Quadrants}
-use Rattle.quad.proofs.PathLaws.{path-length, path-quadrants, path-column, path-row, path-back}
-use Rattle.quad.proofs.UpperLaws.{column-drop, row-drop, path-drop}
+use Rattle.quad.specs.Block.{pathOf, Quadrants}
+use Rattle.quad.proofs.PathLaws.{path-length, path-quadrants, path-back}
+use Rattle.quad.proofs.UpperLaws.{path-drop}
 use Rattle.table.specs.Table.{isFork}
 use Rattle.table.specs.Rules.{depthTo, Accepted}
 use Rattle.table.specs.Nodes.{pathTo, holder}
 use Rattle.table.proofs.AcceptedLaws.{depth-le, depth-son}
 use Rattle.table.proofs.NodeLaws.{holder-fork, holder-leaf}
-use Rattle.table.proofs.HolderLaws.{Held, held, own-quadrants, own-path, own-depth}
+use Rattle.table.proofs.HolderLaws.{held-inside, Held, held, own-quadrants, own-path, own-depth}
 use Rattle.neighbour.specs.Containing.{Contains, Smallest}
 
 module _ (n : ℕ) (T : List ℕ) (acc : Accepted n T) where
@@ -51,15 +51,10 @@ module _ (n : ℕ) (T : List ℕ) (acc : Accepted n T) where
 
     pub holder-contains : Contains n T (holder T (pathOf d x y)) d x y
     holder-contains =
-        let π = pathOf d x y in
-        let m : ℕ = holder T π in
-        let s = size in
-        let across : column (drop (d - depthTo T n m) π) ≡ x / 2 ^ (d - depthTo T n m) = column-drop (d - depthTo T n m) π ∙ rw (path-column d x y hx) in
-        let down : row (drop (d - depthTo T n m) π) ≡ y / 2 ^ (d - depthTo T n m) = row-drop (d - depthTo T n m) π (path-quadrants d x y) ∙ rw (path-row d x y hy) in
-        let p : pathTo T n m ≡ drop (d - depthTo T n m) π = h .path ∙ ap (λ (l : ℕ). drop (l - depthTo T n m) π) s in
+        let w = held-inside n T acc d x y hx hy in
         record {
           node = h .below;
-          inside = record { large = omega (arith, h .shallow); across = rw p (sym across); down = rw p (sym down) };
+          inside = record { large = omega (arith, h .shallow, size); across = sym (w .0); down = sym (w .1) };
         }
 
     -- a node that contains the block stands on its path

@@ -2,7 +2,7 @@
 use mathlib.Core.Bool.{Bool, true, false, cond, _&&_}
 use mathlib.Core.List.{List}
 use mathlib.Core.Logic.{⊎-elim}
-use mathlib.Core.Path.{_≡_, ap, sym, _∙_}
+use mathlib.Core.Path.{_≡_, sym, _∙_}
 use Prim.Native.Nat.{ℕ, suc, _+_, _-_, _*_, _/_, _%_, _^_, _<_}
 use native.Mathlib.Nat.{suc-mul, mul-le-mul-right, mul-add-div-right, div-eq-of-lt, div-lt-iff-lt-mul, mod-lt}
 use native.Mathlib.Omega.{arith}
@@ -16,13 +16,12 @@ use Rattle.base.proofs.PowLaws.{pow-product, four-pow}
 use Rattle.base.proofs.RasterSums.{block-sum}
 use Rattle.base.proofs.SumLaws.{sum-same}
 use Rattle.quad.specs.Block.{pathOf, column, row}
-use Rattle.quad.proofs.PathLaws.{path-length, path-quadrants, path-column, path-row}
-use Rattle.quad.proofs.UpperLaws.{column-drop, row-drop}
+use Rattle.quad.proofs.PathLaws.{path-length, path-quadrants}
 use Rattle.table.specs.Table.{nodes, isFork}
 use Rattle.table.specs.Rules.{depthTo, Accepted}
 use Rattle.table.specs.Nodes.{pathTo, holder, levelOf, sideOf, leftOf, topOf}
 use Rattle.table.proofs.AcceptedLaws.{depth-le, fork-deep}
-use Rattle.table.proofs.HolderLaws.{held, within-leaf}
+use Rattle.table.proofs.HolderLaws.{held, held-inside, within-leaf}
 use Rattle.table.proofs.BlockLaws.{column-below, row-below}
 use Rattle.register.specs.Entries.{leafAt}
 
@@ -37,17 +36,17 @@ module _ (n : ℕ) (T : List ℕ) (acc : Accepted n T) where
   -- the leaf that holds a pixel is such a one
   leaf-of : (x y : ℕ) → x < 2 ^ n → y < 2 ^ n → LeafOf x y (holder T (pathOf n x y))
   leaf-of x y lx ly =
-      let π = pathOf n x y in
-      let h = held n T acc π (path-quadrants n x y) in
-      let size = path-length n x y in
+      let p : ℕ = holder T (pathOf n x y) in
+      let h = held n T acc (pathOf n x y) (path-quadrants n x y) in
+      let w = held-inside n T acc n x y lx ly in
       record {
         below = h .below;
         leaf = ⊎-elim
-            (λ (f : isFork T (holder T π) ≡ true). absurd (omega (arith, h .full f, fork-deep n T acc (holder T π) (h .below) f)))
+            (λ (f : isFork T p ≡ true). absurd (omega (arith, h .full f, path-length n x y, fork-deep n T acc p (h .below) f)))
             (λ f. f)
-            (by-bool (isFork T (holder T π)));
-        across = ap column (rw size at (h .path)) ∙ (column-drop (levelOf n T (holder T π)) π ∙ rw (path-column n x y lx));
-        down = ap row (rw size at (h .path)) ∙ (row-drop (levelOf n T (holder T π)) π (path-quadrants n x y) ∙ rw (path-row n x y ly));
+            (by-bool (isFork T p));
+        across = w .0;
+        down = w .1;
       }
 
   -- and the only one

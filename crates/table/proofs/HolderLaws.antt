@@ -9,8 +9,8 @@ use native.Mathlib.Omega.{arith}
 use lib.ListN.{length, drop}
 use Rattle.base.proofs.BoolLaws.{by-bool}
 use Rattle.quad.specs.Block.{Quadrants, pathOf, column, row}
-use Rattle.quad.proofs.PathLaws.{path-back}
-use Rattle.quad.proofs.UpperLaws.{path-drop}
+use Rattle.quad.proofs.PathLaws.{path-length, path-quadrants, path-column, path-row, path-back}
+use Rattle.quad.proofs.UpperLaws.{column-drop, row-drop, path-drop}
 use Rattle.table.specs.Table.{nodes, father, son, isFork}
 use Rattle.table.specs.Rules.{depthTo, Accepted}
 use Rattle.table.specs.Nodes.{sonType, pathTo, holder, Real}
@@ -92,6 +92,17 @@ module _ (n : ℕ) (T : List ℕ) (acc : Accepted n T) where
   held (q ∷ qs) h =
       let ih = held qs (h .1) in
       ⊎-elim (under-fork q qs (h .0) ih) (under-leaf q qs ih) (by-bool (isFork T (holder T qs)))
+
+  -- the block (x, y) of depth d lies in the block of the node that holds it, by column and row
+  pub held-inside : (d x y : ℕ) → x < 2 ^ d → y < 2 ^ d
+      → (column (pathTo T n (holder T (pathOf d x y))) ≡ x / 2 ^ (d - depthTo T n (holder T (pathOf d x y))))
+      × (row (pathTo T n (holder T (pathOf d x y))) ≡ y / 2 ^ (d - depthTo T n (holder T (pathOf d x y))))
+  held-inside d x y hx hy =
+      let π = pathOf d x y in
+      let z = path-quadrants d x y in
+      let k : ℕ = d - depthTo T n (holder T π) in
+      let e : pathTo T n (holder T π) ≡ drop k π = held π z .path ∙ ap (λ (l : ℕ). drop (l - depthTo T n (holder T π)) π) (path-length d x y) in
+      (ap column e ∙ (column-drop k π ∙ rw (path-column d x y hx)), ap row e ∙ (row-drop k π z ∙ rw (path-row d x y hy)))
 
   -- the node at the end of its own path
   pub own-path : (p : ℕ) → p < nodes T → holder T (pathTo T n p) ≡ p
