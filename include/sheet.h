@@ -680,17 +680,21 @@ uint64_t sheet_write(uint32_t n, const uint32_t *table, size_t table_len, uint8_
 /*
  * Where the centre of a node, fork or leaf, lies on the ground.
  *
- * The ground place of the sheet is three numbers: east and north of the outer
- * corner of the top left pixel, and step, the side of a pixel. East and north
- * lie from -16777216 to 16777216, step from 1/1024 to 16384; the limits
- * themselves are good, a NaN is not. For a node of side w whose top left pixel
- * is in column x and row y, with h = 2x + w and k = 2y + w, the centre is at
+ * The ground place of the sheet is three numbers: east and north of the centre
+ * of the top left pixel, as a world file has them, and step, the side of a
+ * pixel. East and north lie from -16777216 to 16777216, step from 1/1024 to
+ * 16384; the limits themselves are good, a NaN is not. For a node of side w
+ * whose top left pixel is in column x and row y, with h = 2x + w and
+ * k = 2y + w, the centre is at
  *
- *   place[0] = east + (h / 2) * step
- *   place[1] = north - (k / 2) * step
+ *   place[0] = east + ((h - 1) / 2) * step
+ *   place[1] = north - ((k - 1) / 2) * step
  *
- * each operation rounded once, to the nearest (h / 2 and k / 2 are exact); no
- * two operations are fused into one.
+ * each operation rounded once, to the nearest ((h - 1) / 2 and (k - 1) / 2 are
+ * exact, and may end in a half); no two operations are fused into one. So the
+ * centre of the pixel in column x and row y is at east + x * step and
+ * north - y * step, and that of the top left pixel at east and north; zeros
+ * have the signs of IEEE 754.
  *
  * The tests, in this order; the first that fails decides:
  *
@@ -723,7 +727,7 @@ uint64_t sheet_write(uint32_t n, const uint32_t *table, size_t table_len, uint8_
  *
  *     sheet_code(answer)  is SHEET_OK
  *     sheet_value(answer) is 0
- *     place               is 1010.0, 1990.0
+ *     place               is 1005.0, 1995.0
  */
 uint64_t sheet_centre(uint32_t n, const uint32_t *table, size_t table_len, uint32_t node, double east, double north,
                       double step, double *place, size_t place_len);

@@ -76,20 +76,22 @@ struct vector {
 };
 
 static const struct vector vectors[] = {
-    {"node 1 of sheet A", 1, {1000, 2000, 10}, 0, 0, {1010, 1990}},
-    {"the root of sheet A", 0, {1000, 2000, 10}, 0, 0, {1020, 1980}},
-    {"node 2, a fork", 2, {1000, 2000, 10}, 0, 0, {1030, 1990}},
-    {"node 6, a pixel", 6, {1000, 2000, 10}, 0, 0, {1035, 1985}},
-    {"node 7, to the south", 7, {1000, 2000, 10}, 0, 0, {1010, 1970}},
-    {"a sum of nothing is +0", 1, {-10, 10, 10}, 0, 0, {0.0, 0.0}},
-    {"minus zero is in range", 1, {-0.0, -0.0, 10}, 0, 0, {10, -10}},
-    {"the smallest numbers are in range", 1, {TINY, -TINY, 10}, 0, 0, {10, -10}},
-    {"the upper limits are in range", 1, {EAST_LIMIT, EAST_LIMIT, STEP_MOST}, 0, 0, {16793600, 16760832}},
+    {"node 1 of sheet A", 1, {1000, 2000, 10}, 0, 0, {1005, 1995}},
+    {"the root of sheet A", 0, {1000, 2000, 10}, 0, 0, {1015, 1985}},
+    {"node 2, a fork", 2, {1000, 2000, 10}, 0, 0, {1025, 1995}},
+    {"node 6, a pixel", 6, {1000, 2000, 10}, 0, 0, {1030, 1990}},
+    {"node 7, to the south", 7, {1000, 2000, 10}, 0, 0, {1005, 1975}},
+    {"node 4, a pixel of the top row", 4, {1000, -0.0, 10}, 0, 0, {1030, -0.0}},
+    {"a sum of nothing is +0", 1, {-10, 10, 20}, 0, 0, {0.0, 0.0}},
+    {"minus zero is in range", 1, {-0.0, -0.0, 10}, 0, 0, {5, -5}},
+    {"the smallest numbers are in range", 1, {TINY, -TINY, 10}, 0, 0, {5, -5}},
+    {"the upper limits are in range", 1, {EAST_LIMIT, EAST_LIMIT, STEP_MOST}, 0, 0, {16785408, 16769024}},
     {"the lower limits are in range", 1, {-EAST_LIMIT, -EAST_LIMIT, STEP_LEAST}, 0, 0,
-     {-16777216 + STEP_LEAST, -16777216 - STEP_LEAST}},
+     {-16777216 + STEP_LEAST / 2, -16777216 - STEP_LEAST / 2}},
     /* 2.5 * step lies between 2.5 + 2^-51 and its next, nearer to the first;
      * 1.5 * step lies half way and goes to the even 1.5 + 2^-51. */
-    {"the product is rounded before the sum", 5, {-2.5, 1.5, 1 + 0x1p-52}, 0, 0, {0x1p-51, -0x1p-51}},
+    {"the product is rounded before the sum", 8, {-2.5, 2.5, 1 + 0x1p-52}, 0, 0, {0x1p-51, -0x1p-51}},
+    {"half way it goes to the even number", 0, {-1.5, 1.5, 1 + 0x1p-52}, 0, 0, {0x1p-51, -0x1p-51}},
     {"east just above its limit", 1, {EAST_LIMIT + 0x1p-28, 0, 1}, 11, 0, {0, 0}},
     {"north just below its limit", 1, {0, -EAST_LIMIT - 0x1p-28, 1}, 11, 1, {0, 0}},
     {"step just above its limit", 1, {0, 0, STEP_MOST + 0x1p-38}, 11, 2, {0, 0}},
@@ -108,6 +110,29 @@ static void run_vectors(void)
         if (v->code == SHEET_OK)
             memcpy(after, v->place, sizeof v->place);
         report_check(v->name, gives(2, sheet_a, 54, v->node, v->ground, before, 3, packed(v->code, v->value), after));
+    }
+}
+
+/* A sheet of one pixel: its centre is the place itself, but that -0 + 0 is +0. */
+static void run_origins(void)
+{
+    static const uint32_t pixel[] = {LEAF(NO, B)};
+    static const struct {
+        const char *name;
+        struct ground ground;
+        double place[2];
+    } origins[] = {
+        {"the top left pixel lies at east and north", {1000, 2000, 10}, {1000, 2000}},
+        {"whatever the step", {1000, 2000, STEP_MOST}, {1000, 2000}},
+        {"at the upper limits", {EAST_LIMIT, EAST_LIMIT, STEP_MOST}, {EAST_LIMIT, EAST_LIMIT}},
+        {"at the lower limits", {-EAST_LIMIT, -EAST_LIMIT, STEP_LEAST}, {-EAST_LIMIT, -EAST_LIMIT}},
+        {"at the smallest numbers", {TINY, -TINY, 10}, {TINY, -TINY}},
+        {"at zero", {0.0, 0.0, 10}, {0.0, 0.0}},
+        {"at minus zero: east is +0, north -0", {-0.0, -0.0, 10}, {0.0, -0.0}},
+    };
+    for (size_t i = 0; i < sizeof origins / sizeof *origins; i++) {
+        double before[] = {-1, -2, -3}, after[] = {origins[i].place[0], origins[i].place[1], -3};
+        report_check(origins[i].name, gives(0, pixel, 6, 0, origins[i].ground, before, 3, packed(0, 0), after));
     }
 }
 
@@ -208,18 +233,18 @@ static double draw_step(struct dice *d)
     }
 }
 
-/* How far the node's centre lies from the sheet's corner, with one rounding. */
+/* How far so many half pixels reach, with one rounding. */
 static double way(uint32_t half_pixels, double step)
 {
     volatile double result = half_pixels / 2.0 * step;
     return result;
 }
 
-/* Is the product of an odd number of half pixels and a step not exact? */
+/* Is the product of a number of half pixels and a step not exact? */
 static int is_rounded(uint32_t half_pixels, double step)
 {
     uint64_t product = half_pixels * ((bits_of(step) & UINT64_C(0xfffffffffffff)) | UINT64_C(1) << 52);
-    while (product % 2 == 0)
+    while (product != 0 && product % 2 == 0)
         product /= 2;
     return product >> 53 != 0;
 }
@@ -231,10 +256,11 @@ static struct ground draw_cancelling(uint32_t node, struct dice *d)
     struct second_block b = second_block(table.level, table.words, node);
     struct ground g = {0, 0, draw_number(-10, 24, d)};
     g.step = g.step < 0 ? -g.step : g.step;
-    g.east = -way(2 * b.left + b.side, g.step);
-    g.north = way(2 * b.top + b.side, g.step);
-    met_not_fused[0] += is_rounded(2 * b.left + b.side, g.step);
-    met_not_fused[1] += is_rounded(2 * b.top + b.side, g.step);
+    uint32_t across = 2 * b.left + b.side - 1, down = 2 * b.top + b.side - 1;
+    g.east = -way(across, g.step);
+    g.north = way(down, g.step);
+    met_not_fused[0] += is_rounded(across, g.step);
+    met_not_fused[1] += is_rounded(down, g.step);
     return g;
 }
 
@@ -318,6 +344,7 @@ int main(void)
     table_lender = lender_open(sizeof table.words);
     place_lender = lender_open(MOST_PLACE * sizeof(double));
     run_vectors();
+    run_origins();
     run_short_places();
     met_group("numbers of every kind", compare_numbers);
     met_group("every node of a sheet", compare_nodes);

@@ -45,8 +45,7 @@ uint64_t plain_centre(uint32_t n, const uint32_t *table, size_t table_len, uint3
         return 9 + 256 * 2;
     struct climb c = climb_from(table, node);
     uint32_t side = UINT32_C(1) << (n - c.depth);
-    double across = (double)((2 * c.left + 1) * side) / 2 * step, down = (double)((2 * c.top + 1) * side) / 2 * step;
-    place[0] = east + across;
-    place[1] = north - down;
+    place[0] = east + (double)((2 * c.left + 1) * side - 1) / 2 * step;
+    place[1] = north - (double)((2 * c.top + 1) * side - 1) / 2 * step;
     return 0;
 }

@@ -1,6 +1,7 @@
 /*
- * A node's centre on the ground, as document 01 has it. Each operation's result
- * is stored before it is used again, so that none is fused with another.
+ * A node's centre on the ground, as document 01 has it and document 02's No. 2
+ * moves it. Each operation's result is stored before it is used again, so that
+ * none is fused with another.
  */
 #include "second/second.h"
 
@@ -51,7 +52,7 @@ uint64_t second_centre(uint32_t n, const uint32_t *table, size_t table_len, uint
         return 9 + 256 * 2;
     struct second_block b = second_block(n, table, node);
     double h = 2 * b.left + b.side, k = 2 * b.top + b.side;
-    place[0] = sum(east, product(h / 2, step));
-    place[1] = difference(north, product(k / 2, step));
+    place[0] = sum(east, product((h - 1) / 2, step));
+    place[1] = difference(north, product((k - 1) / 2, step));
     return 0;
 }

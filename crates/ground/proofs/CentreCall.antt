@@ -13,7 +13,7 @@ use Rattle.table.specs.Rules.{depthTo, allOf, typeOk, fatherOk, onceOk, sonOk, 
 use Rattle.table.specs.Nodes.{firstQuadrant, sonType, pathTo}
 use Rattle.table.specs.SheetA.{tableA}
 use Rattle.ground.specs.declared.Ground.{Ground}
-use Rattle.ground.specs.Ground.{whole, within, far, finest, coarsest, two, rangeOf, reachOf, eastOf, northOf, centreOf, centreAfter}
+use Rattle.ground.specs.Ground.{whole, within, far, finest, coarsest, one, two, rangeOf, offset, reachOf, eastOf, northOf, centreOf, centreAfter}
 
 -- east 1000, north 2000, step 10
 abbrev pub place : Ground
@@ -23,25 +23,25 @@ place = record { east = whole 1000; north = whole 2000; step = whole 10 }
 abbrev pub lent : List Float
 lent = whole 0 ∷ whole 0 ∷ whole 7 ∷ []
 
--- nodes 1 and 2 of sheet A: answered, at (1010, 1990) and (1030, 1990), and the rest of the slice stays
+-- nodes 1 and 2 of sheet A: answered, at (1005, 1995) and (1025, 1995), and the rest of the slice stays
 pub record OnA : Type 0 where
   pub answered : centreOf 2 tableA 1 place 3 ≡ Answered 0
   pub answered-2 : centreOf 2 tableA 2 place 3 ≡ Answered 0
-  pub node-1 : centreAfter 2 tableA 1 place lent ≡ whole 1010 ∷ whole 1990 ∷ whole 7 ∷ []
-  pub node-2 : centreAfter 2 tableA 2 place lent ≡ whole 1030 ∷ whole 1990 ∷ whole 7 ∷ []
+  pub node-1 : centreAfter 2 tableA 1 place lent ≡ whole 1005 ∷ whole 1995 ∷ whole 7 ∷ []
+  pub node-2 : centreAfter 2 tableA 2 place lent ≡ whole 1025 ∷ whole 1995 ∷ whole 7 ∷ []
 
 pub on-A : OnA
-unfolding centreAfter centreOf checkOf sizesOf lengthOk faultsOf faultFrom faultAt typeOk fatherOk onceOk sonsOk sonOk wordOk depthOk depthTo allOf sonAlike mixedOk askedOf firstQuadrant sonType pathTo column row rangeOf within far finest coarsest two reachOf eastOf northOf ofInt units round odd size climb span neg sum add sub mul div lt eq le
+unfolding centreAfter centreOf checkOf sizesOf lengthOk faultsOf faultFrom faultAt typeOk fatherOk onceOk sonsOk sonOk wordOk depthOk depthTo allOf sonAlike mixedOk askedOf firstQuadrant sonType pathTo column row rangeOf within far finest coarsest one two offset reachOf eastOf northOf ofInt units round odd size climb span neg sum add sub mul div lt eq le
 on-A = record { answered = refl; answered-2 = refl; node-1 = refl; node-2 = refl }
 
 -- node 1's place is not what the slice held, and not node 2's
-pub moved : (more less : List Float) → whole 1010 ∷ more ≡ whole 0 ∷ less → ⊥
+pub moved : (more less : List Float) → whole 1005 ∷ more ≡ whole 0 ∷ less → ⊥
 unfolding ofInt units round odd size climb span
 moved more less e = let z : _≡_ {A = ℕ} 0 1 = cc in omega arith
 
-pub apart : (more less : List Float) → whole 1010 ∷ more ≡ whole 1030 ∷ less → ⊥
+pub apart : (more less : List Float) → whole 1005 ∷ more ≡ whole 1025 ∷ less → ⊥
 unfolding ofInt units round odd size climb span
-apart more less e = let z : _≡_ {A = ℕ} 505 515 = cc in omega arith
+apart more less e = let z : _≡_ {A = ℕ} 1005 1025 = cc in omega arith
 
 -- the ends of the ranges and what lies beyond them; a place is given by its three numbers
 abbrev pub at : Float → Float → Float → Ground
@@ -78,12 +78,9 @@ pub record Edges : Type 0 where
   pub far-south : rangeOf (at (whole 0) (Ieee.neg tooFar) (whole 1)) ≡ OutOfRange 1
   pub fine-step : rangeOf (at (whole 0) (whole 0) tooFine) ≡ OutOfRange 2
   pub zero-step : rangeOf (at (whole 0) (whole 0) (whole 0)) ≡ OutOfRange 2
-  -- a sum or a difference that is exactly zero is +0
-  pub plus-zero : eastOf (at (Ieee.neg (whole 10)) (whole 0) (whole 10)) 2 ≡ whole 0
-  pub minus-zero : northOf (at (whole 0) (whole 10) (whole 10)) 2 ≡ whole 0
 
 pub edges : Edges
-unfolding rangeOf within far finest coarsest two reachOf eastOf northOf ofInt units round odd size climb span neg sum add sub mul div lt eq le fits
+unfolding rangeOf within far finest coarsest ofInt units round odd size climb span neg div lt eq le fits
 edges = record {
   least-is = refl;
   tooFar-is = refl;
@@ -105,6 +102,29 @@ edges = record {
   far-south = refl;
   fine-step = refl;
   zero-step = refl;
+}
+
+-- zeros and halves, computed
+pub record Small : Type 0 where
+  -- a sum or a difference that is exactly zero is +0
+  pub plus-zero : eastOf (at (Ieee.neg (whole 10)) (whole 0) (whole 10)) 3 ≡ whole 0
+  pub minus-zero : northOf (at (whole 0) (whole 10) (whole 10)) 3 ≡ whole 0
+  -- at the origin itself 0 is added and taken away: -0 + 0 is +0, and -0 - 0 is -0
+  pub origin-east : eastOf (at (Ieee.neg (whole 0)) (whole 0) (whole 10)) 1 ≡ whole 0
+  pub origin-north : northOf (at (whole 0) (Ieee.neg (whole 0)) (whole 10)) 1 ≡ Ieee.neg (whole 0)
+  pub origin-zero : northOf (at (whole 0) (whole 0) (whole 10)) 1 ≡ whole 0
+  -- the middle of a block of four pixels lies half a pixel from the origin
+  pub half-east : eastOf (at (whole 1) (whole 0) (whole 1)) 2 ≡ fin false 3 (negsuc 0)
+  pub half-north : northOf (at (whole 0) (whole 1) (whole 1)) 2 ≡ fin false 1 (negsuc 0)
+
+pub small : Small
+unfolding one two offset reachOf eastOf northOf ofInt units round odd size climb span neg sum add sub mul div
+small = record {
   plus-zero = refl;
   minus-zero = refl;
+  origin-east = refl;
+  origin-north = refl;
+  origin-zero = refl;
+  half-east = refl;
+  half-north = refl;
 }

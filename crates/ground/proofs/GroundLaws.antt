@@ -12,9 +12,9 @@ use Rattle.base.proofs.BoolLaws.{on, off}
 use Rattle.answer.specs.declared.Outcome.the-variants.{Answered, OutOfRange}
 use Rattle.quad.specs.Numbers.{topLevel}
 use Rattle.ground.specs.declared.Ground.{Ground}
-use Rattle.ground.specs.Ground.{within, rangeOf, reachOf}
+use Rattle.ground.specs.Ground.{within, rangeOf, offset, reachOf}
 use Rattle.ground.specs.HalfPixels.{halfPixels}
-use Rattle.ground.proofs.Literals.{two-bits, far-bits, finest-bits, coarsest-bits}
+use Rattle.ground.proofs.Literals.{one-bits, two-bits, far-bits, finest-bits, coarsest-bits}
 
 module _ (low high x : Float) where
   pub within-low : Ieee.le low x ≡ true → Ieee.le x high ≡ within low high x
@@ -46,9 +46,10 @@ module _ (g : Ground) (u : Bool) (eu : u ≡ within (Ieee.neg (Ieee.ofBits binar
       range-all h = rw (rangeOf, on u _ (rw far-bits at eu) hu, on v _ (rw far-bits at ev) hv, on w _ (rw (finest-bits, coarsest-bits) at ew) h)
 
 pub reach-is : (g : Ground) (h : ℕ)
-    → Ieee.mul binary64 (Ieee.div binary64 (Ieee.ofInt binary64 (pos h)) (Ieee.ofBits binary64 4611686018427387904)) (g .step) ≡ reachOf g h
-unfolding reachOf
-reach-is g h = rw (reachOf, two-bits)
+    → Ieee.mul binary64 (Ieee.div binary64 (Ieee.sub binary64 (Ieee.ofInt binary64 (pos h)) (Ieee.ofBits binary64 4607182418800017408)) (Ieee.ofBits binary64 4611686018427387904)) (g .step)
+    ≡ reachOf g h
+unfolding offset reachOf
+reach-is g h = rw (offset, reachOf, one-bits, two-bits)
 
 -- a shift is exact where the index is one of a sheet's
 pub half-pixels-is : (i l : ℕ) → l ≤ topLevel → i < 2 ^ topLevel → (2 * i + 1) * 2 ^ l % 2 ^ 32 ≡ halfPixels i l

@@ -3,3 +3,4 @@ pub mod GroundLaws
 pub mod CentreLaws
 pub mod CentreCall
 pub mod NumberLaws
+pub mod OriginLaws

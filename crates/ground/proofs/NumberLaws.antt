@@ -18,19 +18,19 @@ use Rattle.answer.specs.declared.Outcome.{Outcome}
 use Rattle.answer.specs.declared.Outcome.the-variants.{Answered, OutOfRange}
 use Rattle.answer.specs.Numbers.{andThen, unless}
 use Rattle.ground.specs.declared.Ground.{Ground}
-use Rattle.ground.specs.Ground.{whole, within, far, finest, coarsest, two, rangeOf, reachOf, eastOf, northOf}
+use Rattle.ground.specs.Ground.{whole, within, far, finest, coarsest, one, two, rangeOf, offset, reachOf, eastOf, northOf}
 
 -- x is no NaN
 abbrev pub Number : Float → Type 0
 Number x = x ≡ nan → ⊥
 
 -- x is finite; and not zero either
-abbrev Finite : Float → Type 0
+abbrev pub Finite : Float → Type 0
 Finite nan = ⊥
 Finite (inf s) = ⊥
 Finite (fin s m e) = Unit {0}
 
-abbrev Nonzero : Float → Type 0
+abbrev pub Nonzero : Float → Type 0
 Nonzero nan = ⊥
 Nonzero (inf s) = ⊥
 Nonzero (fin s m e) = m ≡ 0 → ⊥
@@ -71,6 +71,12 @@ add-number (fin s m e) nan h k = absurd (k refl)
 add-number (fin s m e) (inf t) h k = inf-number t
 add-number (fin s m e) (fin t n d) h k = sum-number binary64 s (m * up e * down d) t (n * up d * down e) (down e * down d)
 
+less-number : (x : Float) (t : Bool) (n : ℕ) (d : ℤ) → Number x → Number (sub binary64 x (fin t n d))
+unfolding add sub neg
+less-number nan t n d k = absurd (k refl)
+less-number (inf s) t n d k = inf-number s
+less-number (fin s m e) t n d k = add-number (fin s m e) (fin (not t) n d) tt (fin-number (not t) n d)
+
 neg-number : (y : Float) → Number y → Number (neg y)
 unfolding neg
 neg-number nan k = absurd (k refl)
@@ -93,7 +99,11 @@ div-number nan t n d k h = absurd (k refl)
 div-number (inf s) t n d k h = inf-number (unlike s t)
 div-number (fin s m e) t n d k h = rw (ne-eqb n 0 h) (round-number binary64 (unlike s t) (m * up e * down d) (n * up d * down e))
 
-two-is : two ≡ fin false 1 (pos 1)
+pub one-is : one ≡ fin false 1 (pos 0)
+unfolding one ofInt units round odd size climb span
+one-is = refl
+
+pub two-is : two ≡ fin false 1 (pos 1)
 unfolding two ofInt units round odd size climb span
 two-is = refl
 
@@ -140,7 +150,7 @@ step-nonzero (inf false) h = absurd (false≢true h)
 step-nonzero (fin s m e) h = step-fin s m e h
 
 -- all three numbers are in range
-record Good (g : Ground) : Type 0 where
+pub record Good (g : Ground) : Type 0 where
   pub east : Finite (g .east)
   pub north : Finite (g .north)
   pub step : Nonzero (g .step)
@@ -150,7 +160,7 @@ held : (w : Bool) (which : ℕ) (next : Outcome) → andThen (unless (not w) (Ou
 held true which next e = (refl, e)
 held false which next e = absurd (let z : _≡_ {A = ℕ} 0 1 = cc in omega arith)
 
-good : (g : Ground) → rangeOf g ≡ Answered 0 → Good g
+pub good : (g : Ground) → rangeOf g ≡ Answered 0 → Good g
 unfolding rangeOf
 good g e =
     let a = held (within (Ieee.neg far) far (g .east)) 0 _ e in
@@ -162,10 +172,15 @@ good g e =
     go true e = e
     go false e = e
 
+offset-number : (h : ℕ) → Number (offset h)
+unfolding offset
+offset-number h =
+    rw (one-is, two-is)
+    (div-number (sub binary64 (whole h) (fin false 1 (pos 0))) false 1 (pos 1) (less-number (whole h) false 1 (pos 0) (whole-number h)) (λ q. omega arith))
+
 reach-number : (g : Ground) (h : ℕ) → Nonzero (g .step) → Number (reachOf g h)
 unfolding reachOf
-reach-number g h z =
-    mul-number (div binary64 (whole h) two) (g .step) (rw two-is (div-number (whole h) false 1 (pos 1) (whole-number h) (λ q. omega arith))) z
+reach-number g h z = mul-number (offset h) (g .step) (offset-number h) z
 
 -- neither number of a centre is a NaN
 pub no-nan : (g : Ground) (h k : ℕ) → rangeOf g ≡ Answered 0 → Number (eastOf g h) × Number (northOf g k)

@@ -1,4 +1,4 @@
--- A block's centre on the ground (document 01, 'Ground'), as IEEE 754 operations, each rounded once.
+-- A block's centre on the ground (document 01, 'Ground'; its origin by document 02, No. 2), as IEEE 754 operations, each rounded once.
 use mathlib.Core.Bool.{Bool, not, cond, _&&_}
 use mathlib.Core.List.{List, [], _∷_}
 use Prim.Native.Nat.{ℕ}
@@ -32,6 +32,9 @@ finest = Ieee.div binary64 (whole 1) (whole 1024)
 unfoldable pub coarsest : Float
 coarsest = whole 16384
 
+unfoldable pub one : Float
+one = whole 1
+
 unfoldable pub two : Float
 two = whole 2
 
@@ -42,11 +45,15 @@ rangeOf g =
     (andThen (unless (not (within (Ieee.neg far) far (g .north))) (OutOfRange 1))
     (unless (not (within finest coarsest (g .step))) (OutOfRange 2)))
 
--- h half pixels in ground units: (h / 2) · step
-unfoldable pub reachOf : Ground → ℕ → Float
-reachOf g h = Ieee.mul binary64 (Ieee.div binary64 (whole h) two) (g .step)
+-- how many pixels h half pixels lie from the origin, which is the centre of the top left pixel and so lies at 1: (h - 1) / 2
+unfoldable pub offset : ℕ → Float
+offset h = Ieee.div binary64 (Ieee.sub binary64 (whole h) one) two
 
--- where the centre (h, k) lies: east + (h / 2) · step, north - (k / 2) · step
+-- the same in ground units: ((h - 1) / 2) · step
+unfoldable pub reachOf : Ground → ℕ → Float
+reachOf g h = Ieee.mul binary64 (offset h) (g .step)
+
+-- where the centre (h, k) lies: east + ((h - 1) / 2) · step, north - ((k - 1) / 2) · step
 unfoldable pub eastOf : Ground → ℕ → Float
 eastOf g h = Ieee.add binary64 (g .east) (reachOf g h)
 

@@ -8,7 +8,7 @@ ghost use Rattle.ground.specs.HalfPixels.{halfPixels, middleOf};
 ghost use Rattle.ground.specs.Ground.{within, rangeOf, reachOf, eastOf, northOf};
 ghost use Rattle.ground.specs.Call.{Centres};
 
-// A ground place: east and north of the outer corner of the top left pixel, and a pixel's side.
+// A ground place: east and north of the centre of the top left pixel, which is the origin, and a pixel's side.
 pub struct Ground {
     pub east: f64,
     pub north: f64,
@@ -63,11 +63,11 @@ fn range(g: Ground) -> Outcome
     Outcome::Answered { value: 0 }
 }
 
-// h half pixels in ground units.
+// How far from the origin, which lies at 1, h half pixels are, in ground units.
 fn reach(g: Ground, h: u32) -> f64
     ensures { λ r. ⌜ r ≡ reachOf g h ⌝ }
 {
-    (h as f64 / 2.0) * g.step
+    ((h as f64 - 1.0) / 2.0) * g.step
 }
 
 // How far east the centre h half pixels across lies.

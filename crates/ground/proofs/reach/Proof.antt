@@ -1,4 +1,4 @@
--- `ground::reach`: the literal 2.0 is the number 2. Assumes nothing.
+-- `ground::reach`: the literals 1.0 and 2.0 are the numbers 1 and 2. Assumes nothing.
 use Rattle.ground.proofs.GroundLaws.{reach-is}
 use borrow.Author.Needs.{needs}
 use Rattle.ground.proofs.reach.Statement.{statement}
