@@ -22,13 +22,31 @@ struct ground {
     double east, north, step;
 };
 
-/* Which of the three numbers the refusals with code 11 named, and sums that one
- * rounding instead of two would change, towards the east and towards the
- * north. */
-static uint32_t met_wrong_number[3], met_not_fused[2];
+/* Which of the three numbers the refusals with code 11 named; and, for each
+ * axis, sums that one rounding instead of two would change, and centres at an
+ * origin of -0. */
+static uint32_t met_wrong_number[3], met_not_fused[2], met_minus_zero[2];
 
 static struct lender table_lender, place_lender;
 static struct table table;
+
+/* ---- numbers as bits */
+
+static const uint64_t SIGN = UINT64_C(1) << 63, INFINITE = UINT64_C(0x7ff0000000000000);
+
+static double number_of(uint64_t bits)
+{
+    double number;
+    memcpy(&number, &bits, sizeof number);
+    return number;
+}
+
+static uint64_t bits_of(double number)
+{
+    uint64_t bits;
+    memcpy(&bits, &number, sizeof bits);
+    return bits;
+}
 
 /* ---- one call */
 
@@ -56,6 +74,10 @@ static void compare(uint32_t node, struct ground g, const double *place, size_t 
     gives(table.level, table.words, table.length, node, g, place, place_length, wanted, wanted_place);
     if (wanted % 256 == SHEET_BAD_GROUND)
         met_wrong_number[wanted / 256]++;
+    if (wanted % 256 == SHEET_OK) {
+        met_minus_zero[0] += bits_of(g.east) == SIGN && wanted_place[0] == 0;
+        met_minus_zero[1] += bits_of(g.north) == SIGN && wanted_place[1] == 0;
+    }
 }
 
 /* ---- answers worked out by hand */
@@ -153,27 +175,11 @@ static void run_short_places(void)
 
 /* ---- numbers drawn */
 
-static double number_of(uint64_t bits)
-{
-    double number;
-    memcpy(&number, &bits, sizeof number);
-    return number;
-}
-
-static uint64_t bits_of(double number)
-{
-    uint64_t bits;
-    memcpy(&bits, &number, sizeof bits);
-    return bits;
-}
-
 static uint64_t draw_bits(struct dice *d)
 {
     uint64_t high = dice_word(d);
     return high << 32 | dice_word(d);
 }
-
-static const uint64_t SIGN = UINT64_C(1) << 63, INFINITE = UINT64_C(0x7ff0000000000000);
 
 /* A NaN of either sign, quiet or not, with any payload. */
 static uint64_t draw_nan(struct dice *d)
@@ -337,6 +343,8 @@ static void run_coverage(void)
         met_often("code 11 for number", number, met_wrong_number[number]);
     for (uint32_t axis = 0; axis < 2; axis++)
         met_often("a sum that fusing would change, axis", axis, met_not_fused[axis]);
+    for (uint32_t axis = 0; axis < 2; axis++)
+        met_often("a centre at an origin of -0, axis", axis, met_minus_zero[axis]);
 }
 
 int main(void)

@@ -1,12 +1,15 @@
 -- The centre's call, computed: on sheet A, and at the ends of the ground's ranges.
 use mathlib.Core.Bool.{true, false}
 use mathlib.Core.List.{List, [], _∷_}
-use mathlib.Core.Path.{_≡_, refl}
-use Prim.Native.Nat.{ℕ}
+use mathlib.Core.Path.{_≡_, refl, sym, ap, _∙_}
+use Prim.Native.Nat.{ℕ, _^_, _<_}
 use native.Mathlib.Omega.{arith}
+use lib.Dec.{le→leb}
 use lib.IntN.{negsuc}
+use lib.ListN.{getD}
 use lib.Ieee as Ieee
-use lib.Ieee.{Float, nan, inf, fin, ofInt, units, round, odd, size, climb, span, neg, sum, add, sub, mul, div, lt, eq, le, fits}
+use lib.Ieee.{Float, binary64, inFloat, toUnsigned, nan, inf, fin, ofInt, units, round, odd, size, climb, span, neg, sum, add, sub, mul, div, lt, eq, le, fits}
+use lib.Ieee.Back.{unsigned-back}
 use Rattle.answer.specs.declared.Outcome.the-variants.{Answered, OutOfRange}
 use Rattle.quad.specs.Block.{column, row}
 use Rattle.table.specs.Rules.{depthTo, allOf, typeOk, fatherOk, onceOk, sonOk, wordOk, sonsOk, depthOk, sonAlike, mixedOk, faultAt, faultFrom, faultsOf, lengthOk, sizesOf, checkOf, askedOf}
@@ -34,14 +37,13 @@ pub on-A : OnA
 unfolding centreAfter centreOf checkOf sizesOf lengthOk faultsOf faultFrom faultAt typeOk fatherOk onceOk sonsOk sonOk wordOk depthOk depthTo allOf sonAlike mixedOk askedOf firstQuadrant sonType pathTo column row rangeOf within far finest coarsest one two offset reachOf eastOf northOf ofInt units round odd size climb span neg sum add sub mul div lt eq le
 on-A = record { answered = refl; answered-2 = refl; node-1 = refl; node-2 = refl }
 
--- node 1's place is not what the slice held, and not node 2's
-pub moved : (more less : List Float) → whole 1005 ∷ more ≡ whole 0 ∷ less → ⊥
-unfolding ofInt units round odd size climb span
-moved more less e = let z : _≡_ {A = ℕ} 0 1 = cc in omega arith
+back : (i : ℕ) → i < 2 ^ 32 → toUnsigned 32 (whole i) ≡ i
+unfolding inFloat
+back i h = unsigned-back binary64 32 i (le→leb i (2 ^ 53) (omega arith)) h .1
 
-pub apart : (more less : List Float) → whole 1005 ∷ more ≡ whole 1025 ∷ less → ⊥
-unfolding ofInt units round odd size climb span
-apart more less e = let z : _≡_ {A = ℕ} 1005 1025 = cc in omega arith
+-- whole numbers that begin two slices are told apart
+pub first-number : (i j : ℕ) (more less : List Float) → i < 2 ^ 32 → j < 2 ^ 32 → whole i ∷ more ≡ whole j ∷ less → i ≡ j
+first-number i j more less hi hj e = sym (back i hi) ∙ ap (λ (l : List Float). toUnsigned 32 (getD l 0 nan)) e ∙ back j hj
 
 -- the ends of the ranges and what lies beyond them; a place is given by its three numbers
 abbrev pub at : Float → Float → Float → Ground
@@ -58,9 +60,9 @@ abbrev pub tooFine : Float
 tooFine = fin false 9007199254740991 (negsuc 62)
 
 pub record Edges : Type 0 where
-  pub least-is : Ieee.fits Ieee.binary64 least ≡ true
-  pub tooFar-is : Ieee.fits Ieee.binary64 tooFar ≡ true
-  pub tooFine-is : Ieee.fits Ieee.binary64 tooFine ≡ true
+  pub least-is : Ieee.fits binary64 least ≡ true
+  pub tooFar-is : Ieee.fits binary64 tooFar ≡ true
+  pub tooFine-is : Ieee.fits binary64 tooFine ≡ true
   pub ends : rangeOf (at (Ieee.neg far) far finest) ≡ Answered 0
   pub others : rangeOf (at far (Ieee.neg far) coarsest) ≡ Answered 0
   pub zeros : rangeOf (at (whole 0) (Ieee.neg (whole 0)) (whole 1)) ≡ Answered 0

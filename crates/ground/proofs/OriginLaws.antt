@@ -79,8 +79,7 @@ parts m e t =
     let a : Bool = eqb (suc m % 2) 1 in
     let b : Bool = ltb (suc m) (2 ^ 53) in
     let c : Bool = leb (down e) (2 ^ 1074) in
-    let d : Bool = ltb (suc m * up e) (2 ^ 1024 * down e) in
-    (
+    let d : Bool = ltb (suc m * up e) (2 ^ 1024 * down e) in (
       ltb→lt (suc m) (2 ^ 53) (and-r a b (and-l (a && b) c (and-l (a && b && c) d t))),
       leb→le (down e) (2 ^ 1074) (and-r (a && b) c (and-l (a && b && c) d t)),
       ltb→lt (suc m * up e) (2 ^ 1024 * down e) (and-r (a && b && c) d t),
@@ -141,7 +140,7 @@ stays (fin s m e) t k f =
 -- the origin lies no step from itself
 zero-round : (s : Bool) (d : ℕ) → 0 < d → round binary64 s 0 d ≡ fin s 0 (pos 0)
 unfolding round units odd size climb span
-zero-round s d p = round-same binary64 s 0 d 0 1 p (lit< tt) (sym (zero-mul d)) ∙ refl
+zero-round s d p = round-same binary64 s 0 d 0 1 p (lit< tt) (sym (zero-mul d))
 
 whole-zero : whole 0 ≡ fin false 0 (pos 0)
 unfolding ofInt round units odd size climb span

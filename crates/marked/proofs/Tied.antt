@@ -1,8 +1,9 @@
--- The marked cases tied to the outside calls' own statements: every outcome that satisfies a call's statement on these sheets is document 01's number.
+-- The marked cases tied to the outside calls' own statements: every outcome that satisfies a call's statement on these sheets is document 01's number, or document 02's.
 use mathlib.Core.List.{List, [], _∷_}
 use mathlib.Core.Path.{_≡_, refl, ap, _∙_}
 use Prim.Native.Nat.{ℕ, _*_}
 use lib.ListN.{getD}
+use lib.Ieee.{Float}
 use Rattle.base.specs.Tab.{tab, tabFrom, least}
 use Rattle.answer.specs.declared.Outcome.{Outcome}
 use Rattle.answer.specs.Numbers.{numberOf}
@@ -18,7 +19,9 @@ use Rattle.raster.specs.Raster.{rasterTree, pixelsFrom, buildOf}
 use Rattle.neighbour.specs.Neighbour.{beside, neighbourOf, cornerLeafOf}
 use Rattle.file.specs.File.{openOf, readOf}
 use Rattle.distance.specs.Distance.{toOutside, nearest, distanceAt, distancesOf, distanceOf, distancesAfter}
-use Rattle.sheet.specs.Calls.{Gives, Checks, Builds, FindsNeighbour, FindsCornerLeaf, FindsDistances, ReadsFile}
+use Rattle.ground.specs.Ground.{whole}
+use Rattle.ground.proofs.CentreCall.{place, lent, on-A}
+use Rattle.sheet.specs.Calls.{Gives, Checks, Builds, FindsNeighbour, FindsCornerLeaf, FindsDistances, ReadsFile, FindsCentre}
 use Rattle.marked.specs.Cases.{tableJ}
 
 pub given : (o : Outcome) (r k : ℕ) → Gives o r → numberOf o ≡ k → r ≡ k
@@ -45,6 +48,8 @@ pub record Tied : Type 0 where
   pub k-check : (r : ℕ) → Checks 0 tableK r → r ≡ 256 * 1
   pub k-mark : (r : ℕ) (after : List ℕ) → FindsDistances 0 tableK (blank 1) r after → after ≡ none ∷ []
   pub l : (r : ℕ) (after : List ℕ) → ReadsFile [] [] r after → r ≡ 13
+  -- document 02, No. 2
+  pub origin : (r : ℕ) (after : List Float) → FindsCentre 2 tableA 1 place lent r after → after ≡ whole 1005 ∷ whole 1995 ∷ whole 7 ∷ []
 
 pub tied : Tied
 unfolding toOutside nearest distanceAt distancesOf distanceOf distancesAfter least tabFrom openOf readOf beside neighbourOf cornerLeafOf rasterTree pixelsFrom buildOf preorder firstQuadrant sonType pathTo holder pixel depthTo allOf typeOk fatherOk onceOk sonOk wordOk sonsOk depthOk sonAlike mixedOk faultAt faultFrom faultsOf lengthOk sizesOf eachNodeOf checkOf askedOf sameLeaf sizeOf join treeOf eastStep southStep pathOf column row
@@ -64,4 +69,5 @@ tied = record {
   k-check = λ r s. given _ r _ s refl;
   k-mark = λ r after s. s .buffer;
   l = λ r after s. s .number;
+  origin = λ r after s. s .buffer ∙ on-A .node-1;
 }

@@ -1,6 +1,6 @@
 -- Wrong libraries, as a C caller would meet them, and the statements of the calls that each breaks (demand 2): one that refuses everything, one that names
--- the same node, distance or place always, one that writes nothing. Sheet A is enough to tell.
-use mathlib.Core.List.{List, []}
+-- the same node, distance or place always, one that writes nothing, one that lies half a pixel off. Sheet A is enough to tell.
+use mathlib.Core.List.{List, [], _∷_}
 use mathlib.Core.Bool.{true}
 use mathlib.Core.Path.{_≡_, refl, ap, sym, _∙_}
 use Prim.Native.Nat.{ℕ, _*_, _/_, _%_, _<_}
@@ -16,7 +16,8 @@ use Rattle.table.specs.Table.{nodes, type}
 use Rattle.table.specs.SheetA.{rasterA, tableA, fileA}
 use Rattle.neighbour.proofs.OnSheetA.{on-sheet-a}
 use Rattle.ground.specs.declared.Ground.{Ground}
-use Rattle.ground.proofs.CentreCall.{place, lent, on-A, moved, apart}
+use Rattle.ground.specs.Ground.{whole}
+use Rattle.ground.proofs.CentreCall.{place, lent, on-A, first-number}
 use Rattle.register.specs.declared.Pond.{Pond}
 use Rattle.ponds.specs.Calls.{FindsInEntries}
 use Rattle.sheet.specs.Calls.{Builds, Decodes, FindsNeighbour, FindsCornerLeaf, FindsDiagonalLeaf, FindsDistances, FindsPonds, ReadsFile, WritesFile, FindsCentre}
@@ -196,6 +197,9 @@ module _ (number : ℕ → List ℕ → ℕ → Ground → List Float → ℕ) (
   second : number 2 tableA 2 place lent ≡ 0
   second = meets 2 tableA 2 place lent .number ∙ ap numberOf (on-A .answered-2)
 
+  node-1 : after 2 tableA 1 place lent ≡ whole 1005 ∷ whole 1995 ∷ whole 7 ∷ []
+  node-1 = tied .origin _ _ (meets 2 tableA 1 place lent)
+
   pub centre-answers : ((n : ℕ) (T : List ℕ) (p : ℕ) (g : Ground) (before : List Float) → number n T p g before % 256 ≡ 0 → ⊥) → ⊥
   centre-answers refuses = refuses 2 tableA 1 place lent (omega (arith, first))
 
@@ -204,7 +208,11 @@ module _ (number : ℕ → List ℕ → ℕ → Ground → List Float → ℕ) (
       → number n T p g before % 256 ≡ 0 → number n T q g before % 256 ≡ 0 → after n T p g before ≡ after n T q g before) → ⊥
   centre-not-one same =
       let e = same 2 tableA 1 2 place lent (omega (arith, first)) (omega (arith, second)) in
-      apart _ _ (sym (on-A .node-1) ∙ sym (meets 2 tableA 1 place lent .buffer) ∙ e ∙ meets 2 tableA 2 place lent .buffer ∙ on-A .node-2)
+      omega (arith, first-number 1005 1025 _ _ (omega arith) (omega arith) (sym node-1 ∙ e ∙ meets 2 tableA 2 place lent .buffer ∙ on-A .node-2))
 
   pub centre-writes : ((n : ℕ) (T : List ℕ) (p : ℕ) (g : Ground) (before : List Float) → after n T p g before ≡ before) → ⊥
-  centre-writes idle = moved _ _ (sym (on-A .node-1) ∙ sym (meets 2 tableA 1 place lent .buffer) ∙ idle 2 tableA 1 place lent)
+  centre-writes idle = omega (arith, first-number 1005 0 _ _ (omega arith) (omega arith) (sym node-1 ∙ idle 2 tableA 1 place lent))
+
+  -- it takes the place for the outer corner: half a pixel to the south-east
+  pub centre-not-corner : (more : List Float) → after 2 tableA 1 place lent ≡ whole 1010 ∷ more → ⊥
+  centre-not-corner more slip = omega (arith, first-number 1005 1010 _ _ (omega arith) (omega arith) (sym node-1 ∙ slip))
