@@ -7,9 +7,9 @@ use native.Mathlib.Nat.{zero-mul}
 use native.Mathlib.Omega.{arith}
 use lib.Dec.{T, ltb}
 use lib.IntN.{ℤ, pos, negsuc}
-use lib.Pow.{pow-pos}
 use lib.Ieee as Ieee
 use lib.Ieee.{Float, Format, binary64, nan, inf, fin, prec, emax, low, up, down, unlike, ofInt, units, round, odd, size, climb, span, neg, sum, add, sub, mul, div, lt, eq, le, ofBits, ofFields, toBits, isNan}
+use lib.Ieee.Fits.{down-pos}
 use lib.Ieee.Bits.{toBits-ofBits}
 use borrow.Author.Tests.{ne-eqb, le-ltb}
 use Rattle.base.proofs.BoolLaws.{and-left}
@@ -127,10 +127,6 @@ east-finite (fin s m e) h = tt
 none-below : (t : Bool) (a b : ℕ) → b ≡ 0 → (a ≡ 0 → ⊥) → Ieee.below false a t b || Ieee.level false a t b ≡ false
 none-below true a b z h = rw (z, ne-eqb a 0 h)
 none-below false a b z h = rw (z, le-ltb a 0 (omega arith), ne-eqb a 0 h)
-
-down-pos : (e : ℤ) → 0 < down e
-down-pos (pos k) = omega arith
-down-pos (negsuc k) = pow-pos (suc k)
 
 finest-above : (t : Bool) (e : ℤ) → Ieee.le finest (fin t 0 e) ≡ false
 unfolding le lt eq

@@ -17,7 +17,7 @@ use lib.Ieee.Fits.{down-pos, and-l, and-r}
 use borrow.Author.Tests.{lt-ltb, le-ltb, eq-eqb, eqb-true}
 use Rattle.answer.specs.declared.Outcome.the-variants.{Answered}
 use Rattle.ground.specs.declared.Ground.{Ground}
-use Rattle.ground.specs.Ground.{whole, one, two, rangeOf, offset, reachOf, eastOf, northOf}
+use Rattle.ground.specs.Ground.{whole, rangeOf, offset, reachOf, eastOf, northOf}
 use Rattle.ground.proofs.NumberLaws.{Finite, Nonzero, good, one-is, two-is}
 
 -- (i + 1) · d / d less 1 is i
