@@ -680,21 +680,25 @@ uint64_t sheet_write(uint32_t n, const uint32_t *table, size_t table_len, uint8_
 /*
  * Where the centre of a node, fork or leaf, lies on the ground.
  *
- * The ground place of the sheet is three numbers: east and north of the centre
- * of the top left pixel, as a world file has them, and step, the side of a
- * pixel. East and north lie from -16777216 to 16777216, step from 1/1024 to
- * 16384; the limits themselves are good, a NaN is not. For a node of side w
- * whose top left pixel is in column x and row y, with h = 2x + w and
- * k = 2y + w, the centre is at
+ * The ground place of the sheet is three numbers: the east and the north
+ * coordinate of the centre of the top left pixel, as a world file has them, and
+ * step, the side of a pixel. East and north lie from -16777216 to 16777216,
+ * step from 1/1024 to 16384; the limits themselves are good, a NaN is not. For
+ * a node of side w whose top left pixel is in column x and row y, with
+ * h = 2x + w and k = 2y + w, the centre is at
  *
  *   place[0] = east + ((h - 1) / 2) * step
  *   place[1] = north - ((k - 1) / 2) * step
  *
- * each operation rounded once, to the nearest ((h - 1) / 2 and (k - 1) / 2 are
- * exact, and may end in a half); no two operations are fused into one. So the
- * centre of the pixel in column x and row y is at east + x * step and
- * north - y * step, and that of the top left pixel at east and north; zeros
- * have the signs of IEEE 754.
+ * each operation rounded once, to the nearest and from half way to the even
+ * number ((h - 1) / 2 and (k - 1) / 2 are exact, and may end in a half); no two
+ * operations are fused into one. So the centre of the pixel in column x and row
+ * y is at east + x * step and north - y * step. That of the top left pixel is
+ * at east and north themselves, to the last bit, but that an east of -0 becomes
+ * +0; a north of -0 stays.
+ *
+ * The caller's floating-point environment is C's default: rounding to nearest,
+ * subnormal numbers kept.
  *
  * The tests, in this order; the first that fails decides:
  *

@@ -64,6 +64,30 @@ static int gives(uint32_t level, const uint32_t *words, size_t length, uint32_t 
                       length, node, g.east, g.north, g.step, place_length);
 }
 
+/* Is the product of a number of half pixels and a step not exact? */
+static int is_rounded(uint32_t half_pixels, double step)
+{
+    uint64_t product = half_pixels * ((bits_of(step) & UINT64_C(0xfffffffffffff)) | UINT64_C(1) << 52);
+    while (product != 0 && product % 2 == 0)
+        product /= 2;
+    return product >> 53 != 0;
+}
+
+/* A sum or a difference that came to nothing: with one rounding for the product
+ * and the sum, what the product's rounding lost would be left. */
+static void meet_zeros(uint32_t node, struct ground g, const double *place)
+{
+    struct second_block b = second_block(table.level, table.words, node);
+    if (place[0] == 0) {
+        met_not_fused[0] += is_rounded(2 * b.left + b.side - 1, g.step);
+        met_minus_zero[0] += bits_of(g.east) == SIGN;
+    }
+    if (place[1] == 0) {
+        met_not_fused[1] += is_rounded(2 * b.top + b.side - 1, g.step);
+        met_minus_zero[1] += bits_of(g.north) == SIGN;
+    }
+}
+
 /* Holds the library against the second implementation. */
 static void compare(uint32_t node, struct ground g, const double *place, size_t place_length)
 {
@@ -74,10 +98,8 @@ static void compare(uint32_t node, struct ground g, const double *place, size_t 
     gives(table.level, table.words, table.length, node, g, place, place_length, wanted, wanted_place);
     if (wanted % 256 == SHEET_BAD_GROUND)
         met_wrong_number[wanted / 256]++;
-    if (wanted % 256 == SHEET_OK) {
-        met_minus_zero[0] += bits_of(g.east) == SIGN && wanted_place[0] == 0;
-        met_minus_zero[1] += bits_of(g.north) == SIGN && wanted_place[1] == 0;
-    }
+    if (wanted % 256 == SHEET_OK)
+        meet_zeros(node, g, wanted_place);
 }
 
 /* ---- answers worked out by hand */
@@ -246,27 +268,14 @@ static double way(uint32_t half_pixels, double step)
     return result;
 }
 
-/* Is the product of a number of half pixels and a step not exact? */
-static int is_rounded(uint32_t half_pixels, double step)
-{
-    uint64_t product = half_pixels * ((bits_of(step) & UINT64_C(0xfffffffffffff)) | UINT64_C(1) << 52);
-    while (product != 0 && product % 2 == 0)
-        product /= 2;
-    return product >> 53 != 0;
-}
-
-/* A ground on which the node's centre is at 0, 0: what the product lost in its
- * rounding would show. */
+/* A ground on which the node's centre is at 0, 0. */
 static struct ground draw_cancelling(uint32_t node, struct dice *d)
 {
     struct second_block b = second_block(table.level, table.words, node);
     struct ground g = {0, 0, draw_number(-10, 24, d)};
     g.step = g.step < 0 ? -g.step : g.step;
-    uint32_t across = 2 * b.left + b.side - 1, down = 2 * b.top + b.side - 1;
-    g.east = -way(across, g.step);
-    g.north = way(down, g.step);
-    met_not_fused[0] += is_rounded(across, g.step);
-    met_not_fused[1] += is_rounded(down, g.step);
+    g.east = -way(2 * b.left + b.side - 1, g.step);
+    g.north = way(2 * b.top + b.side - 1, g.step);
     return g;
 }
 

@@ -1,7 +1,7 @@
 /*
  * A node's centre on the ground, as document 01 has it and document 02's No. 2
- * moves it. Each operation's result is stored before it is used again, so that
- * none is fused with another.
+ * moves it. A product is stored before it is used again, so that it is not
+ * fused with a sum or a difference; h - 1 and its half are exact.
  */
 #include "second/second.h"
 

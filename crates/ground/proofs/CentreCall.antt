@@ -1,4 +1,4 @@
--- The centre's call, computed: on sheet A, and at the ends of the ground's ranges.
+-- The centre's call, computed: on sheet A, at the ends of the ground's ranges, and where zeros, halves and roundings come in.
 use mathlib.Core.Bool.{true, false}
 use mathlib.Core.List.{List, [], _∷_}
 use mathlib.Core.Path.{_≡_, refl, sym, ap, _∙_}
@@ -6,7 +6,6 @@ use Prim.Native.Nat.{ℕ, _^_, _<_}
 use native.Mathlib.Omega.{arith}
 use lib.Dec.{le→leb}
 use lib.IntN.{negsuc}
-use lib.ListN.{getD}
 use lib.Ieee as Ieee
 use lib.Ieee.{Float, binary64, inFloat, toUnsigned, nan, inf, fin, ofInt, units, round, odd, size, climb, span, neg, sum, add, sub, mul, div, lt, eq, le, fits}
 use lib.Ieee.Back.{unsigned-back}
@@ -41,15 +40,15 @@ back : (i : ℕ) → i < 2 ^ 32 → toUnsigned 32 (whole i) ≡ i
 unfolding inFloat
 back i h = unsigned-back binary64 32 i (le→leb i (2 ^ 53) (omega arith)) h .1
 
--- whole numbers that begin two slices are told apart
-pub first-number : (i j : ℕ) (more less : List Float) → i < 2 ^ 32 → j < 2 ^ 32 → whole i ∷ more ≡ whole j ∷ less → i ≡ j
-first-number i j more less hi hj e = sym (back i hi) ∙ ap (λ (l : List Float). toUnsigned 32 (getD l 0 nan)) e ∙ back j hj
+-- different whole numbers are different floats
+pub whole-apart : (i j : ℕ) → i < 2 ^ 32 → j < 2 ^ 32 → whole i ≡ whole j → i ≡ j
+whole-apart i j hi hj e = sym (back i hi) ∙ ap (toUnsigned 32) e ∙ back j hj
 
 -- the ends of the ranges and what lies beyond them; a place is given by its three numbers
 abbrev pub at : Float → Float → Float → Ground
 at x y z = record { east = x; north = y; step = z }
 
--- the least positive number, and the numbers next above 16777216 and next below 1/1024
+-- the least positive number, and the numbers next above 16777216, next below 1/1024 and next above 16384
 abbrev pub least : Float
 least = fin false 1 (negsuc 1073)
 
@@ -59,10 +58,14 @@ tooFar = fin false 4503599627370497 (negsuc 27)
 abbrev pub tooFine : Float
 tooFine = fin false 9007199254740991 (negsuc 62)
 
+abbrev pub tooCoarse : Float
+tooCoarse = fin false 4503599627370497 (negsuc 37)
+
 pub record Edges : Type 0 where
   pub least-is : Ieee.fits binary64 least ≡ true
   pub tooFar-is : Ieee.fits binary64 tooFar ≡ true
   pub tooFine-is : Ieee.fits binary64 tooFine ≡ true
+  pub tooCoarse-is : Ieee.fits binary64 tooCoarse ≡ true
   pub ends : rangeOf (at (Ieee.neg far) far finest) ≡ Answered 0
   pub others : rangeOf (at far (Ieee.neg far) coarsest) ≡ Answered 0
   pub zeros : rangeOf (at (whole 0) (Ieee.neg (whole 0)) (whole 1)) ≡ Answered 0
@@ -77,8 +80,11 @@ pub record Edges : Type 0 where
   pub inf-step : rangeOf (at (whole 0) (whole 0) (inf false)) ≡ OutOfRange 2
   pub minus-inf-step : rangeOf (at (whole 0) (whole 0) (inf true)) ≡ OutOfRange 2
   pub far-east : rangeOf (at tooFar (whole 0) (whole 1)) ≡ OutOfRange 0
+  pub far-west : rangeOf (at (Ieee.neg tooFar) (whole 0) (whole 1)) ≡ OutOfRange 0
+  pub far-north : rangeOf (at (whole 0) tooFar (whole 1)) ≡ OutOfRange 1
   pub far-south : rangeOf (at (whole 0) (Ieee.neg tooFar) (whole 1)) ≡ OutOfRange 1
   pub fine-step : rangeOf (at (whole 0) (whole 0) tooFine) ≡ OutOfRange 2
+  pub coarse-step : rangeOf (at (whole 0) (whole 0) tooCoarse) ≡ OutOfRange 2
   pub zero-step : rangeOf (at (whole 0) (whole 0) (whole 0)) ≡ OutOfRange 2
 
 pub edges : Edges
@@ -87,6 +93,7 @@ edges = record {
   least-is = refl;
   tooFar-is = refl;
   tooFine-is = refl;
+  tooCoarse-is = refl;
   ends = refl;
   others = refl;
   zeros = refl;
@@ -101,32 +108,30 @@ edges = record {
   inf-step = refl;
   minus-inf-step = refl;
   far-east = refl;
+  far-west = refl;
+  far-north = refl;
   far-south = refl;
   fine-step = refl;
+  coarse-step = refl;
   zero-step = refl;
 }
 
--- zeros and halves, computed
+-- the number next above 1
+abbrev pub oddStep : Float
+oddStep = fin false 4503599627370497 (negsuc 51)
+
 pub record Small : Type 0 where
-  -- a sum or a difference that is exactly zero is +0
-  pub plus-zero : eastOf (at (Ieee.neg (whole 10)) (whole 0) (whole 10)) 3 ≡ whole 0
-  pub minus-zero : northOf (at (whole 0) (whole 10) (whole 10)) 3 ≡ whole 0
-  -- at the origin itself 0 is added and taken away: -0 + 0 is +0, and -0 - 0 is -0
-  pub origin-east : eastOf (at (Ieee.neg (whole 0)) (whole 0) (whole 10)) 1 ≡ whole 0
-  pub origin-north : northOf (at (whole 0) (Ieee.neg (whole 0)) (whole 10)) 1 ≡ Ieee.neg (whole 0)
-  pub origin-zero : northOf (at (whole 0) (whole 0) (whole 10)) 1 ≡ whole 0
-  -- the middle of a block of four pixels lies half a pixel from the origin
+  -- two numbers that are not zero and cancel give +0
+  pub east-cancels : eastOf (at (Ieee.neg (whole 10)) (whole 0) (whole 10)) 3 ≡ whole 0
+  pub north-cancels : northOf (at (whole 0) (whole 10) (whole 10)) 3 ≡ whole 0
+  -- along each axis the middle of the first block of four pixels lies half a pixel from the origin
   pub half-east : eastOf (at (whole 1) (whole 0) (whole 1)) 2 ≡ fin false 3 (negsuc 0)
   pub half-north : northOf (at (whole 0) (whole 1) (whole 1)) 2 ≡ fin false 1 (negsuc 0)
+  -- 2.5 · (1 + 2^-52) is rounded to 2.5 + 2^-51 before -2.5 is added; with one rounding it would leave 5 · 2^-53
+  pub not-fused : eastOf (at (Ieee.neg (fin false 5 (negsuc 0))) (whole 0) oddStep) 6 ≡ fin false 1 (negsuc 50)
+  -- 1.5 · (1 + 2^-52) lies half way and is rounded to the even 1.5 + 2^-51
+  pub to-even : northOf (at (whole 0) (fin false 3 (negsuc 0)) oddStep) 4 ≡ Ieee.neg (fin false 1 (negsuc 50))
 
 pub small : Small
 unfolding one two offset reachOf eastOf northOf ofInt units round odd size climb span neg sum add sub mul div
-small = record {
-  plus-zero = refl;
-  minus-zero = refl;
-  origin-east = refl;
-  origin-north = refl;
-  origin-zero = refl;
-  half-east = refl;
-  half-north = refl;
-}
+small = record { east-cancels = refl; north-cancels = refl; half-east = refl; half-north = refl; not-fused = refl; to-even = refl }

@@ -1,18 +1,19 @@
 -- No NaN is ever written: a place in range has finite numbers and a step that is not zero, so neither number of a centre is a NaN. A number that is no NaN
 -- has one pattern of bits, so the statement fixes the bits of both.
 use mathlib.Core.Bool.{Bool, true, false, not, cond, _&&_, _||_, false≢true, Bool·beq}
+use mathlib.Core.Logic.{_⊎_, inl, inr}
 use mathlib.Core.Path.{_≡_, refl, ap, sym, _∙_}
 use Prim.Native.Nat.{ℕ, zero, suc, _+_, _-_, _*_, _^_, _<_}
 use native.Mathlib.Nat.{zero-mul}
 use native.Mathlib.Omega.{arith}
-use lib.Dec.{T, ltb}
+use lib.Dec.{T, ltb, eqb}
 use lib.IntN.{ℤ, pos, negsuc}
 use lib.Ieee as Ieee
 use lib.Ieee.{Float, Format, binary64, nan, inf, fin, prec, emax, low, up, down, unlike, ofInt, units, round, odd, size, climb, span, neg, sum, add, sub, mul, div, lt, eq, le, ofBits, ofFields, toBits, isNan}
 use lib.Ieee.Fits.{down-pos}
 use lib.Ieee.Bits.{toBits-ofBits}
 use borrow.Author.Tests.{ne-eqb, le-ltb}
-use Rattle.base.proofs.BoolLaws.{and-left}
+use Rattle.base.proofs.BoolLaws.{and-left, and-false}
 use Rattle.base.proofs.CaseLaws.{cond-case}
 use Rattle.answer.specs.declared.Outcome.{Outcome}
 use Rattle.answer.specs.declared.Outcome.the-variants.{Answered, OutOfRange}
@@ -24,16 +25,16 @@ use Rattle.ground.specs.Ground.{whole, within, far, finest, coarsest, on
 abbrev pub Number : Float → Type 0
 Number x = x ≡ nan → ⊥
 
--- x is finite; and not zero either
+-- x is finite; and above zero too
 abbrev pub Finite : Float → Type 0
 Finite nan = ⊥
 Finite (inf s) = ⊥
 Finite (fin s m e) = Unit {0}
 
-abbrev pub Nonzero : Float → Type 0
-Nonzero nan = ⊥
-Nonzero (inf s) = ⊥
-Nonzero (fin s m e) = m ≡ 0 → ⊥
+abbrev pub Positive : Float → Type 0
+Positive nan = ⊥
+Positive (inf s) = ⊥
+Positive (fin s m e) = (s ≡ false) × (m ≡ 0 → ⊥)
 
 fin-number : (s : Bool) (m : ℕ) (e : ℤ) → Number (fin s m e)
 fin-number s m e q = let z : _≡_ {A = ℕ} 0 1 = cc in omega arith
@@ -83,12 +84,12 @@ neg-number nan k = absurd (k refl)
 neg-number (inf t) k = inf-number (not t)
 neg-number (fin t n d) k = fin-number (not t) n d
 
-mul-number : (x y : Float) → Number x → Nonzero y → Number (mul binary64 x y)
+mul-number : (x y : Float) → Number x → Positive y → Number (mul binary64 x y)
 unfolding mul
 mul-number nan y k h = absurd (k refl)
 mul-number (inf s) nan k h = absurd h
 mul-number (inf s) (inf t) k h = absurd h
-mul-number (inf s) (fin t n d) k h = rw (ne-eqb n 0 h) (inf-number (unlike s t))
+mul-number (inf s) (fin t n d) k h = rw (ne-eqb n 0 (h .1)) (inf-number (unlike s t))
 mul-number (fin s m e) nan k h = absurd h
 mul-number (fin s m e) (inf t) k h = absurd h
 mul-number (fin s m e) (fin t n d) k h = round-number binary64 (unlike s t) (m * up e * (n * up d)) (down e * down d)
@@ -123,33 +124,39 @@ east-finite (inf true) h = absurd (false≢true h)
 east-finite (inf false) h = absurd (false≢true h)
 east-finite (fin s m e) h = tt
 
--- nothing that is above zero lies below a zero
-none-below : (t : Bool) (a b : ℕ) → b ≡ 0 → (a ≡ 0 → ⊥) → Ieee.below false a t b || Ieee.level false a t b ≡ false
-none-below true a b z h = rw (z, ne-eqb a 0 h)
-none-below false a b z h = rw (z, le-ltb a 0 (omega arith), ne-eqb a 0 h)
+-- nothing that is above zero lies below a zero, or below a number with a minus
+none-below : (t : Bool) (a b : ℕ) → (t ≡ true) ⊎ (b ≡ 0) → (a ≡ 0 → ⊥) → Ieee.below false a t b || Ieee.level false a t b ≡ false
+none-below true a b z h = rw (ne-eqb a 0 h, and-false (eqb a b))
+none-below false a b (inl z) h = absurd (false≢true z)
+none-below false a b (inr z) h = rw (z, le-ltb a 0 (omega arith), ne-eqb a 0 h)
 
-finest-above : (t : Bool) (e : ℤ) → Ieee.le finest (fin t 0 e) ≡ false
+finest-above : (t : Bool) (m : ℕ) (e : ℤ) → (t ≡ true) ⊎ (m ≡ 0) → Ieee.le finest (fin t m e) ≡ false
 unfolding le lt eq
-finest-above t e =
-    rw finest-is
-    (none-below t (1 * up (negsuc 9) * down e) (0 * up e * down (negsuc 9)) (rw (zero-mul (up e))) (λ z. omega (arith, z, down-pos e)))
+finest-above t m e w =
+    rw finest-is (none-below t (1 * up (negsuc 9) * down e) (m * up e * down (negsuc 9)) (go w) (λ z. omega (arith, z, down-pos e)))
+  where
+    go : (t ≡ true) ⊎ (m ≡ 0) → (t ≡ true) ⊎ (m * up e * down (negsuc 9) ≡ 0)
+    go (inl z) = inl z
+    go (inr z) = inr (rw (z, zero-mul (up e)))
 
-step-fin : (s : Bool) (m : ℕ) (e : ℤ) → within finest coarsest (fin s m e) ≡ true → m ≡ 0 → ⊥
-unfolding within
-step-fin s m e h z = false≢true (sym (finest-above s e) ∙ rw z at (and-left (Ieee.le finest (fin s m e)) (Ieee.le (fin s m e) coarsest) h))
-
-step-nonzero : (x : Float) → within finest coarsest x ≡ true → Nonzero x
+step-positive : (x : Float) → within finest coarsest x ≡ true → Positive x
 unfolding within finest coarsest ofInt units round odd size climb span div le lt eq
-step-nonzero nan h = absurd (false≢true h)
-step-nonzero (inf true) h = absurd (false≢true h)
-step-nonzero (inf false) h = absurd (false≢true h)
-step-nonzero (fin s m e) h = step-fin s m e h
+step-positive nan h = absurd (false≢true h)
+step-positive (inf true) h = absurd (false≢true h)
+step-positive (inf false) h = absurd (false≢true h)
+step-positive (fin s m e) h =
+    let l = and-left (Ieee.le finest (fin s m e)) (Ieee.le (fin s m e) coarsest) h in
+    (not-minus s (λ z. false≢true (sym (finest-above s m e (inl z)) ∙ l)), λ z. false≢true (sym (finest-above s m e (inr z)) ∙ l))
+  where
+    not-minus : (s : Bool) → (s ≡ true → ⊥) → s ≡ false
+    not-minus true k = absurd (k refl)
+    not-minus false k = refl
 
 -- all three numbers are in range
 pub record Good (g : Ground) : Type 0 where
   pub east : Finite (g .east)
   pub north : Finite (g .north)
-  pub step : Nonzero (g .step)
+  pub step : Positive (g .step)
 
 -- a test of the range that let the call go on held
 held : (w : Bool) (which : ℕ) (next : Outcome) → andThen (unless (not w) (OutOfRange which)) next ≡ Answered 0 → (w ≡ true) × (next ≡ Answered 0)
@@ -162,7 +169,7 @@ good g e =
     let a = held (within (Ieee.neg far) far (g .east)) 0 _ e in
     let b = held (within (Ieee.neg far) far (g .north)) 1 _ (a .1) in
     let c = held (within finest coarsest (g .step)) 2 (Answered 0) (go (within finest coarsest (g .step)) (b .1)) in
-    record { east = east-finite (g .east) (a .0); north = east-finite (g .north) (b .0); step = step-nonzero (g .step) (c .0) }
+    record { east = east-finite (g .east) (a .0); north = east-finite (g .north) (b .0); step = step-positive (g .step) (c .0) }
   where
     go : (w : Bool) → unless (not w) (OutOfRange 2) ≡ Answered 0 → andThen (unless (not w) (OutOfRange 2)) (Answered 0) ≡ Answered 0
     go true e = e
@@ -174,7 +181,7 @@ offset-number h =
     rw (one-is, two-is)
     (div-number (sub binary64 (whole h) (fin false 1 (pos 0))) false 1 (pos 1) (less-number (whole h) false 1 (pos 0) (whole-number h)) (λ q. omega arith))
 
-reach-number : (g : Ground) (h : ℕ) → Nonzero (g .step) → Number (reachOf g h)
+reach-number : (g : Ground) (h : ℕ) → Positive (g .step) → Number (reachOf g h)
 unfolding reachOf
 reach-number g h z = mul-number (offset h) (g .step) (offset-number h) z
 

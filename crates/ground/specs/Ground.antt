@@ -45,7 +45,8 @@ rangeOf g =
     (andThen (unless (not (within (Ieee.neg far) far (g .north))) (OutOfRange 1))
     (unless (not (within finest coarsest (g .step))) (OutOfRange 2)))
 
--- how many pixels h half pixels lie from the origin, which is the centre of the top left pixel and so lies at 1: (h - 1) / 2
+-- how many pixels from the origin, along one axis, a place h half pixels from the sheet's edge lies: (h - 1) / 2, since the origin is the centre of the top
+-- left pixel, one half pixel from the edge
 unfoldable pub offset : ℕ → Float
 offset h = Ieee.div binary64 (Ieee.sub binary64 (whole h) one) two
 

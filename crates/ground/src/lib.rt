@@ -8,7 +8,7 @@ ghost use Rattle.ground.specs.HalfPixels.{halfPixels, middleOf};
 ghost use Rattle.ground.specs.Ground.{within, rangeOf, reachOf, eastOf, northOf};
 ghost use Rattle.ground.specs.Call.{Centres};
 
-// A ground place: east and north of the centre of the top left pixel, which is the origin, and a pixel's side.
+// A ground place: the east and north coordinates of the origin, which is the centre of the top left pixel, and a pixel's side.
 pub struct Ground {
     pub east: f64,
     pub north: f64,
@@ -63,7 +63,7 @@ fn range(g: Ground) -> Outcome
     Outcome::Answered { value: 0 }
 }
 
-// How far from the origin, which lies at 1, h half pixels are, in ground units.
+// How far from the origin, in ground units, a place h half pixels from the sheet's edge lies: the origin is one half pixel from it.
 fn reach(g: Ground, h: u32) -> f64
     ensures { λ r. ⌜ r ≡ reachOf g h ⌝ }
 {

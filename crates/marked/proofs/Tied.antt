@@ -49,7 +49,7 @@ pub record Tied : Type 0 where
   pub k-mark : (r : ℕ) (after : List ℕ) → FindsDistances 0 tableK (blank 1) r after → after ≡ none ∷ []
   pub l : (r : ℕ) (after : List ℕ) → ReadsFile [] [] r after → r ≡ 13
   -- document 02, No. 2
-  pub origin : (r : ℕ) (after : List Float) → FindsCentre 2 tableA 1 place lent r after → after ≡ whole 1005 ∷ whole 1995 ∷ whole 7 ∷ []
+  pub origin : (r : ℕ) (after : List Float) → FindsCentre 2 tableA 1 place lent r after → (r ≡ 0) × (after ≡ whole 1005 ∷ whole 1995 ∷ whole 7 ∷ [])
 
 pub tied : Tied
 unfolding toOutside nearest distanceAt distancesOf distanceOf distancesAfter least tabFrom openOf readOf beside neighbourOf cornerLeafOf rasterTree pixelsFrom buildOf preorder firstQuadrant sonType pathTo holder pixel depthTo allOf typeOk fatherOk onceOk sonOk wordOk sonsOk depthOk sonAlike mixedOk faultAt faultFrom faultsOf lengthOk sizesOf eachNodeOf checkOf askedOf sameLeaf sizeOf join treeOf eastStep southStep pathOf column row
@@ -69,5 +69,5 @@ tied = record {
   k-check = λ r s. given _ r _ s refl;
   k-mark = λ r after s. s .buffer;
   l = λ r after s. s .number;
-  origin = λ r after s. s .buffer ∙ on-A .node-1;
+  origin = λ r after s. (s .number ∙ ap numberOf (on-A .answered), s .buffer ∙ on-A .node-1);
 }

@@ -2,11 +2,12 @@
 -- the same node, distance or place always, one that writes nothing, one that lies half a pixel off. Sheet A is enough to tell.
 use mathlib.Core.List.{List, [], _∷_}
 use mathlib.Core.Bool.{true}
+use mathlib.Core.Logic.{_⊎_, inl, inr}
 use mathlib.Core.Path.{_≡_, refl, ap, sym, _∙_}
-use Prim.Native.Nat.{ℕ, _*_, _/_, _%_, _<_}
+use Prim.Native.Nat.{ℕ, _*_, _/_, _%_, _^_, _<_}
 use native.Mathlib.Omega.{arith}
 use lib.ListN.{getD}
-use lib.Ieee.{Float}
+use lib.Ieee.{Float, nan}
 use Rattle.base.specs.Tab.{tabFrom}
 use Rattle.answer.specs.declared.Outcome.{Outcome}
 use Rattle.answer.specs.declared.Outcome.the-variants.{Answered}
@@ -17,7 +18,7 @@ use Rattle.table.specs.SheetA.{rasterA, tableA, fileA}
 use Rattle.neighbour.proofs.OnSheetA.{on-sheet-a}
 use Rattle.ground.specs.declared.Ground.{Ground}
 use Rattle.ground.specs.Ground.{whole}
-use Rattle.ground.proofs.CentreCall.{place, lent, on-A, first-number}
+use Rattle.ground.proofs.CentreCall.{place, lent, on-A, whole-apart}
 use Rattle.register.specs.declared.Pond.{Pond}
 use Rattle.ponds.specs.Calls.{FindsInEntries}
 use Rattle.sheet.specs.Calls.{Builds, Decodes, FindsNeighbour, FindsCornerLeaf, FindsDiagonalLeaf, FindsDistances, FindsPonds, ReadsFile, WritesFile, FindsCentre}
@@ -191,28 +192,34 @@ module _ (number : List ℕ → List ℕ → ℕ) (after : List ℕ → List ℕ
 -- the centre's call: numbers, and slices of numbers of the ground
 module _ (number : ℕ → List ℕ → ℕ → Ground → List Float → ℕ) (after : ℕ → List ℕ → ℕ → Ground → List Float → List Float)
     (meets : (n : ℕ) (T : List ℕ) (p : ℕ) (g : Ground) (before : List Float) → FindsCentre n T p g before (number n T p g before) (after n T p g before)) where
-  first : number 2 tableA 1 place lent ≡ 0
-  first = meets 2 tableA 1 place lent .number ∙ ap numberOf (on-A .answered)
+  first : (number 2 tableA 1 place lent ≡ 0) × (after 2 tableA 1 place lent ≡ whole 1005 ∷ whole 1995 ∷ whole 7 ∷ [])
+  first = tied .origin _ _ (meets 2 tableA 1 place lent)
 
   second : number 2 tableA 2 place lent ≡ 0
   second = meets 2 tableA 2 place lent .number ∙ ap numberOf (on-A .answered-2)
 
-  node-1 : after 2 tableA 1 place lent ≡ whole 1005 ∷ whole 1995 ∷ whole 7 ∷ []
-  node-1 = tied .origin _ _ (meets 2 tableA 1 place lent)
+  -- node 1 lies at 1005 and 1995, so not where east or north is another whole number
+  elsewhere : (l : List Float) → after 2 tableA 1 place lent ≡ l → (x y : ℕ) → x < 2 ^ 32 → y < 2 ^ 32
+      → (getD l 0 nan ≡ whole x → x ≡ 1005) × (getD l 1 nan ≡ whole y → y ≡ 1995)
+  elsewhere l e x y hx hy = (
+    λ h. whole-apart x 1005 hx (omega arith) (sym h ∙ ap (λ (k : List Float). getD k 0 nan) (sym e ∙ first .1)),
+    λ h. whole-apart y 1995 hy (omega arith) (sym h ∙ ap (λ (k : List Float). getD k 1 nan) (sym e ∙ first .1)),
+  )
 
   pub centre-answers : ((n : ℕ) (T : List ℕ) (p : ℕ) (g : Ground) (before : List Float) → number n T p g before % 256 ≡ 0 → ⊥) → ⊥
-  centre-answers refuses = refuses 2 tableA 1 place lent (omega (arith, first))
+  centre-answers refuses = refuses 2 tableA 1 place lent (omega (arith, first .0))
 
   -- it gives every node one place, wherever it answers
   pub centre-not-one : ((n : ℕ) (T : List ℕ) (p q : ℕ) (g : Ground) (before : List Float)
       → number n T p g before % 256 ≡ 0 → number n T q g before % 256 ≡ 0 → after n T p g before ≡ after n T q g before) → ⊥
   centre-not-one same =
-      let e = same 2 tableA 1 2 place lent (omega (arith, first)) (omega (arith, second)) in
-      omega (arith, first-number 1005 1025 _ _ (omega arith) (omega arith) (sym node-1 ∙ e ∙ meets 2 tableA 2 place lent .buffer ∙ on-A .node-2))
+      let e = same 2 tableA 1 2 place lent (omega (arith, first .0)) (omega (arith, second)) in
+      omega (arith, elsewhere _ (e ∙ meets 2 tableA 2 place lent .buffer ∙ on-A .node-2) 1025 1995 (omega arith) (omega arith) .0 refl)
 
   pub centre-writes : ((n : ℕ) (T : List ℕ) (p : ℕ) (g : Ground) (before : List Float) → after n T p g before ≡ before) → ⊥
-  centre-writes idle = omega (arith, first-number 1005 0 _ _ (omega arith) (omega arith) (sym node-1 ∙ idle 2 tableA 1 place lent))
+  centre-writes idle = omega (arith, elsewhere _ (idle 2 tableA 1 place lent) 0 0 (omega arith) (omega arith) .0 refl)
 
-  -- it takes the place for the outer corner: half a pixel to the south-east
-  pub centre-not-corner : (more : List Float) → after 2 tableA 1 place lent ≡ whole 1010 ∷ more → ⊥
-  centre-not-corner more slip = omega (arith, first-number 1005 1010 _ _ (omega arith) (omega arith) (sym node-1 ∙ slip))
+  -- it takes the place for the outer corner: half a pixel to the east, or to the south
+  pub centre-not-corner : (getD (after 2 tableA 1 place lent) 0 nan ≡ whole 1010) ⊎ (getD (after 2 tableA 1 place lent) 1 nan ≡ whole 1990) → ⊥
+  centre-not-corner (inl east) = omega (arith, elsewhere _ refl 1010 1990 (omega arith) (omega arith) .0 east)
+  centre-not-corner (inr south) = omega (arith, elsewhere _ refl 1010 1990 (omega arith) (omega arith) .1 south)
