@@ -1,12 +1,13 @@
--- Refusals in their order, as a call goes through them: a test that a call made, then the next. `thens` closes the returns. And what an answer says of the tests.
+-- Refusals in their order, as a call goes through them: a test that a call made, then the next. `thens` closes the returns. What an answer says of the tests;
+-- and that what was put into one number can be read off it.
 use mathlib.Core.Bool.{Bool, true, false, not, false≢true}
 use mathlib.Core.Path.{_≡_, refl, sym, _∙_}
-use Prim.Native.Nat.{_<_}
+use Prim.Native.Nat.{ℕ, _<_}
 use native.Mathlib.Omega.{arith}
 use Rattle.base.proofs.BoolLaws.{on, off}
 use Rattle.answer.specs.declared.Outcome.{Outcome}
 use Rattle.answer.specs.declared.Outcome.the-variants.{Answered, BadLevel, WrongLength, BadNode, TooDeep, NeedlessFork, NoNode, BadDirection, BadPixel, NoRoom, BadPlace, OutOfRange, BadByte, Absent, BadCount, TooLarge, NoBlock}
-use Rattle.answer.specs.Numbers.{codeOf, answers, andThen, unless}
+use Rattle.answer.specs.Numbers.{codeOf, levelRoom, withLevel, nodeIn, levelIn, answers, andThen, unless}
 
 module _ (o s next : Outcome) (u : Bool) (e : s ≡ o) (a : u ≡ answers s) where
   pub then-stop : not u ≡ true → s ≡ andThen o next
@@ -56,3 +57,10 @@ code-small (Absent v) = omega arith
 code-small (BadCount v) = omega arith
 code-small (TooLarge v) = omega arith
 code-small NoBlock = omega arith
+
+-- a level is below 8, so node and level are read off the value
+pub level-apart : (k level : ℕ) → level < levelRoom → (nodeIn (withLevel k level) ≡ k) × (levelIn (withLevel k level) ≡ level)
+level-apart k level h = (omega arith, omega arith)
+
+pub level-together : (v : ℕ) → withLevel (nodeIn v) (levelIn v) ≡ v
+level-together v = omega arith

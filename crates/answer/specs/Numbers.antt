@@ -1,6 +1,6 @@
 -- Document 01, 'Numbers given back': the code and the value of each outcome, and the order in which refusals apply.
 use mathlib.Core.Bool.{Bool, cond}
-use Prim.Native.Nat.{ℕ, _+_, _*_}
+use Prim.Native.Nat.{ℕ, _+_, _*_, _/_, _%_}
 use lib.Dec.{eqb, ltb}
 use Rattle.answer.specs.declared.Outcome.{Outcome}
 use Rattle.answer.specs.declared.Outcome.the-variants.{Answered, BadLevel, WrongLength, BadNode, TooDeep, NeedlessFork, NoNode, BadDirection, BadPixel, NoRoom, BadPlace, OutOfRange, BadByte, Absent, BadCount, TooLarge, NoBlock}
@@ -46,6 +46,20 @@ valueOf NoBlock = 0
 -- the number given back to C
 abbrev pub numberOf : Outcome → ℕ
 numberOf o = codeOf o + 256 * valueOf o
+
+-- a level is beside a node, or beside a node count, in one value: both documents' × 8, with room for the levels 0 to 7
+abbrev pub levelRoom : ℕ
+levelRoom = 8
+
+abbrev pub withLevel : ℕ → ℕ → ℕ
+withLevel k level = levelRoom * k + level
+
+-- the two of them in such a value
+abbrev pub nodeIn : ℕ → ℕ
+nodeIn v = v / levelRoom
+
+abbrev pub levelIn : ℕ → ℕ
+levelIn v = v % levelRoom
 
 -- is it an answer, and no refusal?
 abbrev pub answers : Outcome → Bool

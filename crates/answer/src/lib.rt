@@ -1,6 +1,7 @@
 // What an outside call gives back: document 01's table 'Numbers given back', as an enum with one case for each code.
 ghost use mathlib.Core.Path.{_≡_};
-ghost use Rattle.answer.specs.Numbers.{codeOf, valueOf, numberOf, answers};
+ghost use Prim.Native.Nat.{_≤_};
+ghost use Rattle.answer.specs.Numbers.{codeOf, valueOf, numberOf, withLevel, answers};
 
 pub enum Outcome {
     // The call was answered.
@@ -101,4 +102,15 @@ pub fn number(o: Outcome) -> u64
     ensures { λ r. ⌜ r ≡ numberOf o ⌝ }
 {
     (code(o) as u64) + 256 * (value(o) as u64)
+}
+
+// A level is below it.
+const LEVEL_ROOM: u32 = 8;
+
+// A node, or a node count, and a level beside it in one value.
+pub fn with_level(k: u32, level: u32) -> u32
+    requires { ⌜ withLevel k level ≤ 4294967295 ⌝ }
+    ensures { λ r. ⌜ r ≡ withLevel k level ⌝ }
+{
+    LEVEL_ROOM * k + level
 }

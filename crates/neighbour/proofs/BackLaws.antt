@@ -1,39 +1,31 @@
--- Neighbours both ways: where the neighbour has p's own size, p is its neighbour back.
+-- Neighbours both ways: where the neighbour has p's own level, p is its neighbour back.
 use mathlib.Core.Path.{_≡_, refl, ap, sym, _∙_}
 use mathlib.Core.List.{List}
-use mathlib.Core.Logic.{⊎-elim}
 use Prim.Native.Nat.{ℕ, _+_, _-_, _^_, _≤_, _<_}
-use native.Mathlib.Nat.{div-one, eq-or-lt-of-le}
+use native.Mathlib.Nat.{div-one}
 use native.Mathlib.Omega.{arith}
 use lib.Dec.{ltb, eqb}
 use lib.ListN.{length}
-use lib.Pow.{pow-lt}
 use borrow.Author.Tests.{eqb-true, ltb-true}
 use mathlib.Core.Bool.{Bool, true, _&&_}
 use Rattle.base.specs.All.{all}
 use Rattle.base.proofs.AllLaws.{all-at}
-use Rattle.base.proofs.BoolLaws.{and-left, and-right, lt-or-ge}
+use Rattle.base.proofs.BoolLaws.{and-left, and-right}
 use Rattle.answer.specs.declared.Outcome.the-variants.{Answered}
-use Rattle.quad.specs.Block.{column, row}
+use Rattle.answer.specs.Numbers.{withLevel, nodeIn, levelIn}
+use Rattle.quad.specs.Block.{pathOf, column, row}
 use Rattle.quad.specs.Direction.{eastStep, southStep}
 use Rattle.quad.proofs.PathLaws.{path-back}
 use Rattle.table.specs.Table.{nodes}
 use Rattle.table.specs.Rules.{depthTo, Accepted}
-use Rattle.table.specs.Nodes.{pathTo, holder, levelOf, sideOf}
+use Rattle.table.specs.Nodes.{pathTo, holder, levelOf}
 use Rattle.table.proofs.AcceptedLaws.{depth-le}
 use Rattle.table.proofs.BlockLaws.{column-below, row-below}
 use Rattle.table.proofs.HolderLaws.{own-quadrants, own-path, own-depth}
-use Rattle.neighbour.specs.Neighbour.{neighbourOf}
+use Rattle.neighbour.specs.declared.Found.the-variants.{At}
+use Rattle.neighbour.specs.Neighbour.{neighbourFound, neighbourOf}
 use Rattle.neighbour.specs.Containing.{opposite}
-use Rattle.neighbour.proofs.NeighbourLaws.{lies-answers, neighbour-is, beside-p, neighbour-smallest}
-
--- equal powers of two have equal exponents
-pub same-power : (a b : ℕ) → 2 ^ a ≡ 2 ^ b → a ≡ b
-same-power a b e =
-    ⊎-elim
-    (λ (l : a < b). absurd (omega (arith, pow-lt {i = a} {j = b} l)))
-    (λ (g : b ≤ a). ⊎-elim (λ (q : b ≡ a). sym q) (λ (l : b < a). absurd (omega (arith, pow-lt {i = b} {j = a} l))) (eq-or-lt-of-le g))
-    (lt-or-ge a b)
+use Rattle.neighbour.proofs.NeighbourLaws.{lies-found, neighbour-is, beside-p, neighbour-found, neighbour-smallest, neighbour-level}
 
 -- a direction and the one back cancel
 pub record Cancels (D : ℕ) : Type 0 where
@@ -58,18 +50,19 @@ cancels D h =
     let es = and-right w (e && s) v in
     record { way = ltb-true _ _ (and-left w (e && s) v); east = eqb-true _ _ (and-left e s es); south = eqb-true _ _ (and-right e s es) }
 
-pub neighbour-back : (n : ℕ) (T : List ℕ) → Accepted n T → (p D m : ℕ) → p < nodes T → D < 8
-    → neighbourOf n T p D ≡ Answered m → sideOf n T m ≡ sideOf n T p → neighbourOf n T m (opposite D) ≡ Answered p
-neighbour-back n T acc p D m lt h e same =
-    let l = beside-p n T acc p lt D m h e in
-    let c = neighbour-smallest n T acc p lt D m h e .contains in
+pub neighbour-back : (n : ℕ) (T : List ℕ) → Accepted n T → (p D v : ℕ) → p < nodes T → D < 8
+    → neighbourOf n T p D ≡ Answered v → levelIn v ≡ levelOf n T p → neighbourOf n T (nodeIn v) (opposite D) ≡ Answered (withLevel p (levelIn v))
+unfolding neighbourFound
+neighbour-back n T acc p D v lt h e same =
+    let m : ℕ = nodeIn v in
+    let l = beside-p n T acc p lt D m (levelIn v) (neighbour-found n T acc p lt D v h e) in
+    let c = neighbour-smallest n T acc p lt D v h e .contains in
     let i = c .inside in
     let d : ℕ = depthTo T n p in
     let x : ℕ = column (pathTo T n p) in
     let y : ℕ = row (pathTo T n p) in
     let k = cancels D h in
-    let level = same-power (levelOf n T m) (levelOf n T p) same in
-    let dm : depthTo T n m ≡ d = omega (arith, depth-le T n p, depth-le T n m) in
+    let dm : depthTo T n m ≡ d = omega (arith, neighbour-level n T acc p lt D v h e, depth-le T n p, depth-le T n m) in
     let z : d - depthTo T n m ≡ 0 = omega arith in
     let ex : column (pathTo T n m) ≡ x + eastStep D - 1 = sym (rw (z, div-one (x + eastStep D - 1)) at (i .across)) in
     let ey : row (pathTo T n m) ≡ y + southStep D - 1 = sym (rw (z, div-one (y + southStep D - 1)) at (i .down)) in
@@ -82,8 +75,9 @@ neighbour-back n T acc p D m lt h e same =
     let ly = l .down .low in
     let bx : x + eastStep D - 1 + eastStep (opposite D) - 1 ≡ x = omega (arith, k .east) in
     let by : y + southStep D - 1 + southStep (opposite D) - 1 ≡ y = omega (arith, k .south) in
-    let a = lies-answers T d (x + eastStep D - 1) (y + southStep D - 1) (opposite D)
+    let a = lies-found n T d (x + eastStep D - 1) (y + southStep D - 1) (opposite D)
     (record { low = omega (arith, k .east); high = omega (arith, k .east) })
     (record { low = omega (arith, k .south); high = omega (arith, k .south) }) in
-    neighbour-is n T acc m (c .node) (opposite D) (k .way)
-    ∙ rw (size, ex, ey) (a ∙ rw (bx, by) (ap Answered (rw (← o) (ap (holder T) (path-back (pathTo T n p) qs) ∙ own-path n T acc p lt))))
+    let back : holder T (pathOf d x y) ≡ p = rw (← o) (ap (holder T) (path-back (pathTo T n p) qs) ∙ own-path n T acc p lt) in
+    let found : neighbourFound n T m (opposite D) ≡ At p (levelOf n T p) = rw (size, ex, ey) (a ∙ rw (bx, by, back)) in
+    neighbour-is n T acc m (c .node) (opposite D) (k .way) ∙ rw (found, same)

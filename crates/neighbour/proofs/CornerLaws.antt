@@ -13,19 +13,17 @@ use lib.Pow.{pow-pos}
 use borrow.Author.Tests.{lt-ltb, eqb-true}
 use Rattle.base.proofs.AllLaws.{all-at}
 use Rattle.base.proofs.BoolLaws.{by-bool}
-use Rattle.base.proofs.CaseLaws.{cond-case}
-use Rattle.answer.specs.declared.Outcome.the-variants.{Answered, NoBlock}
-use Rattle.quad.specs.Numbers.{none}
 use Rattle.quad.specs.Block.{column, row, Quadrants}
 use Rattle.quad.specs.Direction.{adjOf, diagonal}
 use Rattle.table.specs.Table.{nodes, son, isFork}
 use Rattle.table.specs.Rules.{Accepted}
 use Rattle.table.specs.Nodes.{pathTo, holder, levelOf}
-use Rattle.table.proofs.AcceptedLaws.{depth-le, sons-of, depth-son, fork-deep}
+use Rattle.table.proofs.AcceptedLaws.{depth-le, depth-son, fork-deep}
 use Rattle.table.proofs.HolderLaws.{held, own-quadrants, own-depth}
-use Rattle.neighbour.specs.Neighbour.{beside, leafBeyond}
+use Rattle.neighbour.specs.Neighbour.{neighbourFound, leafBeyond}
+use Rattle.neighbour.specs.declared.Found.{Found}
 use Rattle.neighbour.specs.declared.Found.the-variants.{At, Off}
-use Rattle.neighbour.specs.Search.{onwardOf, mirrorOf, Where, off, block, inner, moved, foundIn, stepTo, cornerDown, cornerUnder, Cornered}
+use Rattle.neighbour.specs.Search.{onwardOf, mirrorOf, Where, off, block, inner, moved, stepTo, cornerDown, cornerUnder, cornerAt, Cornered}
 use Rattle.neighbour.proofs.SearchLaws.{MovedTo, moved-to, steers, heldBy, beside-moved}
 
 -- the path of the block at corner C of the block at the end of π, k levels down
@@ -98,32 +96,20 @@ module _ (T : List ℕ) where
   down-still q zero p f = refl
   down-still q (suc k) p f = rw (down-still q k p f, f)
 
--- the loop of the descent: a fork's corner is its son's, a leaf's is itself
+-- the loop of the descent: a fork's corner is its son's, one level below it; a leaf's is itself
 module _ (n : ℕ) (T : List ℕ) (acc : Accepted n T) (q p : ℕ) where
+  pub level-down : p < nodes T → q < 4 → isFork T p ≡ true → levelOf n T p ≡ suc (levelOf n T (son T p q))
+  level-down lt q4 f = omega (arith, fork-deep n T acc p lt f, depth-son n T acc p q lt f q4)
+
   pub corner-fork : p < nodes T → q < 4 → isFork T p ≡ true → cornerUnder n T q (son T p q) ≡ cornerUnder n T q p
   unfolding cornerUnder
-  corner-fork lt q4 f =
-      let e : levelOf n T p ≡ suc (levelOf n T (son T p q)) = omega (arith, fork-deep n T acc p lt f, depth-son n T acc p q lt f q4) in
-      rw (e, down-first T q (levelOf n T (son T p q)) p, f)
+  corner-fork lt q4 f = rw (level-down lt q4 f, down-first T q (levelOf n T (son T p q)) p, f)
 
-  pub corner-leaf : isFork T p ≡ false → p ≡ cornerUnder n T q p
+  pub corner-leaf : (m its : ℕ) → isFork T p ≡ false → its ≡ levelOf n T p → cornerUnder n T q p ≡ m → At p its ≡ At m (levelOf n T m)
   unfolding cornerUnder
-  corner-leaf f = sym (down-still T q (levelOf n T p) p f)
-
-  -- it is a node
-  pub corner-below : p < nodes T → q < 4 → cornerUnder n T q p < nodes T
-  unfolding cornerUnder cornerDown
-  corner-below lt q4 = go (levelOf n T p)
-    where
-      go : (k : ℕ) → cornerDown T q k p < nodes T
-      go zero = lt
-      go (suc k) =
-          let m : ℕ = cornerDown T q k p in
-          cond-case (λ (x : ℕ). x < nodes T) (isFork T m) (son T m q) m (λ f. sons-of n T acc m (go k) f q q4 .below) (λ f. go k)
-
-  -- and its number fits a word
-  pub corner-fits : (r : ℕ) → r ≡ cornerUnder n T q p → p < nodes T → q < 4 → r ≤ none
-  corner-fits r e lt q4 = omega (arith, corner-below lt q4, acc .sized .few)
+  corner-leaf m its f e u =
+      let is : p ≡ m = sym (down-still T q (levelOf n T p) p f) ∙ u in
+      rw (e, is)
 
 -- a corner that a side has at one end, and a corner in its own diagonal, go on in that direction
 pub side-on : (D C : ℕ) → D < 4 → adjOf D C ≡ true → onwardOf D C ≡ D
@@ -134,7 +120,7 @@ pub diagonal-on : (C : ℕ) → C < 4 → onwardOf (diagonal C) C ≡ diagonal C
 unfolding onwardOf
 diagonal-on C lt = eqb-true _ _ (all-at (λ (C : ℕ). eqb (onwardOf (diagonal C) C) (diagonal C)) 4 refl C lt)
 
-module _ (n : ℕ) (T : List ℕ) (p D C : ℕ) (z : Cornered n T p D C) where
+module _ (n : ℕ) (T : List ℕ) (p level D C : ℕ) (z : Cornered n T p level D C) where
   acc : Accepted n T
   acc = z .accepted
 
@@ -144,14 +130,18 @@ module _ (n : ℕ) (T : List ℕ) (p D C : ℕ) (z : Cornered n T p D C) where
   landed : MovedTo D (pathTo T n p) (moved D (pathTo T n p))
   landed = moved-to D (pathTo T n p) (omega (arith, z .way)) path
 
-  -- the pixel beyond the corner, by the moves
-  beyond-moved : leafBeyond n T p C D ≡ heldBy T (deepen (mirrorOf D C) (levelOf n T p) (moved D (pathTo T n p)))
+  -- the neighbour, and the pixel beyond the corner, by the moves
+  found-moved : neighbourFound n T p D ≡ heldBy n T (moved D (pathTo T n p))
+  unfolding neighbourFound
+  found-moved = beside-moved n T D (pathTo T n p) (omega (arith, z .way)) path
+
+  beyond-moved : leafBeyond n T p C D ≡ heldBy n T (deepen (mirrorOf D C) (levelOf n T p) (moved D (pathTo T n p)))
   beyond-moved =
       let π = pathTo T n p in
       let k : ℕ = levelOf n T p in
       let κ = corners C k π in
       let size : length κ ≡ n = omega (arith, corners-length C k π, own-depth n T acc p (z .node), depth-le T n p) in
-      let b = beside-moved T D κ (omega (arith, z .way)) (corners-quadrants C k π (z .corner) path) in
+      let b = beside-moved n T D κ (omega (arith, z .way)) (corners-quadrants C k π (z .corner) path) in
       rw (size, corners-column C k π (z .corner), corners-row C k π (z .corner), corners-moved D C k π (z .on)) at b
 
   -- a neighbour of p's own size has p's levels below it, and a larger one is a leaf
@@ -168,53 +158,40 @@ module _ (n : ℕ) (T : List ℕ) (p D C : ℕ) (z : Cornered n T p D C) where
       (by-bool (isFork T (holder T ρ)))
 
   -- what the corner calls owe, from what the search found
-  down-at : (w : Where) → MovedTo D (pathTo T n p) w → (m l : ℕ) → foundIn n T 0 w ≡ At m l
-      → Answered (cornerUnder n T (mirrorOf D C) m) ≡ heldBy T (deepen (mirrorOf D C) (levelOf n T p) w)
-  unfolding MovedTo foundIn heldBy
+  down-at : (w : Where) → MovedTo D (pathTo T n p) w → (m l : ℕ) → heldBy n T w ≡ At m l
+      → cornerAt n T (mirrorOf D C) m ≡ heldBy n T (deepen (mirrorOf D C) (levelOf n T p) w)
+  unfolding MovedTo heldBy
   down-at off d m l e = absurd (let z : _≡_ {A = ℕ} 0 1 = cc in omega arith)
   down-at (block ρ) d m l e =
       let c : ℕ = mirrorOf D C in
       let k : ℕ = levelOf n T p in
       let em : holder T ρ ≡ m = cc in
-      rw (deepen-block c k ρ, heldBy, corners-holder T c k ρ, ← em) (ap Answered (as-deep ρ (d .quadrants) (d .size)))
+      rw (deepen-block c k ρ, heldBy, corners-holder T c k ρ, ← em) (ap (λ (m : ℕ). At m (levelOf n T m)) (as-deep ρ (d .quadrants) (d .size)))
 
-  pub beyond-at : (m l q r : ℕ) → foundIn n T 0 (moved D (pathTo T n p)) ≡ At m l → q ≡ mirrorOf D C → r ≡ cornerUnder n T q m
-      → Answered r ≡ leafBeyond n T p C D
-  beyond-at m l q r e eq er = rw (er, eq) (down-at (moved D (pathTo T n p)) landed m l e ∙ sym beyond-moved)
+  pub beyond-at : (m l q : ℕ) (r : Found) → neighbourFound n T p D ≡ At m l → q ≡ mirrorOf D C → r ≡ cornerAt n T q m → r ≡ leafBeyond n T p C D
+  beyond-at m l q r e eq er = er ∙ rw eq (down-at (moved D (pathTo T n p)) landed m l (sym found-moved ∙ e) ∙ sym beyond-moved)
 
-  off-at : (w : Where) → foundIn n T 0 w ≡ Off → NoBlock ≡ heldBy T (deepen (mirrorOf D C) (levelOf n T p) w)
-  unfolding foundIn heldBy
+  off-at : (w : Where) → heldBy n T w ≡ Off → Off ≡ heldBy n T (deepen (mirrorOf D C) (levelOf n T p) w)
+  unfolding heldBy
   off-at off e = rw (deepen-off (mirrorOf D C) (levelOf n T p))
   off-at (block ρ) e = absurd (let z : _≡_ {A = ℕ} 0 1 = cc in omega arith)
 
-  pub beyond-off : foundIn n T 0 (moved D (pathTo T n p)) ≡ Off → NoBlock ≡ leafBeyond n T p C D
-  beyond-off e = off-at (moved D (pathTo T n p)) e ∙ sym beyond-moved
-
-  -- what was found is a node
-  node-at : (w : Where) → MovedTo D (pathTo T n p) w → (m l : ℕ) → foundIn n T 0 w ≡ At m l → m < nodes T
-  unfolding MovedTo foundIn
-  node-at off d m l e = absurd (let z : _≡_ {A = ℕ} 0 1 = cc in omega arith)
-  node-at (block ρ) d m l e =
-      let em : holder T ρ ≡ m = cc in
-      rw em at (held n T acc ρ (d .quadrants) .below)
-
-  pub beyond-node : (m l : ℕ) → foundIn n T 0 (moved D (pathTo T n p)) ≡ At m l → m < nodes T
-  beyond-node m l e = node-at (moved D (pathTo T n p)) landed m l e
+  pub beyond-off : neighbourFound n T p D ≡ Off → Off ≡ leafBeyond n T p C D
+  beyond-off e = off-at (moved D (pathTo T n p)) (sym found-moved ∙ e) ∙ sym beyond-moved
 
   pub mirror-small : mirrorOf D C < 4
   mirror-small = steers D C (omega (arith, z .way)) (z .corner) .small
 
   -- where the neighbour is a leaf, it is the leaf beyond the corner too
-  leaf-at : (w : Where) (m : ℕ) → isFork T m ≡ false → heldBy T w ≡ Answered m → heldBy T (deepen (mirrorOf D C) (levelOf n T p) w) ≡ Answered m
+  leaf-at : (w : Where) (m l : ℕ) → isFork T m ≡ false → heldBy n T w ≡ At m l → heldBy n T (deepen (mirrorOf D C) (levelOf n T p) w) ≡ At m l
   unfolding heldBy
-  leaf-at off m f e = absurd (let z : _≡_ {A = ℕ} 0 1 = cc in omega arith)
-  leaf-at (block ρ) m f e =
+  leaf-at off m l f e = absurd (let z : _≡_ {A = ℕ} 0 1 = cc in omega arith)
+  leaf-at (block ρ) m l f e =
       let c : ℕ = mirrorOf D C in
       let k : ℕ = levelOf n T p in
       let em : holder T ρ ≡ m = cc in
-      rw (deepen-block c k ρ, heldBy, corners-holder T c k ρ, em, down-still T c k m f)
+      let still : cornerDown T c k (holder T ρ) ≡ holder T ρ = down-still T c k (holder T ρ) (rw em f) in
+      rw (deepen-block c k ρ, heldBy, corners-holder T c k ρ, still) e
 
-  pub beyond-leaf-neighbour : (m : ℕ) → isFork T m ≡ false → (let π = pathTo T n p in beside T (length π) (column π) (row π) D ≡ Answered m)
-      → leafBeyond n T p C D ≡ Answered m
-  beyond-leaf-neighbour m f e =
-      beyond-moved ∙ leaf-at (moved D (pathTo T n p)) m f (sym (beside-moved T D (pathTo T n p) (omega (arith, z .way)) path) ∙ e)
+  pub beyond-leaf-neighbour : (m l : ℕ) → isFork T m ≡ false → neighbourFound n T p D ≡ At m l → leafBeyond n T p C D ≡ At m l
+  beyond-leaf-neighbour m l f e = beyond-moved ∙ leaf-at (moved D (pathTo T n p)) m l f (sym found-moved ∙ e)

@@ -4,7 +4,7 @@ use Prim.Native.Nat.{ℕ, _<_}
 use native.Mathlib.Omega.{arith}
 use Rattle.answer.specs.declared.Outcome.{Outcome}
 use Rattle.answer.specs.declared.Outcome.the-variants.{Answered, BadDirection}
-use Rattle.answer.specs.Numbers.{numberOf}
+use Rattle.answer.specs.Numbers.{numberOf, withLevel, nodeIn}
 use Rattle.quad.specs.Numbers.{black}
 use Rattle.quad.specs.Block.{pathOf, column, row}
 use Rattle.quad.specs.Direction.{eastStep, southStep}
@@ -13,21 +13,21 @@ use Rattle.table.specs.Table.{father, type}
 use Rattle.table.specs.Rules.{depthTo, allOf, typeOk, fatherOk, onceOk, sonOk, wordOk, sonsOk, depthOk, sonAlike, mixedOk, faultAt, faultFrom, faultsOf, lengthOk, sizesOf, checkOf, askedOf}
 use Rattle.table.specs.Nodes.{firstQuadrant, sonType, pathTo, holder}
 use Rattle.table.specs.SheetA.{tableA}
-use Rattle.neighbour.specs.Neighbour.{neighbourOf, cornerLeafOf, diagonalLeafOf, beside}
+use Rattle.neighbour.specs.Neighbour.{beside, neighbourFound, neighbourOf, cornerLeafOf, diagonalLeafOf}
 
 -- what the calls owe on document 01's sheet A
 pub record OnSheetA : Type 0 where
-  pub east : neighbourOf 2 tableA 1 1 ≡ Answered 2
-  pub south : neighbourOf 2 tableA 6 2 ≡ Answered 8
-  pub upper : cornerLeafOf 2 tableA 1 1 1 ≡ Answered 3
-  pub lower : cornerLeafOf 2 tableA 1 1 3 ≡ Answered 5
+  pub east : neighbourOf 2 tableA 1 1 ≡ Answered (withLevel 2 1)
+  pub south : neighbourOf 2 tableA 6 2 ≡ Answered (withLevel 8 1)
+  pub upper : cornerLeafOf 2 tableA 1 1 1 ≡ Answered (withLevel 3 0)
+  pub lower : cornerLeafOf 2 tableA 1 1 3 ≡ Answered (withLevel 5 0)
   pub apart : (cornerLeafOf 2 tableA 1 1 0 ≡ BadDirection 0) × (cornerLeafOf 2 tableA 1 1 2 ≡ BadDirection 2)
-  pub beyond : diagonalLeafOf 2 tableA 1 3 ≡ Answered 8
-  pub across : diagonalLeafOf 2 tableA 5 1 ≡ Answered 4
+  pub beyond : diagonalLeafOf 2 tableA 1 3 ≡ Answered (withLevel 8 1)
+  pub across : diagonalLeafOf 2 tableA 5 1 ≡ Answered (withLevel 4 0)
   pub under : (father tableA 6 ≡ 2) × (type tableA 6 ≡ black)
 
 pub on-sheet-a : OnSheetA
-unfolding beside neighbourOf cornerLeafOf diagonalLeafOf firstQuadrant sonType pathTo holder depthTo allOf typeOk fatherOk onceOk sonOk wordOk sonsOk depthOk sonAlike mixedOk faultAt faultFrom faultsOf lengthOk sizesOf checkOf askedOf eastStep southStep pathOf column row
+unfolding beside neighbourFound neighbourOf cornerLeafOf diagonalLeafOf firstQuadrant sonType pathTo holder depthTo allOf typeOk fatherOk onceOk sonOk wordOk sonsOk depthOk sonAlike mixedOk faultAt faultFrom faultsOf lengthOk sizesOf checkOf askedOf eastStep southStep pathOf column row
 on-sheet-a = record {
   east = refl;
   south = refl;
@@ -40,14 +40,17 @@ on-sheet-a = record {
 }
 
 -- two ponds: what lies under a grey neighbour need not touch
-pub two-ponds : (C : ℕ) → C < 4 → cornerLeafOf 2 tableA 1 1 C ≡ Answered 6 → ⊥
-two-ponds =
+pub two-ponds : (C v : ℕ) → C < 4 → cornerLeafOf 2 tableA 1 1 C ≡ Answered v → nodeIn v ≡ 6 → ⊥
+two-ponds C v lt e six =
     let a = on-sheet-a in
-    by-quadrant (λ (C : ℕ). cornerLeafOf 2 tableA 1 1 C ≡ Answered 6 → ⊥)
+    by-quadrant (λ (C : ℕ). cornerLeafOf 2 tableA 1 1 C ≡ Answered v → ⊥)
     (λ e. omega (arith, other (a .apart .0) e))
     (λ e. omega (arith, other (a .upper) e))
     (λ e. omega (arith, other (a .apart .1) e))
     (λ e. omega (arith, other (a .lower) e))
+    C
+    lt
+    e
   where
     other : {r s t : Outcome} → r ≡ s → r ≡ t → numberOf s ≡ numberOf t
     other e f = ap numberOf (sym e ∙ f)

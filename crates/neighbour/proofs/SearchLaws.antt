@@ -14,13 +14,12 @@ use Rattle.base.specs.All.{all, all2}
 use Rattle.base.proofs.AllLaws.{all-at, all2-at}
 use Rattle.base.proofs.BoolLaws.{and-left, and-right, or-second}
 use Rattle.base.proofs.CaseLaws.{at-ne}
-use Rattle.answer.specs.declared.Outcome.{Outcome}
-use Rattle.answer.specs.declared.Outcome.the-variants.{Answered, NoBlock}
 use Rattle.quad.specs.Block.{column, row, Quadrants}
 use Rattle.quad.specs.Direction.{eastStep, southStep, stays, opquadOf, commonSideOf}
 use Rattle.quad.proofs.PathLaws.{column-lt, row-lt, path-back}
-use Rattle.table.specs.Nodes.{holder}
-use Rattle.neighbour.specs.Neighbour.{beside}
+use Rattle.neighbour.specs.declared.Found.{Found}
+use Rattle.neighbour.specs.declared.Found.the-variants.{Off}
+use Rattle.neighbour.specs.Neighbour.{heldAt, beside}
 use Rattle.neighbour.specs.Search.{stay, onwardOf, mirrorOf, Where, off, block, inner, moved}
 
 -- no undefined entry of COMMONSIDE is read: where the quadrant is neither the corner nor the one opposite, the two share a side
@@ -161,16 +160,16 @@ stays-both d x s h = rw (lt-ltb 0 (x + s) (h .low), le-leb (x + s) (2 ^ d) (h .h
 stays-at : (d x s y : ℕ) → y < 2 ^ d → y + 1 ≡ x + s → stays (2 ^ d) x s ≡ true
 stays-at d x s y lt e = stays-both d x s (record { low = omega arith; high = omega arith })
 
--- the smallest node that contains a block, or code 20
-unfoldable pub heldBy : List ℕ → Where → Outcome
-heldBy T off = NoBlock
-heldBy T (block ρ) = Answered (holder T ρ)
+-- the smallest node that contains a block and its level, or none
+unfoldable pub heldBy : ℕ → List ℕ → Where → Found
+heldBy n T off = Off
+heldBy n T (block ρ) = heldAt n T ρ
 
-beside-at : (T : List ℕ) (D : ℕ) (π : List ℕ) (w : Where) → MovedTo D π w → beside T (length π) (column π) (row π) D ≡ heldBy T w
+beside-at : (n : ℕ) (T : List ℕ) (D : ℕ) (π : List ℕ) (w : Where) → MovedTo D π w → beside n T (length π) (column π) (row π) D ≡ heldBy n T w
 unfolding MovedTo beside heldBy
-beside-at T D π off m =
+beside-at n T D π off m =
     rw (and-no (stays (2 ^ length π) (column π) (eastStep D)) (stays (2 ^ length π) (row π) (southStep D)) (λ a b. m (stays-of _ _ _ a) (stays-of _ _ _ b)))
-beside-at T D π (block ρ) m =
+beside-at n T D π (block ρ) m =
     let x = stays-at (length π) (column π) (eastStep D) (column ρ) (rw (← m .size) (column-lt ρ (m .quadrants))) (m .east) in
     let y = stays-at (length π) (row π) (southStep D) (row ρ) (rw (← m .size) (row-lt ρ (m .quadrants))) (m .south) in
     let cx : column π + eastStep D - 1 ≡ column ρ = omega (arith, m) in
@@ -178,5 +177,6 @@ beside-at T D π (block ρ) m =
     rw (x, y, cx, cy, ← m .size, path-back ρ (m .quadrants))
 
 -- the geometry of blocks and the moves agree
-pub beside-moved : (T : List ℕ) (D : ℕ) (π : List ℕ) → D ≤ stay → Quadrants π → beside T (length π) (column π) (row π) D ≡ heldBy T (moved D π)
-beside-moved T D π le h = beside-at T D π (moved D π) (moved-to D π le h)
+pub beside-moved : (n : ℕ) (T : List ℕ) (D : ℕ) (π : List ℕ) → D ≤ stay → Quadrants π
+    → beside n T (length π) (column π) (row π) D ≡ heldBy n T (moved D π)
+beside-moved n T D π le h = beside-at n T D π (moved D π) (moved-to D π le h)

@@ -10,6 +10,7 @@ use lib.Pow.{pow-pos, pow-lt}
 use Rattle.base.proofs.BoolLaws.{lt-or-ge}
 use Rattle.base.proofs.PowLaws.{pow-product, below-pow}
 use Rattle.answer.specs.declared.Outcome.the-variants.{Answered}
+use Rattle.answer.specs.Numbers.{withLevel}
 use Rattle.quad.specs.Block.{pathOf, column, row}
 use Rattle.quad.specs.Direction.{eastStep, southStep, adjOf}
 use Rattle.quad.proofs.TreeLaws.{by-quadrant}
@@ -19,11 +20,11 @@ use Rattle.table.specs.Nodes.{pathTo, holder, levelOf, sideOf}
 use Rattle.table.proofs.AcceptedLaws.{depth-le}
 use Rattle.table.proofs.BlockLaws.{column-below, row-below}
 use Rattle.table.proofs.HolderLaws.{own-depth, within-leaf}
-use Rattle.neighbour.specs.Neighbour.{neighbourOf, cornerLeafOf}
+use Rattle.neighbour.specs.declared.Found.the-variants.{At}
+use Rattle.neighbour.specs.Neighbour.{neighbourFound, outcomeOf, neighbourOf, cornerLeafOf}
 use Rattle.neighbour.specs.Containing.{Contains, Touches}
 use Rattle.neighbour.proofs.CornerLaws.{side-on, beyond-leaf-neighbour}
-use Rattle.neighbour.proofs.FoundLaws.{besideNode}
-use Rattle.neighbour.proofs.NeighbourLaws.{lies-answers, neighbour-is, corner-is}
+use Rattle.neighbour.proofs.NeighbourLaws.{lies-found, neighbour-is, corner-is}
 
 -- the next column is in the same block of side w, or in the next one
 next-div : (w x : ℕ) → 0 < w → ((x + 1) / w ≡ x / w) ⊎ ((x + 1) / w ≡ x / w + 1)
@@ -133,7 +134,8 @@ module _
       ))
       (straight D side)
 
-  beside-m : besideNode n T p D ≡ Answered m
+  beside-m : neighbourFound n T p D ≡ At m (levelOf n T m)
+  unfolding neighbourFound
   beside-m =
       let d : ℕ = depthTo T n p in
       let w : ℕ = 2 ^ levelOf n T p in
@@ -151,21 +153,23 @@ module _
         };
       } in
       let s = on-sheet n T acc m d ((x + eastStep D - 1) / w) ((y + southStep D - 1) / w) c in
-      let a = lies-answers T d (column (pathTo T n p)) (row (pathTo T n p)) D
+      let a = lies-found n T d (column (pathTo T n p)) (row (pathTo T n p)) D
       (record { low = omega (arith, b .0); high = omega (arith, b .0, s .0) })
       (record { low = omega (arith, b .1); high = omega (arith, b .1, s .1) }) in
-      rw (own-depth n T acc p (t .here .node)) (a ∙ rw (ex, ey) (ap Answered (leaf-holds n T acc m d ((x + eastStep D - 1) / w) ((y + southStep D - 1) / w) c leaf-m)))
+      rw (own-depth n T acc p (t .here .node)) (a ∙ rw (ex, ey) (ap (λ (m : ℕ). At m (levelOf n T m)) (leaf-holds n T acc m d ((x + eastStep D - 1) / w) ((y + southStep D - 1) / w) c leaf-m)))
 
   -- m is p's neighbour on that side
-  pub touching-neighbour : neighbourOf n T p D ≡ Answered m
-  touching-neighbour = neighbour-is n T acc p (t .here .node) D (omega arith) ∙ beside-m
+  pub touching-neighbour : neighbourOf n T p D ≡ Answered (withLevel m (levelOf n T m))
+  touching-neighbour = neighbour-is n T acc p (t .here .node) D (omega arith) ∙ ap outcomeOf beside-m
 
   -- and the leaf at both ends of it
-  pub touching-corners : (C : ℕ) → C < 4 → adjOf D C ≡ true → cornerLeafOf n T p D C ≡ Answered m
+  pub touching-corners : (C : ℕ) → C < 4 → adjOf D C ≡ true → cornerLeafOf n T p D C ≡ Answered (withLevel m (levelOf n T m))
   touching-corners C corner a =
       corner-is n T acc p (t .here .node) D C side corner a
-      ∙ beyond-leaf-neighbour n T p D C
-      (record { accepted = acc; node = t .here .node; way = omega arith; corner = corner; on = side-on D C side a })
+      ∙ ap outcomeOf
+      (beyond-leaf-neighbour n T p (levelOf n T p) D C
+      (record { accepted = acc; node = t .here .node; own = refl; way = omega arith; corner = corner; on = side-on D C side a })
       m
+      (levelOf n T m)
       leaf-m
-      beside-m
+      beside-m)

@@ -7,10 +7,7 @@ use mathlib.Core.Path.{_≡_}
 use Prim.Native.Nat.{ℕ, zero, suc, _+_, _-_, _/_, _%_, _^_, _≤_, _<_}
 use lib.Dec.{ltb, eqb}
 use lib.ListN.{length}
-use Rattle.answer.specs.declared.Outcome.{Outcome}
-use Rattle.answer.specs.declared.Outcome.the-variants.{Answered, NoBlock}
-use Rattle.answer.specs.Numbers.{answers, valueOf}
-use Rattle.quad.specs.Block.{column, row}
+use Rattle.answer.specs.Numbers.{levelRoom, withLevel}
 use Rattle.quad.specs.Numbers.{none}
 use Rattle.quad.specs.Direction.{adjOf, reflectOf, opquadOf, commonSideOf}
 use Rattle.table.specs.Table.{nodes, son, isFork}
@@ -19,19 +16,6 @@ use Rattle.table.specs.Nodes.{pathTo, holder, levelOf}
 use Rattle.neighbour.specs.declared.Climb.{Climb}
 use Rattle.neighbour.specs.declared.Found.{Found}
 use Rattle.neighbour.specs.declared.Found.the-variants.{At, Off}
-use Rattle.neighbour.specs.Neighbour.{beside}
-
--- document 01's code and value for what a search ends on: the node, or code 20
-abbrev pub outcomeOf : Found → Outcome
-outcomeOf (At m l) = Answered m
-outcomeOf Off = NoBlock
-
--- the neighbour of p's block and its level, by the geometry of blocks: what the search gives to the crates above
-unfoldable pub neighbourFound : ℕ → List ℕ → ℕ → ℕ → Found
-neighbourFound n T p D =
-    let π = pathTo T n p in
-    let o = beside T (length π) (column π) (row π) D in
-    cond (answers o) (At (valueOf o) (levelOf n T (valueOf o))) Off
 
 -- no direction: the ninth, which stays
 abbrev pub stay : ℕ
@@ -116,15 +100,20 @@ cornerDown T q (suc k) p = stepTo T q (cornerDown T q k p)
 unfoldable pub cornerUnder : ℕ → List ℕ → ℕ → ℕ → ℕ
 cornerUnder n T q p = cornerDown T q (levelOf n T p) p
 
--- what the descent asks of its caller
-pub record Cornered (n : ℕ) (T : List ℕ) (p D C : ℕ) : Type 0 where
+-- that leaf and its level
+abbrev pub cornerAt : ℕ → List ℕ → ℕ → ℕ → Found
+cornerAt n T q p = let m = cornerUnder n T q p in At m (levelOf n T m)
+
+-- what the search for the leaf beyond a corner asks of its caller
+pub record Cornered (n : ℕ) (T : List ℕ) (p level D C : ℕ) : Type 0 where
   pub accepted : Accepted n T
   pub node : p < nodes T
+  pub own : level ≡ levelOf n T p
   pub way : D < stay
   pub corner : C < 4
   pub on : onwardOf D C ≡ D
 
--- a node number fits a word
+-- a node with its level beside it fits a word, and the level its room
 unfoldable pub Small : Found → Type 0
 Small Off = Unit {0}
-Small (At m l) = m ≤ none
+Small (At m l) = (withLevel m l ≤ none) × (l < levelRoom)

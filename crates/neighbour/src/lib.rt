@@ -1,6 +1,7 @@
 // Neighbours in eight directions, and the leaf at a corner (document 000, section 3): up to the nearest common ancestor, and back by reflected or
 // opposite moves.
 use answer::Outcome;
+use table::block::level_of;
 use table::son_type;
 use table::word_at;
 ghost use mathlib.Core.Path.{_≡_};
@@ -8,9 +9,9 @@ ghost use Prim.Native.Nat.{_<_};
 ghost use Rattle.quad.specs.Direction.{commonSideOf};
 ghost use Rattle.table.specs.Table.{nodes};
 ghost use Rattle.table.specs.Rules.{Accepted};
-ghost use Rattle.table.specs.Nodes.{pathTo, levelOf};
-ghost use Rattle.neighbour.specs.Search.{stay, onwardOf, mirrorOf, moved, foundIn, Sought, Climbed, Ended, Descends, backFrom, neighbourFound, outcomeOf, cornerUnder, Cornered, Small};
-ghost use Rattle.neighbour.specs.Neighbour.{leafBeyond};
+ghost use Rattle.table.specs.Nodes.{levelOf};
+ghost use Rattle.neighbour.specs.Search.{stay, onwardOf, mirrorOf, foundIn, Sought, Climbed, Ended, Descends, backFrom, cornerAt, Cornered, Small};
+ghost use Rattle.neighbour.specs.Neighbour.{neighbourFound, outcomeOf, leafBeyond};
 ghost use Rattle.neighbour.specs.Calls.{Neighbours, CornerLeaves, DiagonalLeaves};
 
 // What a search ends on: a node and its level, or no block of the sheet.
@@ -122,10 +123,10 @@ fn descend(n: u32, table: &[u32], from: Climb, level: u32) -> Found
     Found::At { node, level: its }
 }
 
-// The node that holds the block of p's size in that direction of p, with the level counted from p's `level` on: up one link and down one, one level each.
-fn seek(n: u32, table: &[u32], p: usize, level: u32, direction: usize) -> Found
-    requires { ⌜ Sought n (now table) p level direction ⌝ }
-    ensures { λ r. ⌜ r ≡ foundIn n (now (table .entry)) level (moved direction (pathTo (now (table .entry)) n p)) ⌝ }
+// The neighbour of p and the neighbour's level, from p and p's level: up one link and down one, one level each.
+pub fn find(n: u32, table: &[u32], p: usize, level: u32, direction: usize) -> Found
+    requires { ⌜ Accepted n (now table) × (p < nodes (now table)) × (level ≡ levelOf n (now table) p) × (direction < stay) ⌝ }
+    ensures { λ r. ⌜ r ≡ neighbourFound n (now (table .entry)) p direction ⌝ }
 {
     let top = ascend(n, table, p, level, direction);
     if top.direction != STAY {
@@ -134,23 +135,17 @@ fn seek(n: u32, table: &[u32], p: usize, level: u32, direction: usize) -> Found
     descend(n, table, top, level)
 }
 
-// The neighbour of p and the neighbour's level, from p and p's level.
-pub fn find(n: u32, table: &[u32], p: usize, level: u32, direction: usize) -> Found
-    requires { ⌜ Accepted n (now table) × (p < nodes (now table)) × (level ≡ levelOf n (now table) p) × (direction < stay) ⌝ }
-    ensures { λ r. ⌜ r ≡ neighbourFound n (now (table .entry)) p direction ⌝ }
-{
-    seek(n, table, p, level, direction)
-}
-
-// The outcome of a search: the node, or code 20.
+// The outcome of a search: the node with its level beside it, or code 20.
 fn outcome(found: Found) -> Outcome
     requires { ⌜ Small found ⌝ }
     ensures { λ r. ⌜ r ≡ outcomeOf found ⌝ }
 {
-    let Found::At { node, level: _ } = found else {
+    let Found::At { node, level } = found else {
         return Outcome::NoBlock;
     };
-    Outcome::Answered { value: node as u32 }
+    Outcome::Answered {
+        value: answer::with_level(node as u32, level),
+    }
 }
 
 // The neighbour of a node in a direction: the smallest node, at least as large, that contains the block of its size there.
@@ -164,34 +159,46 @@ pub fn neighbour(n: u32, table: &[u32], node: u32, direction: u32) -> Outcome
     if 7 < direction {
         return Outcome::BadDirection { given: direction };
     }
-    outcome(seek(n, table, node as usize, 0, direction as usize))
+    let level = level_of(n, table, node as usize);
+    outcome(find(n, table, node as usize, level, direction as usize))
 }
 
-// The leaf at a corner of a node's block: down by that quadrant as far as there are forks.
-fn corner_of(n: u32, table: &[u32], node: usize, quadrant: usize) -> usize
-    requires { ⌜ Accepted n (now table) × (node < nodes (now table)) × (quadrant < 4) ⌝ }
-    ensures { λ r. ⌜ r ≡ cornerUnder n (now (table .entry)) quadrant node ⌝ }
+// The leaf at a corner of a node's block, and its level: down by that quadrant as far as there are forks, a son link and a level at a time.
+fn corner_of(n: u32, table: &[u32], node: usize, level: u32, quadrant: usize) -> Found
+    requires { ⌜ Accepted n (now table) × (node < nodes (now table)) × (level ≡ levelOf n (now table) node) × (quadrant < 4) ⌝ }
+    ensures { λ r. ⌜ r ≡ cornerAt n (now (table .entry)) quadrant node ⌝ }
 {
     let mut p = node;
+    let mut its = level;
     while word_at(table, p, 5) == quad::FORK {
         p = word_at(table, p, 1 + quadrant);
+        its -= 1;
     }
-    p
+    Found::At {
+        node: p,
+        level: its,
+    }
 }
 
-// The leaf that holds the pixel in that direction of p's corner: the corner stands at an end of that side, or in that diagonal. From the neighbour down by
-// the mirrored corner.
-fn leaf_beyond(n: u32, table: &[u32], p: usize, direction: usize, corner: usize) -> Outcome
-    requires { ⌜ Cornered n (now table) p direction corner ⌝ }
+// The leaf that holds the pixel in that direction of p's corner, and its level: the corner stands at an end of that side, or in that diagonal. From the
+// neighbour down by the mirrored corner.
+fn leaf_beyond(
+    n: u32,
+    table: &[u32],
+    p: usize,
+    level: u32,
+    direction: usize,
+    corner: usize,
+) -> Found
+    requires { ⌜ Cornered n (now table) p level direction corner ⌝ }
     ensures { λ r. ⌜ r ≡ leafBeyond n (now (table .entry)) p corner direction ⌝ }
 {
-    let found = seek(n, table, p, 0, direction);
-    let Found::At { node, level: _ } = found else {
-        return Outcome::NoBlock;
+    let found = find(n, table, p, level, direction);
+    let Found::At { node, level: its } = found else {
+        return Found::Off;
     };
     let quadrant = mirror(direction, corner);
-    let leaf = corner_of(n, table, node, quadrant);
-    Outcome::Answered { value: leaf as u32 }
+    corner_of(n, table, node, its, quadrant)
 }
 
 // The leaf just outside a side of a node, at the corner that stands at one end of it.
@@ -211,7 +218,15 @@ pub fn corner_leaf(n: u32, table: &[u32], node: u32, side: u32, corner: u32) -> 
     if !quad::adj(side as usize, corner as usize) {
         return Outcome::BadDirection { given: corner };
     }
-    leaf_beyond(n, table, node as usize, side as usize, corner as usize)
+    let level = level_of(n, table, node as usize);
+    outcome(leaf_beyond(
+        n,
+        table,
+        node as usize,
+        level,
+        side as usize,
+        corner as usize,
+    ))
 }
 
 // The leaf diagonally beyond a corner of a node.
@@ -225,11 +240,13 @@ pub fn diagonal_leaf(n: u32, table: &[u32], node: u32, corner: u32) -> Outcome
     if 3 < corner {
         return Outcome::BadDirection { given: corner };
     }
-    leaf_beyond(
+    let level = level_of(n, table, node as usize);
+    outcome(leaf_beyond(
         n,
         table,
         node as usize,
+        level,
         4 + corner as usize,
         corner as usize,
-    )
+    ))
 }

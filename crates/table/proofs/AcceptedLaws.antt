@@ -14,7 +14,7 @@ use Rattle.quad.specs.Numbers.{topLevel, topColour, forkType, none}
 use Rattle.quad.specs.Tree.{Tree, leaf, fork, colour, Within, Reduced, Coloured, alike}
 use Rattle.quad.proofs.TreeLaws.{by-quadrant, alike-leaves}
 use Rattle.table.specs.Table.{nodes, father, son, type, isFork}
-use Rattle.table.specs.Links.{SonsIn}
+use Rattle.table.specs.Links.{Rising, SonsIn}
 use Rattle.table.specs.Rules.{depthTo, typeOk, fatherOk, timesNamed, onceOk, depthOk, allOf, sonAlike, mixedOk, Accepted, AtLevel}
 use Rattle.table.specs.Nodes.{sonType, treeAt, levelOf}
 use Rattle.table.proofs.RuleLaws.{depth-none, depth-root, depth-step, sons-in, sons-none, Passed, passed}
@@ -80,6 +80,10 @@ module _ (n : ℕ) (T : List ℕ) (acc : Accepted n T) where
   father-below p lt pos =
       let u = pass p lt .up in
       ltb-true _ _ (rw (ne-eqb p 0 (λ e. omega arith)) at u)
+
+  pub rising : (p : ℕ) → p < nodes T → Rising T (p + 1)
+  unfolding Rising
+  rising p lt k h pos = father-below k (omega arith) pos
 
   pub root-father : father T 0 ≡ none
   unfolding fatherOk

@@ -1,6 +1,7 @@
 // Where a node's block lies on the sheet.
 ghost use mathlib.Core.Path.{_≡_};
 ghost use Rattle.table.specs.Rules.{Asked};
+ghost use Rattle.table.specs.Nodes.{levelOf};
 ghost use Rattle.table.specs.Blocks.{blockOf};
 
 // The block in that column and row among the blocks of its level.
@@ -29,4 +30,12 @@ pub fn block_of(n: u32, table: &[u32], p: usize) -> Block
         q = super::word_at(table, q, 0);
     }
     Block { column, row, level }
+}
+
+// The level of node p: n less the father links from p to the root.
+pub fn level_of(n: u32, table: &[u32], p: usize) -> u32
+    requires { ⌜ Asked n (now table) p ⌝ }
+    ensures { λ r. ⌜ r ≡ levelOf n (now (table .entry)) p ⌝ }
+{
+    n - super::depth_to(table, n, p)
 }

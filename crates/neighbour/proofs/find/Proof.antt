@@ -1,21 +1,34 @@
--- `neighbour::find` starts the search at p's own level. Assumes nothing.
-use mathlib.Core.Path.{_∙_}
+-- `neighbour::find`: up from p's own level, and back down by the moves that the climb carried. Assumes nothing.
+use mathlib.Core.Logic.{⊎-elim}
+use mathlib.Core.Path.{ap, _∙_}
 use native.Mathlib.Omega.{arith}
-use Rattle.table.proofs.AcceptedLaws.{depth-le}
-use Rattle.neighbour.proofs.FoundLaws.{found-neighbour}
+use Rattle.neighbour.specs.Search.{foundIn}
+use Rattle.neighbour.proofs.ClimbLaws.{none-above, leads}
+use Rattle.neighbour.proofs.FoundLaws.{sought, found-neighbour}
 use Rattle.neighbour.proofs.find.Statement.{statement}
 use Rattle.neighbour.proofs.find.Tie as tie
 
-seek-requires : tie.Need-seek-requires
-seek-requires c κs =
-    let s = c .before .args in
-    let z = c .before .pre in
-    record { accepted = z .0; node = z .1; low = omega (arith, z .2, depth-le (s .table .now) (s .n) (s .p)); way = omega (arith, z .3) }
+ascend-requires : tie.Need-ascend-requires
+ascend-requires c κs = sought _ _ _ _ _ (c .before .pre)
 
 returns : tie.Need-returns
 returns c =
-    let z = c .before .before .pre in
-    c .seek .ensures ∙ rw (z .2) (found-neighbour _ _ (z .0) _ _ (z .1) (omega (arith, z .3)))
+    let z = c .before .before .before .before .pre in
+    let h = c .before .before .ascend .ensures in
+    none-above _ _ _ _ _ (sought _ _ _ _ _ z) _ (h .0) (⊎-elim (λ e. absurd (c .if1 .taken e)) (λ e. e) (h .1)) (c .if1 .taken)
+    ∙ found-neighbour _ _ _ _ _ z
+
+descend-requires : tie.Need-descend-requires
+descend-requires c κs =
+    let h = c .before .before .ascend .ensures .0 in
+    record { accepted = c .before .before .before .before .pre .0; node = h .node; low = h .low }
+
+returns-2 : tie.Need-returns-2
+returns-2 c =
+    let z = c .before .before .before .before .before .pre in
+    c .descend .ensures
+    ∙ ap (foundIn _ _ _) (leads _ _ _ _ _ (sought _ _ _ _ _ z) _ (c .before .before .before .ascend .ensures .0) (c .before .if1 .left))
+    ∙ found-neighbour _ _ _ _ _ z
 
 pub find-spec : {M : Type 1} → statement M
-find-spec = tie.close (tie.spec seek-requires returns)
+find-spec = tie.close (tie.spec ascend-requires returns descend-requires returns-2)

@@ -14,11 +14,14 @@ enum-told c = search needs
 returns : tie.Need-returns
 returns c = search needs
 
-cast-t3 : tie.Need-cast-t3
-cast-t3 c = omega (arith, small-at _ _ _ (c .before .before .before .pre) (c .before .found .given .1))
+cast-with-level : tie.Need-cast-with-level
+cast-with-level c = omega (arith, small-at _ _ _ (c .before .before .before .pre) (c .before .found .given .1))
+
+with-level-requires : tie.Need-with-level-requires
+with-level-requires c κs = small-at _ _ _ (c .before .before .before .pre) (c .before .found .given .1)
 
 returns-2 : tie.Need-returns-2
 returns-2 c = search (outcome-at, needs)
 
 pub outcome-spec : {M : Type 1} → statement M
-outcome-spec = tie.close (tie.spec enum-known-found enum-told returns cast-t3 returns-2)
+outcome-spec = tie.close (tie.spec enum-known-found enum-told returns cast-with-level with-level-requires returns-2)
