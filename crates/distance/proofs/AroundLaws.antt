@@ -16,7 +16,8 @@ use Rattle.table.specs.Nodes.{pixel, levelOf, centreAcross, centreDown}
 use Rattle.table.proofs.AcceptedLaws.{depth-le, level-top, level-is}
 use Rattle.neighbour.specs.declared.Found.{Found}
 use Rattle.neighbour.specs.declared.Found.the-variants.{At, Off}
-use Rattle.neighbour.specs.Search.{stay, neighbourFound}
+use Rattle.neighbour.specs.Neighbour.{neighbourFound}
+use Rattle.neighbour.specs.Search.{stay}
 use Rattle.neighbour.proofs.FoundLaws.{FoundAt, found-facts}
 use Rattle.distance.specs.Distance.{plainOutside, nearest, distanceAt}
 use Rattle.distance.specs.Search.{offsetFrom, Spot}

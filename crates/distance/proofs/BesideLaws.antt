@@ -15,7 +15,6 @@ use Rattle.base.specs.All.{all}
 use Rattle.base.proofs.AllLaws.{all-at}
 use Rattle.base.proofs.BoolLaws.{by-bool, lt-or-ge, and-left, and-right}
 use Rattle.base.proofs.PowLaws.{below-pow}
-use Rattle.answer.specs.declared.Outcome.the-variants.{Answered}
 use Rattle.quad.specs.Numbers.{white, none}
 use Rattle.quad.specs.Block.{pathOf, column, row, Quadrants}
 use Rattle.quad.specs.Direction.{eastStep, southStep}
@@ -29,11 +28,10 @@ use Rattle.table.proofs.HolderLaws.{held, own-quadrants, own-path, own-depth}
 use Rattle.table.proofs.BlockPixels.{pixel-block}
 use Rattle.neighbour.specs.declared.Found.{Found}
 use Rattle.neighbour.specs.declared.Found.the-variants.{At, Off}
-use Rattle.neighbour.specs.Neighbour.{beside}
-use Rattle.neighbour.specs.Search.{stay, neighbourFound}
+use Rattle.neighbour.specs.Neighbour.{neighbourFound}
+use Rattle.neighbour.specs.Search.{stay}
 use Rattle.neighbour.proofs.SearchLaws.{must-move}
-use Rattle.neighbour.proofs.FoundLaws.{neighbour-outcome}
-use Rattle.neighbour.proofs.NeighbourLaws.{lies, lies-answers}
+use Rattle.neighbour.proofs.NeighbourLaws.{lies, lies-found}
 use Rattle.distance.specs.Distance.{toPixel}
 use Rattle.distance.specs.Search.{offsetUnder}
 use Rattle.distance.specs.Around.{offsetFound, offsetBeside}
@@ -120,7 +118,7 @@ module _ (n : ℕ) (T : List ℕ) (acc : Accepted n T) (p : ℕ) (lt : p < nodes
       let c = h .down in
       let x : X + eastStep D - 1 ≡ B = omega arith in
       let y : Y + southStep D - 1 ≡ C = omega arith in
-      rw (lies-answers T depth X Y D (record { low = omega arith; high = omega arith }) (record { low = omega arith; high = omega arith }), x, y)
+      rw (lies-found n T depth X Y D (record { low = omega arith; high = omega arith }) (record { low = omega arith; high = omega arith }), x, y)
 
   -- at p's own level or, for a leaf, as if there
   pub beside-near : (D B C : ℕ) → Near D B C → offsetBeside n T p D ≡ offsetUnder T (eastStep D) (southStep D) level (there B C) 0 0
@@ -139,9 +137,9 @@ module _ (n : ℕ) (T : List ℕ) (acc : Accepted n T) (p : ℕ) (lt : p < nodes
 
   -- off the sheet there is none
   found-block : (D m k : ℕ) → neighbourFound n T p D ≡ At m k → (B : ℕ) × (C : ℕ) × Near D B C
+  unfolding neighbourFound
   found-block D m k e =
-      let o : beside T depth X Y D ≡ Answered m = sym (neighbour-outcome n T p D) ∙ rw e in
-      let i = lies T depth X Y D m o in
+      let i = lies n T depth X Y D m k e in
       let a = i .across .low in
       let a' = i .across .high in
       let b = i .down .low in

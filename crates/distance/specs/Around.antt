@@ -12,7 +12,7 @@ use Rattle.table.specs.Rules.{AtLevel}
 use Rattle.table.specs.Nodes.{levelOf}
 use Rattle.neighbour.specs.declared.Found.{Found}
 use Rattle.neighbour.specs.declared.Found.the-variants.{At, Off}
-use Rattle.neighbour.specs.Search.{neighbourFound}
+use Rattle.neighbour.specs.Neighbour.{neighbourFound}
 use Rattle.distance.specs.Search.{offsetFrom}
 
 -- the least offset of a white pixel under the node that a search in direction D ended on; off the sheet nothing is white

@@ -11,7 +11,7 @@ use Rattle.base.proofs.CaseLaws.{cond-case}
 use Rattle.base.proofs.SetsLaws.{overlay-length}
 use Rattle.answer.specs.declared.Outcome.{Outcome}
 use Rattle.answer.specs.declared.Outcome.the-variants.{Answered, BadByte, Absent, NoRoom}
-use Rattle.answer.specs.Numbers.{answers, andThen}
+use Rattle.answer.specs.Numbers.{withLevel, answers, andThen}
 use Rattle.base.specs.Tab.{overlay}
 use Rattle.quad.specs.Numbers.{topLevel, forkType, none}
 use Rattle.table.specs.Preorder.{preorderTable}
@@ -77,7 +77,7 @@ pub record Answers (s : List ℕ) (words v : ℕ) : Type 0 where
   pub level : ℕ
   pub tree : Tree
   pub whole : Whole s level tree
-  pub value : v ≡ 8 * sizeOf tree + level
+  pub value : v ≡ withLevel (sizeOf tree) level
   pub low : level ≤ topLevel
   pub fits : 6 * sizeOf tree ≤ words
 
@@ -85,7 +85,7 @@ pub read-answered : (s : List ℕ) (words v : ℕ) → readOf s words ≡ Answer
 unfolding readOf
 read-answered s words v h = go (openOf s) refl (open-told s) h
   where
-    sized : (n : ℕ) (t : Tree) (b : Bool) → ltb words (6 * sizeOf t) ≡ b → openOf s ≡ opened n t → andThen (cond b (NoRoom (6 * sizeOf t)) (Answered 0)) (Answered (8 * sizeOf t + n)) ≡ Answered v → Answers s words v
+    sized : (n : ℕ) (t : Tree) (b : Bool) → ltb words (6 * sizeOf t) ≡ b → openOf s ≡ opened n t → andThen (cond b (NoRoom (6 * sizeOf t)) (Answered 0)) (Answered (withLevel (sizeOf t) n)) ≡ Answered v → Answers s words v
     sized n t true q e h = absurd (let z : _≡_ {A = ℕ} 0 1 = cc in omega arith)
     sized n t false q e h =
         let w = open-whole s n t e in
@@ -102,7 +102,7 @@ unfolding readTable readOf
 read-length s old = go (openOf s) refl (open-told s)
   where
     sized : (n : ℕ) (t : Tree) (b : Bool) → ltb (length old) (6 * sizeOf t) ≡ b
-        → length (cond (answers (andThen (cond b (NoRoom (6 * sizeOf t)) (Answered 0)) (Answered (8 * sizeOf t + n)))) (overlay (preorderTable t) old) old) ≡ length old
+        → length (cond (answers (andThen (cond b (NoRoom (6 * sizeOf t)) (Answered 0)) (Answered (withLevel (sizeOf t) n)))) (overlay (preorderTable t) old) old) ≡ length old
     sized n t true q = refl
     sized n t false q = overlay-length (preorderTable t) old (omega (arith, ltb-false (length old) (6 * sizeOf t) q, preorder-length none 0 t))
 

@@ -1,7 +1,7 @@
 -- The read call: what it answers and leaves in the table, by what the first pass told.
 use mathlib.Core.List.{List}
 use mathlib.Core.Path.{_≡_, refl, sym, _∙_}
-use Prim.Native.Nat.{ℕ, _+_, _*_, _≤_, _<_}
+use Prim.Native.Nat.{ℕ, _*_, _≤_, _<_}
 use native.Mathlib.Nat.{zero-add}
 use native.Mathlib.Omega.{arith}
 use lib.ListN.{length}
@@ -9,7 +9,7 @@ use borrow.Author.Tests.{lt-ltb, le-ltb}
 use Rattle.base.proofs.CaseLaws.{cond-same}
 use Rattle.answer.specs.declared.Outcome.{Outcome}
 use Rattle.answer.specs.declared.Outcome.the-variants.{Answered, NoRoom}
-use Rattle.answer.specs.Numbers.{answers}
+use Rattle.answer.specs.Numbers.{withLevel, answers}
 use Rattle.quad.specs.Numbers.{topLevel, none, maxWords}
 use Rattle.quad.specs.Tree.{Tree, sizeOf}
 use Rattle.quad.proofs.TreeLaws.{size-fits}
@@ -78,12 +78,12 @@ module _ (s old : List ℕ) (c : Contents) (e : c ≡ contentsOf (openOf s)) whe
     }
 
     pub reads-sheet : 6 * count ≤ length old → (after : List ℕ) (r : ℕ) → Linked (treeIn (blockAt s n (placeOf 0))) none 0 old after r
-        → Reads s old (Answered (8 * count + n)) after
+        → (v : ℕ) → v ≡ withLevel count n → Reads s old (Answered v) after
     unfolding readOf readTable
-    reads-sheet le after r h =
+    reads-sheet le after r h v is =
         let t : Tree = its .tree in
         let w : Written none 0 t old after = rw (whole .block) at (h .words) in
         record {
-          answer = rw (its .is, its .size, le-ltb (length old) (6 * count) le);
+          answer = rw (is, its .is, its .size, le-ltb (length old) (6 * count) le);
           table = written-whole t old after (omega (arith, its .size)) w ∙ rw (its .is, its .size, le-ltb (length old) (6 * count) le);
         }

@@ -10,6 +10,7 @@ use Rattle.base.specs.Tab.{overlay}
 use Rattle.base.proofs.SetsLaws.{overlay-all}
 use Rattle.answer.specs.declared.Outcome.{Outcome}
 use Rattle.answer.specs.declared.Outcome.the-variants.{Answered}
+use Rattle.answer.specs.Numbers.{withLevel}
 use Rattle.quad.specs.Numbers.{none}
 use Rattle.quad.specs.Tree.{Tree, sizeOf}
 use Rattle.table.specs.Table.{nodes}
@@ -37,7 +38,7 @@ module _ (n : ℕ) (T old : List ℕ) (acc : Accepted n T) (room : 5 + 3 * nodes
 
 -- a file that opens, read where there is room
 module _ (s old : List ℕ) (n : ℕ) (t : Tree) (e : openOf s ≡ opened n t) (room : 6 * sizeOf t ≤ length old) where
-  pub read-value : readOf s (length old) ≡ Answered (8 * sizeOf t + n)
+  pub read-value : readOf s (length old) ≡ Answered (withLevel (sizeOf t) n)
   unfolding readOf
   read-value = rw (e, le-ltb (length old) (6 * sizeOf t) room)
 
@@ -47,7 +48,7 @@ module _ (s old : List ℕ) (n : ℕ) (t : Tree) (e : openOf s ≡ opened n t) (
 
 -- reading what was written, into a table of just its length, gives an accepted table of the same picture: the preorder one
 pub record Again (n : ℕ) (T : List ℕ) (r : Outcome) (U : List ℕ) : Type 0 where
-  pub answer : r ≡ Answered (8 * nodes T + n)
+  pub answer : r ≡ Answered (withLevel (nodes T) n)
   pub table : U ≡ preorderTable (treeAt T n 0)
   pub accepted : Accepted n U
   pub picture : (x y : ℕ) → pixel n U x y ≡ pixel n T x y

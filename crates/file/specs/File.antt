@@ -7,7 +7,7 @@ use lib.ListN.{length, getD}
 use Rattle.base.specs.Tab.{overlay}
 use Rattle.answer.specs.declared.Outcome.{Outcome}
 use Rattle.answer.specs.declared.Outcome.the-variants.{Answered, BadLevel, TooDeep, NeedlessFork, BadByte, Absent, BadCount}
-use Rattle.answer.specs.Numbers.{andThen, room, answers}
+use Rattle.answer.specs.Numbers.{withLevel, andThen, room, answers}
 use Rattle.quad.specs.Numbers.{topLevel, topColour, forkType}
 use Rattle.quad.specs.Tree.{Tree, leaf, fork, alike, sizeOf, typesOf}
 use Rattle.table.specs.Rules.{checkOf}
@@ -99,7 +99,7 @@ openOf s =
 
 -- reading: the answer is 8N + n; `words` is the length of the table that is lent
 abbrev pub readTo : Opened → ℕ → Outcome
-readTo (opened n t) words = andThen (room (6 * sizeOf t) words) (Answered (8 * sizeOf t + n))
+readTo (opened n t) words = andThen (room (6 * sizeOf t) words) (Answered (withLevel (sizeOf t) n))
 readTo (faulty o) words = o
 
 unfoldable pub readOf : List ℕ → ℕ → Outcome

@@ -255,7 +255,7 @@ pub fn read(file: &[u8], table: &mut [u32]) -> Outcome
             }
             link_block(file, level, table, 0, quad::NONE as u32);
             Outcome::Answered {
-                value: 8 * count + level,
+                value: answer::with_level(count, level),
             }
         }
     }

@@ -18,11 +18,10 @@ use Rattle.table.specs.Nodes.{pathTo, levelOf, sideOf, leftOf, topOf}
 use Rattle.table.proofs.AcceptedLaws.{depth-le}
 use Rattle.table.proofs.HolderLaws.{own-depth}
 use Rattle.neighbour.specs.declared.Found.the-variants.{At, Off}
-use Rattle.neighbour.specs.Neighbour.{neighbourOf}
+use Rattle.neighbour.specs.Neighbour.{neighbourFound}
 use Rattle.neighbour.specs.Containing.{Contains, Touches}
-use Rattle.neighbour.specs.Search.{neighbourFound, outcomeOf}
-use Rattle.neighbour.proofs.FoundLaws.{besideNode, neighbour-outcome, found-facts}
-use Rattle.neighbour.proofs.NeighbourLaws.{lies-answers, neighbour-is, neighbour-smallest, neighbour-fork}
+use Rattle.neighbour.proofs.FoundLaws.{found-facts}
+use Rattle.neighbour.proofs.NeighbourLaws.{lies-found, found-smallest}
 use Rattle.neighbour.proofs.PixelLaws.{contains-covers}
 use Rattle.neighbour.proofs.SideLaws.{on-sheet, leaf-holds}
 use Rattle.joins.specs.Chain.{Water}
@@ -67,9 +66,6 @@ module _ {n : ℕ} {T : List ℕ} {p l D : ℕ} (z : Beside n T p l D) where
 
   -- the neighbour m, of level k
   module _ {m k : ℕ} (f : neighbourFound n T p D ≡ At m k) where
-    answered : neighbourOf n T p D ≡ outcomeOf (At m k)
-    answered = neighbour-is n T acc p lp D direction ∙ sym (neighbour-outcome n T p D) ∙ ap outcomeOf f
-
     -- it holds the block beside p's
     over : LiesIn n T D m (aheadOf n T D p + sideOf n T p) (asideOf n T D p) (sideOf n T p)
     over =
@@ -78,7 +74,7 @@ module _ {n : ℕ} {T : List ℕ} {p l D : ℕ} (z : Beside n T p l D) where
         let w : ℕ = sideOf n T p in
         let x : ℕ = c + eastStep D - 1 in
         let y : ℕ = r + southStep D - 1 in
-        let h = contains-covers n T m (depthTo T n p) x y (depth-le T n p) (neighbour-smallest n T acc p lp D m direction answered .contains) in
+        let h = contains-covers n T m (depthTo T n p) x y (depth-le T n p) (found-smallest n T acc p lp D m k f .contains) in
         let b : Lies (leftOf n T m) (topOf n T m) (sideOf n T m) (x * w) (y * w) w =
         record {
           west = h .west;
@@ -103,7 +99,7 @@ module _ {n : ℕ} {T : List ℕ} {p l D : ℕ} (z : Beside n T p l D) where
               (record { west = omega arith; east = omega arith; north = omega arith; south = omega arith })
               (record { west = omega (arith, o .west); east = omega (arith, o .east); north = o .north; south = omega (arith, o .south) });
           flush = λ g.
-              let s = neighbour-fork n T acc p lp D m direction answered g in
+              let s : sideOf n T m ≡ sideOf n T p = ap (λ (l : ℕ). 2 ^ l) (sym (h .level) ∙ h .full g) in
               record { edge = omega (arith, o .west, o .east); low = omega (arith, o .south); high = omega (arith, o .north) };
         }
 
@@ -140,6 +136,7 @@ module _ {n : ℕ} {T : List ℕ} {p l D : ℕ} (z : Beside n T p l D) where
 
     -- which there is, since the pixel is on the sheet
     pub beyond-on : neighbourFound n T p D ≡ Off → ⊥
+    unfolding neighbourFound
     beyond-on f =
         let d : ℕ = depthTo T n p in
         let w : ℕ = sideOf n T p in
@@ -154,9 +151,8 @@ module _ {n : ℕ} {T : List ℕ} {p l D : ℕ} (z : Beside n T p l D) where
         let hx : c + eastStep D - 1 < 2 ^ d = lt-of-mul-lt-mul-right w (omega (arith, o .0, b .west)) in
         let hy : r + southStep D - 1 < 2 ^ d = lt-of-mul-lt-mul-right w (omega (arith, o .1, b .north)) in
         let e = steps way in
-        let a = lies-answers T d c r D
+        let a = lies-found n T d c r D
         (record { low = omega (arith, e .east); high = omega (arith, e .east) })
         (record { low = omega (arith, e .south); high = omega (arith, e .south) }) in
-        let g : besideNode n T p D ≡ outcomeOf Off = sym (neighbour-outcome n T p D) ∙ ap outcomeOf f in
-        let h = rw (own-depth n T acc p lp) at g in
+        let h = rw (own-depth n T acc p lp) at f in
         absurd (let x : _≡_ {A = ℕ} 0 1 = cc in omega arith)

@@ -10,13 +10,13 @@ use borrow.Author.Tests.{eq-eqb, ne-eqb}
 use Rattle.quad.specs.Direction.{eastStep, southStep}
 use Rattle.quad.specs.Numbers.{black, forkType}
 use Rattle.table.specs.Table.{nodes, word, son, type, isFork}
-use Rattle.table.specs.Rules.{depthTo, Accepted}
-use Rattle.table.specs.Links.{Rising}
-use Rattle.table.proofs.AcceptedLaws.{father-below, fork-above, son-at}
+use Rattle.table.specs.Rules.{Accepted}
+use Rattle.table.specs.Nodes.{levelOf}
+use Rattle.table.proofs.AcceptedLaws.{fork-above, son-at}
 use Rattle.neighbour.specs.declared.Found.{Found}
 use Rattle.neighbour.specs.declared.Found.the-variants.{At, Off}
 use Rattle.neighbour.specs.Containing.{Contains, Touches}
-use Rattle.neighbour.specs.Search.{neighbourFound}
+use Rattle.neighbour.specs.Neighbour.{neighbourFound}
 use Rattle.neighbour.proofs.SideLaws.{leaf-holds}
 use Rattle.joins.specs.Chain.{Water, end, link}
 use Rattle.joins.specs.Joining.{leaderOf, Together, Joined, Wired, Further, Forward, Beside, Flush, Bank, MetIn, Ashore, Reached, Met, MetSides, MetAll}
@@ -154,20 +154,10 @@ module _ {n : ℕ} {T : List ℕ} {p l D : ℕ} (z : Beside n T p l D) (found : 
         let a = r n (bank z (sym e ∙ f)) w in
         (a .0, λ q x y v t. same-or-not p q (λ s. ap (leaderOf W') s) (λ ne. a .1 q x y v t (beyond-in z v ne t (sym e ∙ f))))
 
--- p's level is asked of an accepted table
-pub rising : (n : ℕ) (T : List ℕ) → Accepted n T → (p : ℕ) → p < nodes T → Rising T (p + 1)
-unfolding Rising
-rising n T acc p lt k h pos = father-below n T acc k (omega arith) pos
-
--- and told by its depth
+-- a black leaf, its level and one of the two sides
 pub beside-at : {n : ℕ} {T : List ℕ} {p : ℕ} → Accepted n T → p < nodes T → (kind : ℕ) → kind ≡ type T p → kind ≡ black
-    → (depth : ℕ) → depth ≡ depthTo T n p → (D : ℕ) → Forward D → Beside n T p (n - depth) D
-beside-at {n} acc lt kind is b depth e D way = record {
-  accepted = acc;
-  water = record { node = lt; wet = sym is ∙ b };
-  level = ap (λ (d : ℕ). n - d) e;
-  way = way;
-}
+    → (l : ℕ) → l ≡ levelOf n T p → (D : ℕ) → Forward D → Beside n T p l D
+beside-at acc lt kind is b l e D way = record { accepted = acc; water = record { node = lt; wet = sym is ∙ b }; level = e; way = way }
 
 -- a node that is no black leaf has no side to look beyond
 pub sides-dry : (n : ℕ) (T W : List ℕ) (p kind : ℕ) → kind ≡ type T p → (kind ≡ black → ⊥) → MetSides n T W p

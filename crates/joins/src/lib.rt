@@ -104,7 +104,7 @@ fn around(n: u32, table: &[u32], words: &mut [u32], p: usize)
     if word_at(table, p, 5) != quad::BLACK {
         return;
     }
-    let level = n - table::depth_to(table, n, p);
+    let level = table::block::level_of(n, table, p);
     across(n, table, words, p, level, 1);
     across(n, table, words, p, level, 2);
 }

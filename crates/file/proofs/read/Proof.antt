@@ -29,11 +29,8 @@ cast-link-block c = search needs
 link-block-requires : tie.Need-link-block-requires
 link-block-requires c κs = search (link-asks, needs)
 
-mul-t12 : tie.Need-mul-t12
-mul-t12 c = omega (arith, sheet-fits _ (c .before .before .before .before .before .before .before .before .before .before .before .args .table .now) _ (c .before .before .before .before .before .before .before .before .survey .ensures) _ _ (c .before .before .before .before .before .before .contents2 .given .1))
-
-add-t15 : tie.Need-add-t15
-add-t15 c = omega (arith, sheet-fits _ (c .before .before .before .before .before .before .before .before .before .before .before .args .table .now) _ (c .before .before .before .before .before .before .before .before .survey .ensures) _ _ (c .before .before .before .before .before .before .contents2 .given .1))
+with-level-requires : tie.Need-with-level-requires
+with-level-requires c κs = omega (arith, sheet-fits _ (c .before .before .before .before .before .before .before .before .before .before .before .args .table .now) _ (c .before .before .before .before .before .before .before .before .survey .ensures) _ _ (c .before .before .before .before .before .before .contents2 .given .1))
 
 returns-2 : tie.Need-returns-2
 returns-2 c = search (reads-faulty, needs)
@@ -56,8 +53,7 @@ read-spec =
     returns
     cast-link-block
     link-block-requires
-    mul-t12
-    add-t15
+    with-level-requires
     returns-2
     same-length
     returns-3)

@@ -1,8 +1,7 @@
 -- `joins::around`: a black leaf is looked beyond on its two sides, one after the other. Assumes nothing.
 use native.Mathlib.Omega.{arith}
 use borrow.Author.Needs.{needs}
-use Rattle.table.proofs.AcceptedLaws.{depth-le}
-use Rattle.joins.proofs.MeetLaws.{further-none, rising, beside-at, sides-dry, both-sides}
+use Rattle.joins.proofs.MeetLaws.{further-none, beside-at, sides-dry, both-sides}
 use Rattle.joins.proofs.around.Statement.{statement}
 use Rattle.joins.proofs.around.Tie as tie
 
@@ -14,18 +13,15 @@ returns c =
     let w = c .before .before .before .before .pre .2 in
     (further-none _ _ _ w, sides-dry _ _ _ _ _ (c .before .word-at .ensures) (λ e. omega (arith, c .if1 .taken)))
 
-depth-to-requires : tie.Need-depth-to-requires
-depth-to-requires c κs = search (rising, needs)
-
-sub-level : tie.Need-sub-level
-sub-level c = let s = c .before .before .before .before .before .args in omega (arith, c .depth-to .ensures, depth-le (s .table .now) (s .n) (s .p))
+level-of-requires : tie.Need-level-of-requires
+level-of-requires c κs = search needs
 
 across-requires : tie.Need-across-requires
 across-requires c κs =
     let wet = c .before .before in
     let is = wet .before .word-at .ensures in
     let h = wet .before .before .before .before .pre in
-    (beside-at (h .0) (h .1) _ is (omega (arith, wet .if1 .left)) _ (c .before .depth-to .ensures) _ (omega arith, omega arith), h .2)
+    (beside-at (h .0) (h .1) _ is (omega (arith, wet .if1 .left)) _ (c .before .level-of .ensures) _ (omega arith, omega arith), h .2)
 
 across-requires-2 : tie.Need-across-requires-2
 across-requires-2 c κs =
@@ -34,7 +30,7 @@ across-requires-2 c κs =
     let wet = deep .before in
     let is = wet .before .word-at .ensures in
     let h = wet .before .before .before .before .pre in (
-      beside-at (h .0) (h .1) _ is (omega (arith, wet .if1 .left)) _ (deep .depth-to .ensures) _ (omega arith, omega arith),
+      beside-at (h .0) (h .1) _ is (omega (arith, wet .if1 .left)) _ (deep .level-of .ensures) _ (omega arith, omega arith),
       first .across .ensures .0 .wired,
     )
 
@@ -50,8 +46,7 @@ around-spec =
     (tie.spec
     word-at-requires
     returns
-    depth-to-requires
-    sub-level
+    level-of-requires
     across-requires
     across-requires-2
     same-length

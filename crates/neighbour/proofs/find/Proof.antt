@@ -1,7 +1,6 @@
 -- `neighbour::find`: up from p's own level, and back down by the moves that the climb carried. Assumes nothing.
 use mathlib.Core.Logic.{⊎-elim}
 use mathlib.Core.Path.{ap, _∙_}
-use native.Mathlib.Omega.{arith}
 use Rattle.neighbour.specs.Search.{foundIn}
 use Rattle.neighbour.proofs.ClimbLaws.{none-above, leads}
 use Rattle.neighbour.proofs.FoundLaws.{sought, found-neighbour}
