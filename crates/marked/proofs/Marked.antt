@@ -12,7 +12,7 @@ use Rattle.table.specs.Nodes.{firstQuadrant, sonType, pathTo, holder, pixel, tr
 use Rattle.table.specs.Preorder.{preorder}
 use Rattle.table.specs.SheetA.{rasterA, tableA, fileA}
 use Rattle.raster.specs.Raster.{rasterTree, pixelsFrom, buildOf, builtTable, rasterOf, decodeOf, decodedRaster}
-use Rattle.neighbour.specs.Neighbour.{beside, neighbourOf, cornerLeafOf}
+use Rattle.neighbour.specs.Neighbour.{beside, neighbourFound, neighbourOf, cornerLeafOf}
 use Rattle.file.specs.File.{records, fileOf, blockAt, openOf, readOf, readTable, writeOf, writtenFile}
 use Rattle.distance.specs.Distance.{toOutside, nearest, distanceAt, distanceOf}
 use Rattle.walk.specs.Walk.{badPlace, insideOf, outsideOf, stepOf}
@@ -21,7 +21,7 @@ use Rattle.walk.specs.Rows.{tally}
 use Rattle.marked.specs.Cases.{cases, allHold}
 
 pub marked : allHold cases ≡ true
-unfolding cases allHold trace tally badPlace insideOf outsideOf stepOf toOutside nearest distanceAt least openOf readOf beside neighbourOf cornerLeafOf rasterTree preorder firstQuadrant sonType pathTo holder pixel treeAt depthTo allOf typeOk fatherOk onceOk sonOk wordOk sonsOk depthOk sonAlike mixedOk faultAt faultFrom faultsOf lengthOk sizesOf eachNodeOf checkOf askedOf sameLeaf sizeOf sidesOf join treeOf eastStep southStep pathOf column row buildOf pixelsFrom
+unfolding cases allHold trace tally badPlace insideOf outsideOf stepOf toOutside nearest distanceAt least openOf readOf beside neighbourFound neighbourOf cornerLeafOf rasterTree preorder firstQuadrant sonType pathTo holder pixel treeAt depthTo allOf typeOk fatherOk onceOk sonOk wordOk sonsOk depthOk sonAlike mixedOk faultAt faultFrom faultsOf lengthOk sizesOf eachNodeOf checkOf askedOf sameLeaf sizeOf sidesOf join treeOf eastStep southStep pathOf column row buildOf pixelsFrom
 marked = refl
 
 -- sheet A is one picture as raster, table and file, in every direction; and the numbers given back with them

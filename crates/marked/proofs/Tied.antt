@@ -1,7 +1,7 @@
 -- The marked cases tied to the outside calls' own statements: every outcome that satisfies a call's statement on these sheets is document 01's number, or document 02's.
 use mathlib.Core.List.{List, [], _∷_}
 use mathlib.Core.Path.{_≡_, refl, ap, _∙_}
-use Prim.Native.Nat.{ℕ, _*_}
+use Prim.Native.Nat.{ℕ, _+_, _*_}
 use lib.ListN.{getD}
 use lib.Ieee.{Float}
 use Rattle.base.specs.Tab.{tab, tabFrom, least}
@@ -16,7 +16,7 @@ use Rattle.table.specs.Nodes.{firstQuadrant, sonType, pathTo, holder, pixel}
 use Rattle.table.specs.Preorder.{preorder}
 use Rattle.table.specs.SheetA.{tableA, tableK}
 use Rattle.raster.specs.Raster.{rasterTree, pixelsFrom, buildOf}
-use Rattle.neighbour.specs.Neighbour.{beside, neighbourOf, cornerLeafOf}
+use Rattle.neighbour.specs.Neighbour.{beside, neighbourFound, neighbourOf, cornerLeafOf}
 use Rattle.file.specs.File.{openOf, readOf}
 use Rattle.distance.specs.Distance.{toOutside, nearest, distanceAt, distancesOf, distanceOf, distancesAfter}
 use Rattle.ground.specs.Ground.{whole}
@@ -33,12 +33,13 @@ abbrev pub blank : ℕ → List ℕ
 blank k = tab (λ i. 7) k
 
 pub record Tied : Type 0 where
-  pub b : (r : ℕ) → FindsNeighbour 2 tableA 1 1 r → r ≡ 256 * 2
-  pub c : (r : ℕ) → FindsCornerLeaf 2 tableA 1 1 1 r → r ≡ 256 * 3
-  pub d : (r : ℕ) → FindsCornerLeaf 2 tableA 1 1 3 r → r ≡ 256 * 5
-  pub e : (r : ℕ) → FindsNeighbour 2 tableA 1 7 r → r ≡ 256 * 8
-  pub f : (r : ℕ) → FindsNeighbour 2 tableA 6 2 r → r ≡ 256 * 8
-  pub g : (r : ℕ) → FindsNeighbour 2 tableA 5 6 r → r ≡ 256 * 7
+  -- node × 8 + level (document 02, No. 3)
+  pub b : (r : ℕ) → FindsNeighbour 2 tableA 1 1 r → r ≡ 256 * (2 * 8 + 1)
+  pub c : (r : ℕ) → FindsCornerLeaf 2 tableA 1 1 1 r → r ≡ 256 * (3 * 8 + 0)
+  pub d : (r : ℕ) → FindsCornerLeaf 2 tableA 1 1 3 r → r ≡ 256 * (5 * 8 + 0)
+  pub e : (r : ℕ) → FindsNeighbour 2 tableA 1 7 r → r ≡ 256 * (8 * 8 + 1)
+  pub f : (r : ℕ) → FindsNeighbour 2 tableA 6 2 r → r ≡ 256 * (8 * 8 + 1)
+  pub g : (r : ℕ) → FindsNeighbour 2 tableA 5 6 r → r ≡ 256 * (7 * 8 + 1)
   pub h : (r : ℕ) → FindsNeighbour 2 tableA 1 4 r → r ≡ 20
   pub i-1 : (r : ℕ) (after : List ℕ) → FindsDistances 2 tableA (blank 9) r after → getD after 1 0 ≡ 2
   pub i-6 : (r : ℕ) (after : List ℕ) → FindsDistances 2 tableA (blank 9) r after → getD after 6 0 ≡ 1
@@ -52,7 +53,7 @@ pub record Tied : Type 0 where
   pub origin : (r : ℕ) (after : List Float) → FindsCentre 2 tableA 1 place lent r after → (r ≡ 0) × (after ≡ whole 1005 ∷ whole 1995 ∷ whole 7 ∷ [])
 
 pub tied : Tied
-unfolding toOutside nearest distanceAt distancesOf distanceOf distancesAfter least tabFrom openOf readOf beside neighbourOf cornerLeafOf rasterTree pixelsFrom buildOf preorder firstQuadrant sonType pathTo holder pixel depthTo allOf typeOk fatherOk onceOk sonOk wordOk sonsOk depthOk sonAlike mixedOk faultAt faultFrom faultsOf lengthOk sizesOf eachNodeOf checkOf askedOf sameLeaf sizeOf join treeOf eastStep southStep pathOf column row
+unfolding toOutside nearest distanceAt distancesOf distanceOf distancesAfter least tabFrom openOf readOf beside neighbourFound neighbourOf cornerLeafOf rasterTree pixelsFrom buildOf preorder firstQuadrant sonType pathTo holder pixel depthTo allOf typeOk fatherOk onceOk sonOk wordOk sonsOk depthOk sonAlike mixedOk faultAt faultFrom faultsOf lengthOk sizesOf eachNodeOf checkOf askedOf sameLeaf sizeOf join treeOf eastStep southStep pathOf column row
 tied = record {
   b = λ r s. given _ r _ s refl;
   c = λ r s. given _ r _ s refl;

@@ -1,19 +1,22 @@
 -- Wrong libraries, as a C caller would meet them, and the statements of the calls that each breaks (demand 2): one that refuses everything, one that names
--- the same node, distance or place always, one that writes nothing, one that lies half a pixel off. Sheet A is enough to tell.
+-- the same node, distance or place always, one that gives the asked node's level beside the answer's node, one that writes nothing, one that lies half a pixel
+-- off. Sheet A is enough to tell.
 use mathlib.Core.List.{List, [], _∷_}
 use mathlib.Core.Bool.{true}
 use mathlib.Core.Logic.{_⊎_, inl, inr}
 use mathlib.Core.Path.{_≡_, refl, ap, sym, _∙_}
-use Prim.Native.Nat.{ℕ, _*_, _/_, _%_, _^_, _<_}
+use Prim.Native.Nat.{ℕ, _+_, _*_, _/_, _%_, _^_, _<_}
 use native.Mathlib.Omega.{arith}
 use lib.ListN.{getD}
 use lib.Ieee.{Float, nan}
 use Rattle.base.specs.Tab.{tabFrom}
 use Rattle.answer.specs.declared.Outcome.{Outcome}
 use Rattle.answer.specs.declared.Outcome.the-variants.{Answered}
-use Rattle.answer.specs.Numbers.{answers, numberOf}
+use Rattle.answer.specs.Numbers.{answers, numberOf, levelIn}
 use Rattle.quad.specs.Numbers.{black}
 use Rattle.table.specs.Table.{nodes, type}
+use Rattle.table.specs.Rules.{depthTo}
+use Rattle.table.specs.Nodes.{levelOf}
 use Rattle.table.specs.SheetA.{rasterA, tableA, fileA}
 use Rattle.neighbour.proofs.OnSheetA.{on-sheet-a}
 use Rattle.ground.specs.declared.Ground.{Ground}
@@ -26,6 +29,19 @@ use Rattle.marked.proofs.Marked.{sheet-A}
 use Rattle.marked.proofs.Tied.{given, blank, tied}
 use Rattle.marked.proofs.PondsOnSheetA.{numbersA, ponds-on-A, old, three, entriesA, entries-on-A}
 
+-- the levels of nodes 1, 5 and 6, which the calls are asked
+level-1 : levelOf 2 tableA 1 ≡ 1
+unfolding depthTo
+level-1 = refl
+
+level-5 : levelOf 2 tableA 5 ≡ 0
+unfolding depthTo
+level-5 = refl
+
+level-6 : levelOf 2 tableA 6 ≡ 0
+unfolding depthTo
+level-6 = refl
+
 -- a call on a node: its numbers, which always meet its statement
 module _ (number : ℕ → List ℕ → ℕ → ℕ → ℕ) (meets : (n : ℕ) (T : List ℕ) (p D : ℕ) → FindsNeighbour n T p D (number n T p D)) where
   pub neighbour-answers : ((n : ℕ) (T : List ℕ) (p D : ℕ) → number n T p D % 256 ≡ 0 → ⊥) → ⊥
@@ -37,6 +53,12 @@ module _ (number : ℕ → List ℕ → ℕ → ℕ → ℕ) (meets : (n : ℕ) 
       let e = tied .e _ (meets 2 tableA 1 7) in
       omega (arith, b, e, same 2 tableA 1 1 (omega (arith, b)), same 2 tableA 1 7 (omega (arith, e)))
 
+  -- S of node 6 is larger than 6
+  pub neighbour-level-its-own : ((n : ℕ) (T : List ℕ) (p D : ℕ) → number n T p D % 256 ≡ 0 → levelIn (number n T p D / 256) ≡ levelOf n T p) → ⊥
+  neighbour-level-its-own asked =
+      let f = tied .f _ (meets 2 tableA 6 2) in
+      omega (arith, f, level-6, asked 2 tableA 6 2 (omega (arith, f)))
+
 module _ (number : ℕ → List ℕ → ℕ → ℕ → ℕ → ℕ) (meets : (n : ℕ) (T : List ℕ) (p D C : ℕ) → FindsCornerLeaf n T p D C (number n T p D C)) where
   pub corner-leaf-answers : ((n : ℕ) (T : List ℕ) (p D C : ℕ) → number n T p D C % 256 ≡ 0 → ⊥) → ⊥
   corner-leaf-answers refuses = refuses 2 tableA 1 1 1 (omega (arith, tied .c _ (meets 2 tableA 1 1 1)))
@@ -47,18 +69,31 @@ module _ (number : ℕ → List ℕ → ℕ → ℕ → ℕ → ℕ) (meets : (n
       let d = tied .d _ (meets 2 tableA 1 1 3) in
       omega (arith, c, d, same 2 tableA 1 1 1 (omega (arith, c)), same 2 tableA 1 1 3 (omega (arith, d)))
 
+  -- leaf 3 is smaller than node 1
+  pub corner-leaf-level-its-own : ((n : ℕ) (T : List ℕ) (p D C : ℕ) → number n T p D C % 256 ≡ 0 → levelIn (number n T p D C / 256) ≡ levelOf n T p) → ⊥
+  corner-leaf-level-its-own asked =
+      let c = tied .c _ (meets 2 tableA 1 1 1) in
+      omega (arith, c, level-1, asked 2 tableA 1 1 1 (omega (arith, c)))
+
 module _ (number : ℕ → List ℕ → ℕ → ℕ → ℕ) (meets : (n : ℕ) (T : List ℕ) (p C : ℕ) → FindsDiagonalLeaf n T p C (number n T p C)) where
-  beyond : number 2 tableA 1 3 ≡ 256 * 8
+  beyond : number 2 tableA 1 3 ≡ 256 * (8 * 8 + 1)
   beyond = given _ _ _ (meets 2 tableA 1 3) (rw (on-sheet-a .beyond))
 
-  across : number 2 tableA 5 1 ≡ 256 * 4
+  across : number 2 tableA 5 1 ≡ 256 * (4 * 8 + 0)
   across = given _ _ _ (meets 2 tableA 5 1) (rw (on-sheet-a .across))
+
+  larger : number 2 tableA 5 2 ≡ 256 * (7 * 8 + 1)
+  larger = given _ _ _ (meets 2 tableA 5 2) (rw (on-sheet-a .larger))
 
   pub diagonal-leaf-answers : ((n : ℕ) (T : List ℕ) (p C : ℕ) → number n T p C % 256 ≡ 0 → ⊥) → ⊥
   diagonal-leaf-answers refuses = refuses 2 tableA 1 3 (omega (arith, beyond))
 
   pub diagonal-leaf-names : (m : ℕ) → ((n : ℕ) (T : List ℕ) (p C : ℕ) → number n T p C % 256 ≡ 0 → number n T p C / 256 ≡ m) → ⊥
   diagonal-leaf-names m same = omega (arith, beyond, across, same 2 tableA 1 3 (omega (arith, beyond)), same 2 tableA 5 1 (omega (arith, across)))
+
+  -- leaf 7 is larger than node 5
+  pub diagonal-leaf-level-its-own : ((n : ℕ) (T : List ℕ) (p C : ℕ) → number n T p C % 256 ≡ 0 → levelIn (number n T p C / 256) ≡ levelOf n T p) → ⊥
+  diagonal-leaf-level-its-own asked = omega (arith, larger, level-5, asked 2 tableA 5 2 (omega (arith, larger)))
 
 -- a call that fills a buffer: its numbers and what it leaves
 module _ (number : ℕ → List ℕ → List ℕ → ℕ) (after : ℕ → List ℕ → List ℕ → List ℕ) where

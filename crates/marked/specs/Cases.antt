@@ -1,7 +1,7 @@
 -- The marked cases as one table: what the definitions give, beside the number of document 01.
 use mathlib.Core.Bool.{Bool, true, _&&_}
 use mathlib.Core.List.{List, [], _∷_}
-use Prim.Native.Nat.{ℕ, _*_}
+use Prim.Native.Nat.{ℕ, _+_, _*_}
 use lib.Dec.{eqb}
 use Rattle.answer.specs.Numbers.{numberOf}
 use Rattle.quad.specs.Numbers.{none, black, forkType}
@@ -47,16 +47,16 @@ cases =
     ∷ is (firstAnswers stops 38 2 tableA) 0
     ∷ is (firstAnswers dones 39 2 tableA) 1
     ∷ is (firstAnswers moves 38 2 tableA) 24
-    -- (b) E of node 1 is node 2, a fork
-    ∷ is (numberOf (neighbourOf 2 tableA 1 1)) (256 * 2)
+    -- (b) E of node 1 is node 2, a fork; from here to (g) the value is node × 8 + level (document 02, No. 3)
+    ∷ is (numberOf (neighbourOf 2 tableA 1 1)) (256 * (2 * 8 + 1))
     ∷ is (type tableA 2) forkType
     -- (c) its eastern leaf at NE is 3; (d) at SE is 5
-    ∷ is (numberOf (cornerLeafOf 2 tableA 1 1 1)) (256 * 3)
-    ∷ is (numberOf (cornerLeafOf 2 tableA 1 1 3)) (256 * 5)
+    ∷ is (numberOf (cornerLeafOf 2 tableA 1 1 1)) (256 * (3 * 8 + 0))
+    ∷ is (numberOf (cornerLeafOf 2 tableA 1 1 3)) (256 * (5 * 8 + 0))
     -- (e) SE of 1 is 8; (f) S of 6 is 8; (g) SW of 5 is 7; (h) NW of 1 is code 20
-    ∷ is (numberOf (neighbourOf 2 tableA 1 7)) (256 * 8)
-    ∷ is (numberOf (neighbourOf 2 tableA 6 2)) (256 * 8)
-    ∷ is (numberOf (neighbourOf 2 tableA 5 6)) (256 * 7)
+    ∷ is (numberOf (neighbourOf 2 tableA 1 7)) (256 * (8 * 8 + 1))
+    ∷ is (numberOf (neighbourOf 2 tableA 6 2)) (256 * (8 * 8 + 1))
+    ∷ is (numberOf (neighbourOf 2 tableA 5 6)) (256 * (7 * 8 + 1))
     ∷ is (numberOf (neighbourOf 2 tableA 1 4)) 20
     -- (i) distances are 2 at node 1 and 1 at node 6
     ∷ is (distanceAt plainOutside 2 tableA 1) 2

@@ -24,6 +24,7 @@ pub record OnSheetA : Type 0 where
   pub apart : (cornerLeafOf 2 tableA 1 1 0 ≡ BadDirection 0) × (cornerLeafOf 2 tableA 1 1 2 ≡ BadDirection 2)
   pub beyond : diagonalLeafOf 2 tableA 1 3 ≡ Answered (withLevel 8 1)
   pub across : diagonalLeafOf 2 tableA 5 1 ≡ Answered (withLevel 4 0)
+  pub larger : diagonalLeafOf 2 tableA 5 2 ≡ Answered (withLevel 7 1)
   pub under : (father tableA 6 ≡ 2) × (type tableA 6 ≡ black)
 
 pub on-sheet-a : OnSheetA
@@ -36,6 +37,7 @@ on-sheet-a = record {
   apart = (refl, refl);
   beyond = refl;
   across = refl;
+  larger = refl;
   under = (refl, refl);
 }
 
