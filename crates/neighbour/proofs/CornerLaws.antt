@@ -120,7 +120,7 @@ pub diagonal-on : (C : ℕ) → C < 4 → onwardOf (diagonal C) C ≡ diagonal C
 unfolding onwardOf
 diagonal-on C lt = eqb-true _ _ (all-at (λ (C : ℕ). eqb (onwardOf (diagonal C) C) (diagonal C)) 4 refl C lt)
 
-module _ (n : ℕ) (T : List ℕ) (p level D C : ℕ) (z : Cornered n T p level D C) where
+module _ (n : ℕ) (T : List ℕ) (p D C : ℕ) (z : Cornered n T p D C) where
   acc : Accepted n T
   acc = z .accepted
 

@@ -167,8 +167,8 @@ module _
   touching-corners C corner a =
       corner-is n T acc p (t .here .node) D C side corner a
       ∙ ap outcomeOf
-      (beyond-leaf-neighbour n T p (levelOf n T p) D C
-      (record { accepted = acc; node = t .here .node; own = refl; way = omega arith; corner = corner; on = side-on D C side a })
+      (beyond-leaf-neighbour n T p D C
+      (record { accepted = acc; node = t .here .node; way = omega arith; corner = corner; on = side-on D C side a })
       m
       (levelOf n T m)
       leaf-m

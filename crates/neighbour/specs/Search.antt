@@ -105,10 +105,9 @@ abbrev pub cornerAt : ℕ → List ℕ → ℕ → ℕ → Found
 cornerAt n T q p = let m = cornerUnder n T q p in At m (levelOf n T m)
 
 -- what the search for the leaf beyond a corner asks of its caller
-pub record Cornered (n : ℕ) (T : List ℕ) (p level D C : ℕ) : Type 0 where
+pub record Cornered (n : ℕ) (T : List ℕ) (p D C : ℕ) : Type 0 where
   pub accepted : Accepted n T
   pub node : p < nodes T
-  pub own : level ≡ levelOf n T p
   pub way : D < stay
   pub corner : C < 4
   pub on : onwardOf D C ≡ D

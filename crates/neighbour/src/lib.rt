@@ -1,5 +1,5 @@
 // Neighbours in eight directions, and the leaf at a corner (document 000, section 3): up to the nearest common ancestor, and back by reflected or
-// opposite moves.
+// opposite moves. A level goes along: one more for each link up, one less for each link down.
 use answer::Outcome;
 use table::block::level_of;
 use table::son_type;
@@ -123,7 +123,7 @@ fn descend(n: u32, table: &[u32], from: Climb, level: u32) -> Found
     Found::At { node, level: its }
 }
 
-// The neighbour of p and the neighbour's level, from p and p's level: up one link and down one, one level each.
+// The neighbour of p and the neighbour's level, from p and p's level.
 pub fn find(n: u32, table: &[u32], p: usize, level: u32, direction: usize) -> Found
     requires { ⌜ Accepted n (now table) × (p < nodes (now table)) × (level ≡ levelOf n (now table) p) × (direction < stay) ⌝ }
     ensures { λ r. ⌜ r ≡ neighbourFound n (now (table .entry)) p direction ⌝ }
@@ -148,7 +148,8 @@ fn outcome(found: Found) -> Outcome
     }
 }
 
-// The neighbour of a node in a direction: the smallest node, at least as large, that contains the block of its size there.
+// The neighbour of a node in a direction: the smallest node, at least as large, that contains the block of its size there. It starts from the node's own
+// level, for which it climbs to the root, since its caller gives none; so do the two calls below.
 pub fn neighbour(n: u32, table: &[u32], node: u32, direction: u32) -> Outcome
     ensures { λ r. ⌜ Neighbours n (now (table .entry)) node direction r ⌝ }
 {
@@ -182,17 +183,11 @@ fn corner_of(n: u32, table: &[u32], node: usize, level: u32, quadrant: usize) ->
 
 // The leaf that holds the pixel in that direction of p's corner, and its level: the corner stands at an end of that side, or in that diagonal. From the
 // neighbour down by the mirrored corner.
-fn leaf_beyond(
-    n: u32,
-    table: &[u32],
-    p: usize,
-    level: u32,
-    direction: usize,
-    corner: usize,
-) -> Found
-    requires { ⌜ Cornered n (now table) p level direction corner ⌝ }
+fn leaf_beyond(n: u32, table: &[u32], p: usize, direction: usize, corner: usize) -> Found
+    requires { ⌜ Cornered n (now table) p direction corner ⌝ }
     ensures { λ r. ⌜ r ≡ leafBeyond n (now (table .entry)) p corner direction ⌝ }
 {
+    let level = level_of(n, table, p);
     let found = find(n, table, p, level, direction);
     let Found::At { node, level: its } = found else {
         return Found::Off;
@@ -218,15 +213,7 @@ pub fn corner_leaf(n: u32, table: &[u32], node: u32, side: u32, corner: u32) -> 
     if !quad::adj(side as usize, corner as usize) {
         return Outcome::BadDirection { given: corner };
     }
-    let level = level_of(n, table, node as usize);
-    outcome(leaf_beyond(
-        n,
-        table,
-        node as usize,
-        level,
-        side as usize,
-        corner as usize,
-    ))
+    outcome(leaf_beyond(n, table, node as usize, side as usize, corner as usize))
 }
 
 // The leaf diagonally beyond a corner of a node.
@@ -240,12 +227,10 @@ pub fn diagonal_leaf(n: u32, table: &[u32], node: u32, corner: u32) -> Outcome
     if 3 < corner {
         return Outcome::BadDirection { given: corner };
     }
-    let level = level_of(n, table, node as usize);
     outcome(leaf_beyond(
         n,
         table,
         node as usize,
-        level,
         4 + corner as usize,
         corner as usize,
     ))

@@ -37,33 +37,22 @@ returns-4 : tie.Need-returns-4
 unfolding cornerLeafOf
 returns-4 c = search (thens, bounds, needs)
 
-level-of-requires : tie.Need-level-of-requires
-level-of-requires c κs = search (asked-call, needs)
-
 leaf-beyond-requires : tie.Need-leaf-beyond-requires
 leaf-beyond-requires c κs =
-    let t = c .before in
-    let s = t .before .before .before .before .before .before .before .before .args in
-    let k = asked-call _ _ _ _ _ (t .before .before .before .before .before .before .asked .ensures) (t .before .before .before .before .before .answered .ensures) (t .before .before .before .before .if1 .left) in
-    record {
-      accepted = k .accepted;
-      node = k .node;
-      own = c .level-of .ensures;
-      way = omega arith;
-      corner = omega arith;
-      on = side-on (s .side) (s .corner) (omega arith) (on _ _ (t .before .adj .ensures) (t .if4 .left));
-    }
+    let s = c .before .before .before .before .before .before .before .before .args in
+    let k = asked-call _ _ _ _ _ (c .before .before .before .before .before .before .asked .ensures) (c .before .before .before .before .before .answered .ensures) (c .before .before .before .before .if1 .left) in
+    record { accepted = k .accepted; node = k .node; way = omega arith; corner = omega arith; on = side-on (s .side) (s .corner) (omega arith) (on _ _ (c .before .adj .ensures) (c .if4 .left)) }
 
 outcome-requires : tie.Need-outcome-requires
 outcome-requires c κs =
-    let t = c .before .before in
+    let t = c .before in
     let k = asked-call _ _ _ _ _ (t .before .before .before .before .before .before .asked .ensures) (t .before .before .before .before .before .answered .ensures) (t .before .before .before .before .if1 .left) in
     rw (c .leaf-beyond .ensures) (beside-small _ _ (k .accepted) _ _ _ _)
 
 returns-5 : tie.Need-returns-5
 unfolding cornerLeafOf
 returns-5 c =
-    let t = c .before .before .before in
+    let t = c .before .before in
     let s = t .before .before .before .before .before .before .before .before .args in
     then-go _ _ _ _ (t .before .before .before .before .before .before .asked .ensures) (t .before .before .before .before .before .answered .ensures) _ (t .before .before .before .before .if1 .left)
     (good-within 3 (s .side) _ _ (omega arith)
@@ -81,7 +70,6 @@ corner-leaf-spec =
     returns-3
     adj-requires
     returns-4
-    level-of-requires
     leaf-beyond-requires
     outcome-requires
     returns-5)

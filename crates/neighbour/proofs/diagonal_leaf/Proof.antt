@@ -25,29 +25,18 @@ returns-2 : tie.Need-returns-2
 unfolding diagonalLeafOf
 returns-2 c = search (thens, bounds, needs)
 
-level-of-requires : tie.Need-level-of-requires
-level-of-requires c κs = search (asked-call, needs)
-
 add-leaf-beyond : tie.Need-add-leaf-beyond
 add-leaf-beyond c = search needs
 
 leaf-beyond-requires : tie.Need-leaf-beyond-requires
 leaf-beyond-requires c κs =
-    let t = c .before in
-    let s = t .before .before .before .before .before .args in
-    let k = asked-call _ _ _ _ _ (t .before .before .before .asked .ensures) (t .before .before .answered .ensures) (t .before .if1 .left) in
-    record {
-      accepted = k .accepted;
-      node = k .node;
-      own = c .level-of .ensures;
-      way = omega arith;
-      corner = omega arith;
-      on = diagonal-on (s .corner) (omega arith);
-    }
+    let s = c .before .before .before .before .before .args in
+    let k = asked-call _ _ _ _ _ (c .before .before .before .asked .ensures) (c .before .before .answered .ensures) (c .before .if1 .left) in
+    record { accepted = k .accepted; node = k .node; way = omega arith; corner = omega arith; on = diagonal-on (s .corner) (omega arith) }
 
 outcome-requires : tie.Need-outcome-requires
 outcome-requires c κs =
-    let t = c .before .before in
+    let t = c .before in
     let k = asked-call _ _ _ _ _ (t .before .before .before .asked .ensures) (t .before .before .answered .ensures) (t .before .if1 .left) in
     rw (c .leaf-beyond .ensures) (beside-small _ _ (k .accepted) _ _ _ _)
 
@@ -65,7 +54,6 @@ diagonal-leaf-spec =
     answered-requires
     returns
     returns-2
-    level-of-requires
     add-leaf-beyond
     leaf-beyond-requires
     outcome-requires
