@@ -43,7 +43,7 @@ module _ (n : ℕ) (T W : List ℕ) (e : W ≡ tab (ownOf T) (nodes T)) where
         rw o (end w);
   }
 
-module _ (n : ℕ) (T W : List ℕ) (met : MetAll n T W (nodes T)) where
+module _ (n : ℕ) (T W : List ℕ) (met : MetAll n T W) where
   -- leaves that share a length of side: they are met from the one that has the other on its side E or S
   one-side : (p q : ℕ) → Water T p → Water T q → Shares n T p q → leaderOf W p ≡ leaderOf W q
   unfolding Met

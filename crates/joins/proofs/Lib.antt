@@ -5,4 +5,5 @@ pub mod SettleLaws
 pub mod BankLaws
 pub mod BeyondLaws
 pub mod MeetLaws
+pub mod UnderLaws
 pub mod LedLaws

@@ -10,8 +10,7 @@ use borrow.Author.Tests.{eq-eqb, ne-eqb}
 use Rattle.quad.specs.Direction.{eastStep, southStep}
 use Rattle.quad.specs.Numbers.{black, forkType}
 use Rattle.table.specs.Table.{nodes, word, son, type, isFork}
-use Rattle.table.specs.Rules.{Accepted}
-use Rattle.table.specs.Nodes.{levelOf}
+use Rattle.table.specs.Rules.{AtLevel}
 use Rattle.table.proofs.AcceptedLaws.{fork-above, son-at}
 use Rattle.neighbour.specs.declared.Found.{Found}
 use Rattle.neighbour.specs.declared.Found.the-variants.{At, Off}
@@ -19,19 +18,19 @@ use Rattle.neighbour.specs.Containing.{Contains, Touches}
 use Rattle.neighbour.specs.Neighbour.{neighbourFound}
 use Rattle.neighbour.proofs.SideLaws.{leaf-holds}
 use Rattle.joins.specs.Chain.{Water, end, link}
-use Rattle.joins.specs.Joining.{leaderOf, Together, Joined, Wired, Further, Forward, Beside, Flush, Bank, MetIn, Ashore, Reached, Met, MetSides, MetAll}
-use Rattle.joins.proofs.LeaderLaws.{same-or-not, last-or-before}
+use Rattle.joins.specs.Joining.{leaderOf, Together, Joined, Wired, Further, Forward, Beside, Flush, Bank, MetIn, Ashore, Reached, Met, MetSides}
+use Rattle.joins.proofs.LeaderLaws.{same-or-not}
 use Rattle.joins.proofs.BankLaws.{Side, east, south, side-of, pixel-lies, next-lies, lies-next, flush-shares, flush-first, flush-second, near}
 use Rattle.joins.proofs.BeyondLaws.{water-leaf, bank, beyond-in, beyond-on}
 
 pub further-none : (n : ℕ) (T W : List ℕ) → Wired n T W → Further n T W W
 further-none n T W w = record { wired = w; together = λ i j e. e }
 
-further-on : (n : ℕ) (T W W' W'' : List ℕ) → Further n T W W' → Further n T W' W'' → Further n T W W''
+pub further-on : (n : ℕ) (T W W' W'' : List ℕ) → Further n T W W' → Further n T W' W'' → Further n T W W''
 further-on n T W W' W'' f g = record { wired = g .wired; together = λ i j e. g .together i j (f .together i j e) }
 
 -- what has been met stays so
-met-still : (n : ℕ) (T W W' : List ℕ) (p D : ℕ) → Together W W' → Met n T W p D → Met n T W' p D
+pub met-still : (n : ℕ) (T W W' : List ℕ) (p D : ℕ) → Together W W' → Met n T W p D → Met n T W' p D
 unfolding Met
 met-still n T W W' p D t h q x y v c = t p q (h q x y v c)
 
@@ -155,9 +154,13 @@ module _ {n : ℕ} {T : List ℕ} {p l D : ℕ} (z : Beside n T p l D) (found : 
         (a .0, λ q x y v t. same-or-not p q (λ s. ap (leaderOf W') s) (λ ne. a .1 q x y v t (beyond-in z v ne t (sym e ∙ f))))
 
 -- a black leaf, its level and one of the two sides
-pub beside-at : {n : ℕ} {T : List ℕ} {p : ℕ} → Accepted n T → p < nodes T → (kind : ℕ) → kind ≡ type T p → kind ≡ black
-    → (l : ℕ) → l ≡ levelOf n T p → (D : ℕ) → Forward D → Beside n T p l D
-beside-at acc lt kind is b l e D way = record { accepted = acc; water = record { node = lt; wet = sym is ∙ b }; level = e; way = way }
+pub beside-at : {n : ℕ} {T : List ℕ} {p l : ℕ} → AtLevel n T p l → (kind : ℕ) → kind ≡ type T p → kind ≡ black → (D : ℕ) → Forward D → Beside n T p l D
+beside-at h kind is b D way = record {
+  accepted = h .accepted;
+  water = record { node = h .node; wet = sym is ∙ b };
+  level = omega (arith, h .level);
+  way = way;
+}
 
 -- a node that is no black leaf has no side to look beyond
 pub sides-dry : (n : ℕ) (T W : List ℕ) (p kind : ℕ) → kind ≡ type T p → (kind ≡ black → ⊥) → MetSides n T W p
@@ -172,10 +175,3 @@ pub both-sides : (n : ℕ) (T W W' W'' : List ℕ) (p : ℕ) → Further n T W W
     → Further n T W W'' × MetSides n T W'' p
 both-sides n T W W' W'' p a b =
     (further-on n T W W' W'' (a .0) (b .0), λ v D w. by-side (Met n T W'' p) (met-still n T W' W'' p 1 (b .0 .together) (a .1)) (b .1) (side-of D w))
-
--- the sides of one node more
-pub met-more : (n : ℕ) (T W W' : List ℕ) (p : ℕ) → MetAll n T W p → Further n T W W' × MetSides n T W' p → MetAll n T W' (p + 1)
-met-more n T W W' p h a i l =
-    last-or-before i p l
-    (λ e. rw e (a .1))
-    (λ g v D s. met-still n T W W' i D (a .0 .together) (h i g v D s))

@@ -8,7 +8,7 @@ use lib.Dec.{eqb}
 use lib.ListN.{length}
 use Rattle.quad.specs.Numbers.{black}
 use Rattle.quad.specs.Direction.{eastStep, southStep}
-use Rattle.table.specs.Table.{nodes, type, isFork}
+use Rattle.table.specs.Table.{nodes, son, type, isFork}
 use Rattle.table.specs.Rules.{Accepted, AtLevel}
 use Rattle.table.specs.Nodes.{levelOf, sideOf, leftOf, topOf}
 use Rattle.neighbour.specs.Containing.{Contains, Touches}
@@ -132,6 +132,11 @@ Met n T W p D = (q x y : ℕ) → Water T q → Touches n T p q D x y → leader
 abbrev pub MetSides : ℕ → List ℕ → List ℕ → ℕ → Type 0
 MetSides n T W p = Water T p → (D : ℕ) → Forward D → Met n T W p D
 
--- each node before k has been so met
-abbrev pub MetAll : ℕ → List ℕ → List ℕ → ℕ → Type 0
-MetAll n T W k = (i : ℕ) → i < k → MetSides n T W i
+-- so every node in or under p, which has l levels below it
+unfoldable pub MetUnder : ℕ → List ℕ → List ℕ → ℕ → ℕ → Type 0
+MetUnder n T W zero p = MetSides n T W p
+MetUnder n T W (suc l) p = MetSides n T W p × (isFork T p ≡ true → (q : ℕ) → q < 4 → MetUnder n T W l (son T p q))
+
+-- and so every node
+abbrev pub MetAll : ℕ → List ℕ → List ℕ → Type 0
+MetAll n T W = (i : ℕ) → i < nodes T → MetSides n T W i

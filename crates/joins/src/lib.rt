@@ -8,9 +8,9 @@ ghost use lib.ListN.{length};
 ghost use Rattle.base.specs.Tab.{tab};
 ghost use Rattle.quad.specs.Numbers.{maxWords};
 ghost use Rattle.table.specs.Table.{nodes};
-ghost use Rattle.table.specs.Rules.{Accepted};
+ghost use Rattle.table.specs.Rules.{Accepted, AtLevel};
 ghost use Rattle.joins.specs.Led.{Led};
-ghost use Rattle.joins.specs.Joining.{leaderOf, ownOf, Falling, Kept, Joined, Settled, Wired, Further, Beside, Ashore, Reached, Met, MetSides, MetAll};
+ghost use Rattle.joins.specs.Joining.{leaderOf, ownOf, Falling, Kept, Joined, Settled, Wired, Further, Beside, Ashore, Reached, Met, MetSides, MetUnder};
 
 // The word that a node begins with: a black leaf's is itself, the others' are 0.
 fn own(table: &[u32], p: usize) -> u32
@@ -96,29 +96,36 @@ fn across(n: u32, table: &[u32], words: &mut [u32], p: usize, level: u32, side: 
     shore(table, words, p, node, its, side);
 }
 
-// Joins a black leaf and those beyond its sides E and S. Those beyond N and W meet it from their own.
-fn around(n: u32, table: &[u32], words: &mut [u32], p: usize)
-    requires { ⌜ Accepted n (now table) × (p < nodes (now table)) × Wired n (now table) (now words) ⌝ }
+// Joins a leaf, if it is black, and those beyond its sides E and S. Those beyond N and W meet it from their own.
+fn around(n: u32, table: &[u32], words: &mut [u32], p: usize, level: u32)
+    requires { ⌜ AtLevel n (now table) p level × Wired n (now table) (now words) ⌝ }
     ensures { λ _. ⌜ Further n (now (table .entry)) (now (words .entry)) (now (words .exit)) × MetSides n (now (table .entry)) (now (words .exit)) p ⌝ }
 {
     if word_at(table, p, 5) != quad::BLACK {
         return;
     }
-    let level = table::block::level_of(n, table, p);
     across(n, table, words, p, level, 1);
     across(n, table, words, p, level, 2);
 }
 
-// Joins every black leaf and those beyond its sides.
-fn meet(n: u32, table: &[u32], words: &mut [u32])
-    requires { ⌜ Accepted n (now table) × Wired n (now table) (now words) ⌝ }
-    ensures { λ _. ⌜ Wired n (now (table .entry)) (now (words .exit)) × MetAll n (now (table .entry)) (now (words .exit)) (nodes (now (table .entry))) ⌝ }
+// Joins every black leaf in or under a node, whose level is given, and those beyond its sides.
+fn meet(n: u32, table: &[u32], words: &mut [u32], p: usize, level: u32)
+    requires { ⌜ AtLevel n (now table) p level × Wired n (now table) (now words) ⌝ }
+    ensures { λ _. ⌜ Further n (now (table .entry)) (now (words .entry)) (now (words .exit)) × MetUnder n (now (table .entry)) (now (words .exit)) level p ⌝ }
 {
-    let mut p = 0;
-    while p < words.len() {
-        around(n, table, words, p);
-        p += 1;
+    if word_at(table, p, 5) != quad::FORK {
+        around(n, table, words, p, level);
+        return;
     }
+    let half = level - 1;
+    let nw = word_at(table, p, 1);
+    let ne = word_at(table, p, 2);
+    let sw = word_at(table, p, 3);
+    let se = word_at(table, p, 4);
+    meet(n, table, words, nw, half);
+    meet(n, table, words, ne, half);
+    meet(n, table, words, sw, half);
+    meet(n, table, words, se, half);
 }
 
 // In rising node number each word becomes its word's word: that is the leader, since the words before it are leaders already.
@@ -139,6 +146,6 @@ pub fn lead(n: u32, table: &[u32], words: &mut [u32])
     ensures { λ _. ⌜ Led n (now (table .entry)) (now (words .exit)) ⌝ }
 {
     singles(table, words);
-    meet(n, table, words);
+    meet(n, table, words, 0, n);
     settle(words);
 }

@@ -10,27 +10,21 @@ word-at-requires c κs = search needs
 
 returns : tie.Need-returns
 returns c =
-    let w = c .before .before .before .before .pre .2 in
+    let w = c .before .before .before .before .pre .1 in
     (further-none _ _ _ w, sides-dry _ _ _ _ _ (c .before .word-at .ensures) (λ e. omega (arith, c .if1 .taken)))
-
-level-of-requires : tie.Need-level-of-requires
-level-of-requires c κs = search needs
 
 across-requires : tie.Need-across-requires
 across-requires c κs =
-    let wet = c .before .before in
-    let is = wet .before .word-at .ensures in
+    let wet = c .before in
     let h = wet .before .before .before .before .pre in
-    (beside-at (h .0) (h .1) _ is (omega (arith, wet .if1 .left)) _ (c .before .level-of .ensures) _ (omega arith, omega arith), h .2)
+    (beside-at (h .0) _ (wet .before .word-at .ensures) (omega (arith, wet .if1 .left)) _ (omega arith, omega arith), h .1)
 
 across-requires-2 : tie.Need-across-requires-2
 across-requires-2 c κs =
     let first = c .before .before .before in
-    let deep = first .before .before in
-    let wet = deep .before in
-    let is = wet .before .word-at .ensures in
+    let wet = first .before .before in
     let h = wet .before .before .before .before .pre in (
-      beside-at (h .0) (h .1) _ is (omega (arith, wet .if1 .left)) _ (deep .level-of .ensures) _ (omega arith, omega arith),
+      beside-at (h .0) _ (wet .before .word-at .ensures) (omega (arith, wet .if1 .left)) _ (omega arith, omega arith),
       first .across .ensures .0 .wired,
     )
 
@@ -46,7 +40,6 @@ around-spec =
     (tie.spec
     word-at-requires
     returns
-    level-of-requires
     across-requires
     across-requires-2
     same-length
