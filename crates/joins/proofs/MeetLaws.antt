@@ -9,7 +9,7 @@ use native.Mathlib.Omega.{arith}
 use borrow.Author.Tests.{eq-eqb, ne-eqb}
 use Rattle.quad.specs.Direction.{eastStep, southStep}
 use Rattle.quad.specs.Numbers.{black, forkType}
-use Rattle.table.specs.Table.{nodes, word, son, type, isFork}
+use Rattle.table.specs.Table.{word, son, type, isFork}
 use Rattle.table.specs.Rules.{AtLevel}
 use Rattle.table.proofs.AcceptedLaws.{fork-above, son-at}
 use Rattle.neighbour.specs.declared.Found.{Found}

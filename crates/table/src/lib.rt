@@ -31,7 +31,7 @@ pub fn word_at(table: &[u32], p: usize, j: usize) -> usize
 }
 
 // The number of father links from p to the root, or n where there are more.
-pub fn depth_to(table: &[u32], n: u32, p: usize) -> u32
+fn depth_to(table: &[u32], n: u32, p: usize) -> u32
     requires { ⌜ (p < nodes (now table)) × Rising (now table) (p + 1) ⌝ }
     ensures { λ r. ⌜ r ≡ depthTo (now (table .entry)) n p ⌝ }
 {

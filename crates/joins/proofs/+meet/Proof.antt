@@ -36,7 +36,7 @@ meet-same-length : (t : ℕ) → meet-lts.Need-same-length (calls t) (meet-at t)
 meet-same-length t c = c .before .before .around .kept .1 .1 .0
 
 meet-returns : (t : ℕ) → meet-lts.Need-returns (calls t) (meet-at t) meet.Post
-meet-returns t c = 
+meet-returns t c =
     let f = c .before .before .before .before in
     met-leaf (f .before .before .before .before .pre .1 .0) (f .before .word-at .ensures) _ _ (f .if1 .taken) (c .before .before .around .ensures)
 
@@ -56,7 +56,7 @@ meet-word-at-requires-5 : (t : ℕ) → meet-lts.Need-word-at-requires-5 (calls 
 meet-word-at-requires-5 t c κs = (c .before .before .before .before .before .before .before .pre .1 .0 .node, omega arith)
 
 meet-meet-requires : (t : ℕ) → meet-lts.Need-meet-requires (calls t) (meet-at t) meet.Post
-meet-meet-requires t c κs = 
+meet-meet-requires t c κs =
     let w = c .before in
     let f = w .before .before .before .before in
     let z = f .before .before .before .before .pre in
@@ -65,7 +65,7 @@ meet-meet-requires t c κs =
     (omega (arith, z .0, fork-above (h .0) fk), (rw (w .before .before .before .word-at2 .ensures) (son-at (h .0) fk 0 (omega arith)), h .1))
 
 meet-meet-requires-2 : (t : ℕ) → meet-lts.Need-meet-requires-2 (calls t) (meet-at t) meet.Post
-meet-meet-requires-2 t c κs = 
+meet-meet-requires-2 t c κs =
     let w = c .before .before .before .before .before in
     let f = w .before .before .before .before in
     let z = f .before .before .before .before .pre in
@@ -74,7 +74,7 @@ meet-meet-requires-2 t c κs =
     (omega (arith, z .0, fork-above (h .0) fk), (rw (w .before .before .word-at3 .ensures) (son-at (h .0) fk 1 (omega arith)), c .before .before .before .meet .ensures .0 .wired))
 
 meet-meet-requires-3 : (t : ℕ) → meet-lts.Need-meet-requires-3 (calls t) (meet-at t) meet.Post
-meet-meet-requires-3 t c κs = 
+meet-meet-requires-3 t c κs =
     let w = c .before .before .before .before .before .before .before .before .before in
     let f = w .before .before .before .before in
     let z = f .before .before .before .before .pre in
@@ -83,7 +83,7 @@ meet-meet-requires-3 t c κs =
     (omega (arith, z .0, fork-above (h .0) fk), (rw (w .before .word-at4 .ensures) (son-at (h .0) fk 2 (omega arith)), c .before .before .before .meet2 .ensures .0 .wired))
 
 meet-meet-requires-4 : (t : ℕ) → meet-lts.Need-meet-requires-4 (calls t) (meet-at t) meet.Post
-meet-meet-requires-4 t c κs = 
+meet-meet-requires-4 t c κs =
     let w = c .before .before .before .before .before .before .before .before .before .before .before .before .before in
     let f = w .before .before .before .before in
     let z = f .before .before .before .before .pre in
@@ -95,7 +95,7 @@ meet-same-length-2 : (t : ℕ) → meet-lts.Need-same-length-2 (calls t) (meet-a
 meet-same-length-2 t c = c .before .before .meet4 .kept .1 .1 .0 ∙ c .before .before .before .before .before .before .meet3 .kept .1 .1 .0 ∙ c .before .before .before .before .before .before .before .before .before .before .meet2 .kept .1 .1 .0 ∙ c .before .before .before .before .before .before .before .before .before .before .before .before .before .before .meet .kept .1 .1 .0
 
 meet-returns-2 : (t : ℕ) → meet-lts.Need-returns-2 (calls t) (meet-at t) meet.Post
-meet-returns-2 t c = 
+meet-returns-2 t c =
     let w = c .before .before .before .before .before .before .before .before .before .before .before .before .before .before .before .before in
     let f = w .before .before .before .before in
     met-four (f .before .before .before .before .pre .1 .0) (f .before .word-at .ensures) (f .if1 .left) _ _ _ _ _ _ _ _ _
