@@ -91,6 +91,18 @@ extern "C" {
 #define sheet_code(answer)  ((uint32_t)((answer) & 255u))
 #define sheet_value(answer) ((uint64_t)(answer) >> 8)
 
+/* A level that stands beside a node or a node count in a value is below this:
+ * the value is the node or the count times this, plus the level. */
+#define SHEET_PACKED_LEVELS 8
+
+/* The parts of such a value. With code SHEET_OK, sheet_node and sheet_level are
+ * for the answers of sheet_neighbour, sheet_corner_leaf and
+ * sheet_diagonal_leaf, sheet_count and sheet_level for those of sheet_read; for
+ * any other code or call they mean nothing. Each takes its argument once. */
+#define sheet_node(answer)  ((uint32_t)(sheet_value(answer) / SHEET_PACKED_LEVELS))
+#define sheet_count(answer) ((uint32_t)(sheet_value(answer) / SHEET_PACKED_LEVELS))
+#define sheet_level(answer) ((uint32_t)(sheet_value(answer) % SHEET_PACKED_LEVELS))
+
 /*
  * The codes. Each call's own comment says which of them it gives and, where
  * several apply, which one. Codes 10 and 15 of the documents belong to the row
@@ -330,24 +342,33 @@ uint64_t sheet_decode(uint32_t n, const uint32_t *table, size_t table_len, uint8
  *
  * If none fails the answer is
  *
- *   SHEET_OK             value: the neighbour's number.
+ *   SHEET_OK             value 8q + i       q is the neighbour's number, i its
+ *                                           level.
+ *
+ * sheet_node and sheet_level take that value apart. The level says how large
+ * the neighbour is, and the caller need not ask again or climb for it: its side
+ * is 1 << sheet_level(answer) pixels. The level is at least that of the node
+ * asked about, and a fork has that very level.
  *
  * The root has no neighbour: all its directions are SHEET_NO_BLOCK.
  *
  * Buffers:   the table is only read, and stands afterwards as it was.
  * Pointers:  with table_len 0 the table may be NULL; the answer is then a
  *            refusal.
- * Cost:      sheet_check's, and then at most 2d links for a node at depth d.
+ * Cost:      sheet_check's, and then at most 3d links for a node at depth d: d
+ *            up to the root for its level, and 2d for the search.
  *
  * Example: the table of sheet_check's example, which is called 'table'.
  *
  *     uint64_t answer = sheet_neighbour(2, table, 54, 1, SHEET_E);
  *
  *     sheet_code(answer)  is SHEET_OK
- *     sheet_value(answer) is 2, a fork of node 1's size
+ *     sheet_value(answer) is 17
+ *     sheet_node(answer)  is 2, a fork of node 1's size
+ *     sheet_level(answer) is 1, so that its side is 2
  *
- * The neighbour of node 1 towards SHEET_SE is node 8, and towards SHEET_NW
- * there is none: SHEET_NO_BLOCK with value 0.
+ * The neighbour of node 1 towards SHEET_SE is node 8 at level 1, value 65, and
+ * towards SHEET_NW there is none: SHEET_NO_BLOCK with value 0.
  */
 uint64_t sheet_neighbour(uint32_t n, const uint32_t *table, size_t table_len, uint32_t node, uint32_t direction);
 
@@ -374,7 +395,12 @@ uint64_t sheet_neighbour(uint32_t n, const uint32_t *table, size_t table_len, ui
  *
  * If none fails the answer is
  *
- *   SHEET_OK             value: the leaf's number.
+ *   SHEET_OK             value 8q + i    q is the leaf's number, i its level.
+ *
+ * sheet_node and sheet_level take that value apart. The level says how large
+ * the leaf is, and the caller need not ask again or climb for it: its side is
+ * 1 << sheet_level(answer) pixels. The leaf may be larger or smaller than the
+ * node asked about, or of its size.
  *
  * Buffers:   the table is only read, and stands afterwards as it was.
  * Pointers:  with table_len 0 the table may be NULL; the answer is then a
@@ -387,10 +413,12 @@ uint64_t sheet_neighbour(uint32_t n, const uint32_t *table, size_t table_len, ui
  *         sheet_corner_leaf(2, table, 54, 1, SHEET_E, SHEET_QUADRANT_NE);
  *
  *     sheet_code(answer)  is SHEET_OK
- *     sheet_value(answer) is 3
+ *     sheet_value(answer) is 24
+ *     sheet_node(answer)  is 3
+ *     sheet_level(answer) is 0, so that it is one pixel
  *
- * At the other end of that side, SHEET_QUADRANT_SE, it is leaf 5. With
- * SHEET_QUADRANT_NW, which is not on side SHEET_E, the answer is
+ * At the other end of that side, SHEET_QUADRANT_SE, it is leaf 5 at level 0,
+ * value 40. With SHEET_QUADRANT_NW, which is not on side SHEET_E, the answer is
  * SHEET_BAD_DIRECTION with value 0.
  */
 uint64_t sheet_corner_leaf(uint32_t n, const uint32_t *table, size_t table_len, uint32_t node, uint32_t side,
@@ -415,7 +443,12 @@ uint64_t sheet_corner_leaf(uint32_t n, const uint32_t *table, size_t table_len, 
  *
  * If none fails the answer is
  *
- *   SHEET_OK             value: the leaf's number.
+ *   SHEET_OK             value 8q + i    q is the leaf's number, i its level.
+ *
+ * sheet_node and sheet_level take that value apart. The level says how large
+ * the leaf is, and the caller need not ask again or climb for it: its side is
+ * 1 << sheet_level(answer) pixels. The leaf may be larger or smaller than the
+ * node asked about, or of its size.
  *
  * Buffers:   the table is only read, and stands afterwards as it was.
  * Pointers:  with table_len 0 the table may be NULL; the answer is then a
@@ -428,7 +461,9 @@ uint64_t sheet_corner_leaf(uint32_t n, const uint32_t *table, size_t table_len, 
  *         sheet_diagonal_leaf(2, table, 54, 8, SHEET_QUADRANT_NW);
  *
  *     sheet_code(answer)  is SHEET_OK
- *     sheet_value(answer) is 1
+ *     sheet_value(answer) is 9
+ *     sheet_node(answer)  is 1
+ *     sheet_level(answer) is 1, so that its side is 2
  */
 uint64_t sheet_diagonal_leaf(uint32_t n, const uint32_t *table, size_t table_len, uint32_t node, uint32_t corner);
 
@@ -606,6 +641,8 @@ uint64_t sheet_ponds(uint32_t n, const uint32_t *table, size_t table_len, uint32
  *
  *   SHEET_OK             value 8N + n       the table is written.
  *
+ * sheet_count and sheet_level take that value apart.
+ *
  * The table needs only room, as in sheet_build. SHEET_LONGEST_TABLE words are
  * room enough for every file.
  *
@@ -630,10 +667,11 @@ uint64_t sheet_ponds(uint32_t n, const uint32_t *table, size_t table_len, uint32
  *     uint32_t table[54];
  *     uint64_t answer = sheet_read(file, sizeof file, table, 54);
  *
- *     sheet_code(answer)       is SHEET_OK
- *     sheet_value(answer) / 8  is 9, the node count
- *     sheet_value(answer) % 8  is 2, the level
- *     table                    is that table, word for word
+ *     sheet_code(answer)  is SHEET_OK
+ *     sheet_value(answer) is 74
+ *     sheet_count(answer) is 9, the node count
+ *     sheet_level(answer) is 2, the level
+ *     table               is that table, word for word
  */
 uint64_t sheet_read(const uint8_t *file, size_t file_len, uint32_t *table, size_t table_len);
 

@@ -1,6 +1,7 @@
 /*
  * The leaf at a corner of a node, as document 01 has it: the pixel just outside
- * a side at one of its ends, and the leaf that holds that pixel.
+ * a side at one of its ends, and the leaf that holds that pixel; its level stands
+ * beside it.
  */
 #include "second/second.h"
 
@@ -49,5 +50,5 @@ uint64_t second_corner_leaf(const struct second_cover *c, uint32_t node, uint32_
     if (corner > 3 || !corner_is_on_side(side, corner))
         return 7 + 256 * (uint64_t)corner;
     struct second_square pixel = across(corner_pixel(c->square[node], corner), side);
-    return second_on_sheet(c, pixel) ? 256 * (uint64_t)second_leaf_at(c, pixel) : 20;
+    return second_on_sheet(c, pixel) ? second_found(c, second_leaf_at(c, pixel)) : 20;
 }

@@ -58,3 +58,8 @@ uint32_t second_leaf_at(const struct second_cover *c, struct second_square pixel
     }
     return NONE;
 }
+
+uint64_t second_found(const struct second_cover *c, uint32_t node)
+{
+    return 256 * (8 * (uint64_t)node + (uint64_t)c->square[node].level);
+}

@@ -34,4 +34,8 @@ int second_on_sheet(const struct second_cover *c, struct second_square s);
 /* The leaf that holds a pixel of the sheet. */
 uint32_t second_leaf_at(const struct second_cover *c, struct second_square pixel);
 
+/* What a call gives back that has found this node, by document 02's No. 3: code
+ * 0, and as value node * 8 + level, the level of the node's square. */
+uint64_t second_found(const struct second_cover *c, uint32_t node);
+
 #endif

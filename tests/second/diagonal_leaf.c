@@ -1,6 +1,6 @@
 /*
  * The leaf diagonally beyond a corner of a node, as document 01 has it: the
- * pixel there, and the leaf that holds it.
+ * pixel there, and the leaf that holds it; its level stands beside it.
  */
 #include "second/second.h"
 
@@ -24,5 +24,5 @@ uint64_t second_diagonal_leaf(const struct second_cover *c, uint32_t node, uint3
     if (corner > 3)
         return 7 + 256 * (uint64_t)corner;
     struct second_square pixel = pixel_beyond(c->square[node], corner);
-    return second_on_sheet(c, pixel) ? 256 * (uint64_t)second_leaf_at(c, pixel) : 20;
+    return second_on_sheet(c, pixel) ? second_found(c, second_leaf_at(c, pixel)) : 20;
 }

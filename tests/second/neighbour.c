@@ -1,7 +1,7 @@
 /*
  * The neighbour of a node, as document 01 has it: the square of the node's size
  * in that direction, and of the nodes with side at least the node's which
- * contain that square the smallest one.
+ * contain that square the smallest one; its level stands beside it.
  */
 #include "second/second.h"
 
@@ -45,5 +45,5 @@ uint64_t second_neighbour(const struct second_cover *c, uint32_t node, uint32_t 
     if (direction > 7)
         return 7 + 256 * (uint64_t)direction;
     struct second_square s = square_towards(c->square[node], direction);
-    return second_on_sheet(c, s) ? 256 * (uint64_t)smallest_containing(c, s) : 20;
+    return second_on_sheet(c, s) ? second_found(c, smallest_containing(c, s)) : 20;
 }

@@ -18,6 +18,11 @@ static struct lender lender;
 static struct table table;
 static struct second_cover cover;
 
+/* How large a node that is answered is, beside the one asked about. */
+enum size { LARGER, OWN_SIZE, SMALLER, SIZES };
+
+static uint32_t met_level[SECOND_LEVELS], met_size[SIZES];
+
 void asking_open(const struct asking *which)
 {
     call = which;
@@ -50,9 +55,18 @@ static const uint32_t *lend_table(void)
     return lend(&lender, table.words, table.length * sizeof *table.words, met_turn());
 }
 
+static void count_level(uint32_t level, uint32_t own)
+{
+    met_level[level]++;
+    met_size[level > own ? LARGER : level == own ? OWN_SIZE : SMALLER]++;
+}
+
 static void compare(const uint32_t *lent, uint32_t node, const uint32_t *numbers, int look_at_buffer)
 {
-    gives(lent, table.level, table.length, node, numbers, call->second(&cover, node, numbers), look_at_buffer);
+    uint64_t wanted = call->second(&cover, node, numbers);
+    if (wanted % 256 == SHEET_OK)
+        count_level((uint32_t)(wanted / 256 % 8), (uint32_t)cover.square[node].level);
+    gives(lent, table.level, table.length, node, numbers, wanted, look_at_buffer);
 }
 
 /* How many ways there are to ask about one node with numbers below the limit. */
@@ -207,4 +221,16 @@ void asking_codes(void)
 {
     static const uint32_t codes[] = {0, 1, 2, 3, 4, 5, 6, 7, 20};
     met_report(codes, sizeof codes / sizeof *codes, LEAST_INPUTS);
+}
+
+/* No answer is the root, and so none has level 7. */
+void asking_levels(void)
+{
+    for (uint32_t level = 0; level < SHEET_HIGHEST_LEVEL; level++)
+        met_often("a node of level", level, met_level[level]);
+    report_check("no node of level 7", met_level[SHEET_HIGHEST_LEVEL] == 0);
+    for (uint32_t size = 0; size < (call->smaller ? SIZES : SMALLER); size++)
+        met_often("a node that is larger (0), as large (1) or smaller (2):", size, met_size[size]);
+    if (!call->smaller)
+        report_check("no smaller node", met_size[SMALLER] == 0);
 }

@@ -1,7 +1,8 @@
 /*
  * The test of a call that asks for a node near another one: the call takes a
  * sheet, a node and one or two numbers that say where to look, and gives a node
- * back. All such calls are held against the second implementation in one way.
+ * and its level back. All such calls are held against the second implementation
+ * in one way.
  */
 #ifndef SUPPORT_ASKING_H
 #define SUPPORT_ASKING_H
@@ -18,6 +19,7 @@ struct asking {
     uint64_t (*second)(const struct second_cover *c, uint32_t node, const uint32_t *numbers);
     uint32_t numbers; /* how many numbers the call takes                      */
     uint32_t below;   /* a number from here on is wrong whatever the others   */
+    int smaller;      /* may the answer be smaller than the node asked about? */
 };
 
 /* An answer worked out by hand. */
@@ -25,6 +27,9 @@ struct asked {
     const char *name;
     uint32_t node, numbers[MOST_NUMBERS], code, value;
 };
+
+/* The code and the value where a node is found, and has this level. */
+#define FOUND(node, level) 0, (node) * 8 + (level)
 
 /* Sets up the test of one call; the others follow it. */
 void asking_open(const struct asking *call);
@@ -42,5 +47,10 @@ void asking_compare(void);
 
 /* Reports that each code was met, and that no other one was. */
 void asking_codes(void);
+
+/* Reports that nodes of each level were answered, and of each size beside the
+ * node asked about: larger ones, its own size and, where that may be, smaller
+ * ones. */
+void asking_levels(void);
 
 #endif
