@@ -16,7 +16,7 @@ static uint64_t plain(const struct table *t, const struct question *q)
 
 static uint64_t plain_search(const struct table *t, const struct question *q)
 {
-    return plain_neighbour_unchecked(t->words, q->node, q->numbers[0]);
+    return plain_neighbour_unchecked(t->level, t->words, q->node, q->numbers[0]);
 }
 
 static uint64_t second(const struct second_cover *c, const struct question *q)

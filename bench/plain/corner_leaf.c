@@ -1,10 +1,12 @@
 #include "plain/plain.h"
 #include "plain/search.h"
 
-uint64_t plain_corner_leaf_unchecked(const uint32_t *table, uint32_t node, uint32_t side, uint32_t corner)
+uint64_t plain_corner_leaf_unchecked(uint32_t n, const uint32_t *table, uint32_t node, uint32_t side, uint32_t corner)
 {
-    uint32_t found = plain_search(table, node, side);
-    return found == PLAIN_NONE ? 20 : 256 * (uint64_t)plain_leaf_in_corner(table, found, corner ^ plain_crossed(side));
+    struct plain_block found = plain_search(table, plain_block(n, table, node), side);
+    if (found.node == PLAIN_NONE)
+        return 20;
+    return plain_found(plain_leaf_in_corner(table, found, corner ^ plain_crossed(side)));
 }
 
 uint64_t plain_corner_leaf(uint32_t n, const uint32_t *table, size_t table_len, uint32_t node, uint32_t side,
@@ -19,5 +21,5 @@ uint64_t plain_corner_leaf(uint32_t n, const uint32_t *table, size_t table_len, 
         return 7 + 256 * (uint64_t)side;
     if (corner > 3 || ((corner ^ plain_leaving(side)) & plain_crossed(side)) != 0)
         return 7 + 256 * (uint64_t)corner;
-    return plain_corner_leaf_unchecked(table, node, side, corner);
+    return plain_corner_leaf_unchecked(n, table, node, side, corner);
 }

@@ -52,28 +52,30 @@ static uint32_t gap_from_corner(const uint32_t *table, uint32_t p, uint32_t near
 static const uint8_t order[4][8] = {
     {1, 2, 7, 0, 3, 4, 5, 6}, {3, 2, 6, 0, 1, 4, 5, 7}, {0, 1, 5, 2, 3, 4, 6, 7}, {0, 3, 4, 1, 2, 5, 6, 7}};
 
-static uint32_t distance_of_leaf(const uint32_t *table, uint32_t p, uint32_t quadrant, uint32_t side)
+static uint32_t distance_of_leaf(const uint32_t *table, struct plain_block leaf, uint32_t quadrant)
 {
-    uint32_t least = side;
+    uint32_t side = UINT32_C(1) << leaf.level, least = side;
     for (uint32_t i = 0; i < 8 && least > 0; i++) {
-        uint32_t direction = order[quadrant][i], found = plain_search(table, p, direction);
+        uint32_t direction = order[quadrant][i];
+        struct plain_block found = plain_search(table, leaf, direction);
         uint32_t crossed = plain_crossed(direction), near = plain_leaving(direction) ^ crossed;
-        if (found == PLAIN_NONE)
+        uint32_t half = (UINT32_C(1) << found.level) / 2;
+        if (found.node == PLAIN_NONE)
             continue;
-        least = crossed == 3 ? gap_from_corner(table, found, near, side / 2, 0, least)
-                             : gap_from_side(table, found, near, crossed, side / 2, 0, least);
+        least = crossed == 3 ? gap_from_corner(table, found.node, near, half, 0, least)
+                             : gap_from_side(table, found.node, near, crossed, half, 0, least);
     }
     return side + 2 * least;
 }
 
-static void distances_below(const uint32_t *table, uint32_t p, uint32_t quadrant, uint32_t side, uint32_t *distances)
+static void distances_below(const uint32_t *table, uint32_t p, uint32_t quadrant, uint32_t level, uint32_t *distances)
 {
     distances[p] = 0;
     if (type_of(table, p) == BLACK)
-        distances[p] = distance_of_leaf(table, p, quadrant, side);
+        distances[p] = distance_of_leaf(table, (struct plain_block){p, level}, quadrant);
     else if (type_of(table, p) != WHITE)
         for (uint32_t son = 0; son < 4; son++)
-            distances_below(table, plain_son(table, p, son), son, side / 2, distances);
+            distances_below(table, plain_son(table, p, son), son, level - 1, distances);
 }
 
 uint64_t plain_distance(uint32_t n, const uint32_t *table, size_t table_len, uint32_t *distances, size_t distances_len)
@@ -88,6 +90,6 @@ uint64_t plain_distance(uint32_t n, const uint32_t *table, size_t table_len, uin
     if (type_of(table, 0) == BLACK)
         distances[0] = PLAIN_NONE;
     else
-        distances_below(table, 0, 0, UINT32_C(1) << n, distances);
+        distances_below(table, 0, 0, n, distances);
     return 0;
 }

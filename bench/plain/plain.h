@@ -18,16 +18,16 @@ uint64_t plain_sum(uint32_t n, const uint32_t *table, size_t table_len);
 /* A neighbour, and its search alone, in a table that is known to be accepted,
  * for a node and a direction that are there. */
 uint64_t plain_neighbour(uint32_t n, const uint32_t *table, size_t table_len, uint32_t node, uint32_t direction);
-uint64_t plain_neighbour_unchecked(const uint32_t *table, uint32_t node, uint32_t direction);
+uint64_t plain_neighbour_unchecked(uint32_t n, const uint32_t *table, uint32_t node, uint32_t direction);
 
 /* The leaf at a corner, and its search alone. */
 uint64_t plain_corner_leaf(uint32_t n, const uint32_t *table, size_t table_len, uint32_t node, uint32_t side,
                            uint32_t corner);
-uint64_t plain_corner_leaf_unchecked(const uint32_t *table, uint32_t node, uint32_t side, uint32_t corner);
+uint64_t plain_corner_leaf_unchecked(uint32_t n, const uint32_t *table, uint32_t node, uint32_t side, uint32_t corner);
 
 /* The leaf diagonally beyond a corner, and its search alone. */
 uint64_t plain_diagonal_leaf(uint32_t n, const uint32_t *table, size_t table_len, uint32_t node, uint32_t corner);
-uint64_t plain_diagonal_leaf_unchecked(const uint32_t *table, uint32_t node, uint32_t corner);
+uint64_t plain_diagonal_leaf_unchecked(uint32_t n, const uint32_t *table, uint32_t node, uint32_t corner);
 
 /* The distances by document 001's method. */
 uint64_t plain_distance(uint32_t n, const uint32_t *table, size_t table_len, uint32_t *distances, size_t distances_len);

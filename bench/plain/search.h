@@ -11,6 +11,11 @@
 
 #define PLAIN_NONE UINT32_MAX
 
+/* A node and its level; node PLAIN_NONE is no block at all. */
+struct plain_block {
+    uint32_t node, level;
+};
+
 static inline const uint32_t *plain_node(const uint32_t *table, uint32_t p)
 {
     return table + (uint64_t)p * 6;
@@ -45,15 +50,25 @@ static inline uint32_t plain_leaving(uint32_t direction)
     return leaving[direction];
 }
 
-/* The neighbour, or PLAIN_NONE off the sheet. */
-static inline uint32_t plain_search(const uint32_t *table, uint32_t p, uint32_t direction)
+/* A node of a sheet of level n with its level, by a climb to the root. */
+static inline struct plain_block plain_block(uint32_t n, const uint32_t *table, uint32_t p)
+{
+    struct plain_block b = {p, n};
+    while ((p = plain_node(table, p)[0]) != PLAIN_NONE)
+        b.level--;
+    return b;
+}
+
+/* The neighbour, or PLAIN_NONE off the sheet. Its level is the node's own and one
+ * more for each link up that is not followed back down. */
+static inline struct plain_block plain_search(const uint32_t *table, struct plain_block b, uint32_t direction)
 {
     uint32_t open = plain_crossed(direction), leaving = plain_leaving(direction);
-    uint32_t way = 0, links = 0;
+    uint32_t p = b.node, way = 0, links = 0;
     for (; open != 0; links++) {
         uint32_t father = plain_node(table, p)[0];
         if (father == PLAIN_NONE)
-            return PLAIN_NONE;
+            return (struct plain_block){PLAIN_NONE, 0};
         uint32_t quadrant = plain_quadrant(table, father, p);
         way = way << 2 | (quadrant ^ open);
         open &= ~(quadrant ^ leaving);
@@ -61,15 +76,21 @@ static inline uint32_t plain_search(const uint32_t *table, uint32_t p, uint32_t 
     }
     for (; links > 0 && plain_is_fork(table, p); links--, way >>= 2)
         p = plain_son(table, p, way & 3);
-    return p;
+    return (struct plain_block){p, b.level + links};
 }
 
-/* From a node down to its leaf in one corner. */
-static inline uint32_t plain_leaf_in_corner(const uint32_t *table, uint32_t p, uint32_t corner)
+/* From a block down to its leaf in one corner. */
+static inline struct plain_block plain_leaf_in_corner(const uint32_t *table, struct plain_block b, uint32_t corner)
 {
-    while (plain_is_fork(table, p))
-        p = plain_son(table, p, corner);
-    return p;
+    for (; plain_is_fork(table, b.node); b.level--)
+        b.node = plain_son(table, b.node, corner);
+    return b;
+}
+
+/* The number given back for a block that is found. */
+static inline uint64_t plain_found(struct plain_block b)
+{
+    return 256 * (8 * (uint64_t)b.node + b.level);
 }
 
 #endif
