@@ -39,7 +39,7 @@ static const struct rival rivals[] = {{"proved", run_proved}, {"plain", run_plai
 /* Does this rival give the answer and the table that are wanted? */
 static int agrees(const struct rival *rival, uint64_t wanted)
 {
-    size_t words = wanted % 256 == 0 ? (size_t)(wanted / 256 / 8) * SHEET_NODE_WORDS : 0;
+    size_t words = wanted % 256 == 0 ? (size_t)sheet_count(wanted) * SHEET_NODE_WORDS : 0;
     return rival->run(&file) == wanted && memcmp(table, wanted_table, words * sizeof *table) == 0;
 }
 

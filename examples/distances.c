@@ -38,8 +38,8 @@ int main(void)
     uint64_t read = sheet_read(file, fread(file, 1, sizeof file, stdin), table, SHEET_LONGEST_TABLE);
     if (sheet_code(read) != SHEET_OK)
         return complain_of_refusal("sheet_read", read);
-    uint32_t level = (uint32_t)(sheet_value(read) % 8);
-    size_t nodes = (size_t)(sheet_value(read) / 8);
+    uint32_t level = sheet_level(read);
+    size_t nodes = sheet_count(read);
     uint64_t found = sheet_distance(level, table, nodes * SHEET_NODE_WORDS, distances, nodes);
     if (sheet_code(found) != SHEET_OK)
         return complain_of_refusal("sheet_distance", found);

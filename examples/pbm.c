@@ -166,8 +166,8 @@ static int picture_from_sheet(void)
     uint64_t read = sheet_read(file, fread(file, 1, sizeof file, stdin), table, SHEET_LONGEST_TABLE);
     if (sheet_code(read) != SHEET_OK)
         return complain_of_refusal("sheet_read", read);
-    picture.level = (uint32_t)(sheet_value(read) % 8);
-    size_t length = (size_t)(sheet_value(read) / 8) * SHEET_NODE_WORDS;
+    picture.level = sheet_level(read);
+    size_t length = (size_t)sheet_count(read) * SHEET_NODE_WORDS;
     uint64_t decoded = sheet_decode(picture.level, table, length, picture.raster, pixels_of(picture.level));
     if (sheet_code(decoded) != SHEET_OK)
         return complain_of_refusal("sheet_decode", decoded);

@@ -24,7 +24,7 @@ static const uint8_t estate[] = {
 
 static uint32_t table[ROOM], numbers[NODES], reg[REGISTER];
 
-static const char *look_of(uint64_t node)
+static const char *look_of(uint32_t node)
 {
     static const char *const looks[] = {"dry", "water", "grey"};
     return looks[table[node * SHEET_NODE_WORDS + SHEET_TYPE_WORD]];
@@ -33,7 +33,8 @@ static const char *look_of(uint64_t node)
 static void print_answer(const char *what, uint64_t answer)
 {
     if (sheet_code(answer) == SHEET_OK)
-        printf("%s: node %lu, %s\n", what, (unsigned long)sheet_value(answer), look_of(sheet_value(answer)));
+        printf("%s: node %lu, %s, side %lu\n", what, (unsigned long)sheet_node(answer), look_of(sheet_node(answer)),
+               1ul << sheet_level(answer));
     else
         printf("%s: code %lu\n", what, (unsigned long)sheet_code(answer));
 }

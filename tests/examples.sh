@@ -114,9 +114,9 @@ ponds() {
     run ponds >"$work/printed"
     cat >"$work/wanted" <<'END'
 nodes: 9
-east of the pond: node 2, grey
-touching it in the north-east: node 3, dry
-touching it in the south-east: node 5, dry
+east of the pond: node 2, grey, side 4
+touching it in the north-east: node 3, dry, side 2
+touching it in the south-east: node 5, dry, side 2
 west of the pond: code 20
 ponds: 2
 pond 1: 16 pixels, rows 0 to 3, columns 0 to 3, nodes 1

@@ -38,8 +38,8 @@ static void compare_file(void)
     static uint8_t bytes[SHEET_LONGEST_FILE];
     static uint32_t words[SHEET_LONGEST_TABLE];
     uint64_t read = sheet_read(file.bytes, file.length, words, preorder.length);
-    uint32_t level = (uint32_t)(sheet_value(read) % 8);
-    size_t length = (size_t)(sheet_value(read) / 8) * SHEET_NODE_WORDS;
+    uint32_t level = sheet_level(read);
+    size_t length = (size_t)sheet_count(read) * SHEET_NODE_WORDS;
     uint64_t written = sheet_write(level, words, length, bytes, file.length);
     met_answer(packed(SHEET_OK, file.length), written, memcmp(bytes, file.bytes, file.length) == 0,
                "level %" PRIu32 ", read and written", pic.level);
