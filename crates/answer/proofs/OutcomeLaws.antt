@@ -1,7 +1,7 @@
 -- Refusals in their order, as a call goes through them: a test that a call made, then the next. `thens` closes the returns. What an answer says of the tests;
 -- and that what was put into one number can be read off it.
 use mathlib.Core.Bool.{Bool, true, false, not, false≢true}
-use mathlib.Core.Path.{_≡_, refl, sym, _∙_}
+use mathlib.Core.Path.{_≡_, refl, ap, sym, _∙_}
 use Prim.Native.Nat.{ℕ, _<_}
 use native.Mathlib.Omega.{arith}
 use Rattle.base.proofs.BoolLaws.{on, off}
@@ -33,6 +33,13 @@ both-answer o next e = go (answers o) refl
     go : (b : Bool) → answers o ≡ b → (answers o ≡ true) × (answers next ≡ true)
     go true q = (q, rw q at e)
     go false q = absurd (false≢true (sym q ∙ rw q at e))
+
+pub then-answered : (o next : Outcome) (v : ℕ) → andThen o next ≡ Answered v → (answers o ≡ true) × (next ≡ Answered v)
+then-answered o next v e = go (answers o) refl
+  where
+    go : (b : Bool) → answers o ≡ b → (answers o ≡ true) × (next ≡ Answered v)
+    go true q = (q, rw q at e)
+    go false q = absurd (false≢true (sym q ∙ ap answers (rw q at e)))
 
 pub answers-unless : (b : Bool) (o : Outcome) → answers o ≡ false → answers (unless b o) ≡ true → b ≡ false
 answers-unless true o f e = absurd (false≢true (sym f ∙ e))

@@ -54,7 +54,7 @@ levelRoom = 8
 abbrev pub withLevel : ℕ → ℕ → ℕ
 withLevel k level = levelRoom * k + level
 
--- the two of them in such a value
+-- the two of them in such a value: the node or node count, and the level
 abbrev pub nodeIn : ℕ → ℕ
 nodeIn v = v / levelRoom
 

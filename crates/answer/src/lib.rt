@@ -105,7 +105,7 @@ pub fn number(o: Outcome) -> u64
 }
 
 // A level is below it.
-const LEVEL_ROOM: u32 = 8;
+pub const LEVEL_ROOM: u32 = 8;
 
 // A node, or a node count, and a level beside it in one value.
 pub fn with_level(k: u32, level: u32) -> u32

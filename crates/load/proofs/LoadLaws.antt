@@ -10,7 +10,7 @@ use lib.Seq.{take-append-seam}
 use borrow.Author.Tests.{le-leb, lt-leb, eq-eqb}
 use Rattle.answer.specs.declared.Outcome.{Outcome}
 use Rattle.answer.specs.declared.Outcome.the-variants.{Answered, TooLarge}
-use Rattle.answer.specs.Numbers.{answers}
+use Rattle.answer.specs.Numbers.{nodeIn, levelIn, answers}
 use Rattle.quad.specs.Numbers.{topLevel, none}
 use Rattle.quad.specs.Tree.{sizeOf, sameLeaf}
 use Rattle.base.specs.Tab.{overlay}
@@ -62,7 +62,7 @@ pub load-answers : (s : List ℕ) (words v : ℕ) → loadOf s words ≡ Answere
 unfolding loadOf
 load-answers s words v h = read-answered s words v (rw (loadOf, not-large s words v h) at h)
 
-pub loaded-fits : (s before after : List ℕ) (r : Outcome) (v : ℕ) → Loads s before r after → r ≡ Answered v → 6 * (v / 8) ≤ length before
+pub loaded-fits : (s before after : List ℕ) (r : Outcome) (v : ℕ) → Loads s before r after → r ≡ Answered v → 6 * nodeIn v ≤ length before
 loaded-fits s before after r v l e =
     let a = load-answers s (length before) v (sym (l .answer) ∙ e) in
     omega (arith, a .value, a .low, a .fits)
@@ -73,7 +73,7 @@ loaded-length s before after r l =
     ap length (l .table) ∙ cond-case (λ (t : List ℕ). length t ≡ length before) (tooLarge s) before (readTable s before) (λ e. refl) (λ e. read-length s before)
 
 -- the words of the nodes loaded are an accepted sheet of the level loaded
-pub loaded-accepted : (s before after : List ℕ) (r : Outcome) (v : ℕ) → Loads s before r after → r ≡ Answered v → Accepted (v % 8) (take (6 * (v / 8)) after)
+pub loaded-accepted : (s before after : List ℕ) (r : Outcome) (v : ℕ) → Loads s before r after → r ≡ Answered v → Accepted (levelIn v) (take (6 * nodeIn v) after)
 unfolding loadedTable
 loaded-accepted s before after r v l e =
     let h = sym (l .answer) ∙ e in
@@ -83,8 +83,8 @@ loaded-accepted s before after r v l e =
     let opened = opens s (a .level) t (w .header .first) (w .header .second) (w .level) (w .count) (w .ends) (w .spells .spelt) (a .low) (w .spells .sound) in
     let is : after ≡ overlay (preorderTable t) before =
     l .table ∙ rw (loadedTable, not-large s (length before) v h) (read-leaves s before (a .level) t opened (a .fits)) in
-    let level : v % 8 ≡ a .level = omega (arith, a .value, a .low) in
-    let words : 6 * (v / 8) ≡ length (preorderTable t) = omega (arith, a .value, a .low, preorder-length none 0 t) in
+    let level : levelIn v ≡ a .level = omega (arith, a .value, a .low) in
+    let words : 6 * nodeIn v ≡ length (preorderTable t) = omega (arith, a .value, a .low, preorder-length none 0 t) in
     rw (is, level, words, take-append-seam) (preorder-accepted (a .level) t (a .low) (w .spells .sound))
 
 -- no second outcome

@@ -12,7 +12,7 @@ use lib.Ieee.{Float, nan}
 use Rattle.base.specs.Tab.{tabFrom}
 use Rattle.answer.specs.declared.Outcome.{Outcome}
 use Rattle.answer.specs.declared.Outcome.the-variants.{Answered}
-use Rattle.answer.specs.Numbers.{answers, numberOf, levelIn}
+use Rattle.answer.specs.Numbers.{answers, numberOf, nodeIn, levelIn}
 use Rattle.quad.specs.Numbers.{black}
 use Rattle.table.specs.Table.{nodes, type}
 use Rattle.table.specs.Rules.{depthTo}
@@ -47,7 +47,7 @@ module _ (number : ℕ → List ℕ → ℕ → ℕ → ℕ) (meets : (n : ℕ) 
   pub neighbour-answers : ((n : ℕ) (T : List ℕ) (p D : ℕ) → number n T p D % 256 ≡ 0 → ⊥) → ⊥
   neighbour-answers refuses = refuses 2 tableA 1 1 (omega (arith, tied .b _ (meets 2 tableA 1 1)))
 
-  pub neighbour-names : (m : ℕ) → ((n : ℕ) (T : List ℕ) (p D : ℕ) → number n T p D % 256 ≡ 0 → number n T p D / 256 ≡ m) → ⊥
+  pub neighbour-names : (m : ℕ) → ((n : ℕ) (T : List ℕ) (p D : ℕ) → number n T p D % 256 ≡ 0 → nodeIn (number n T p D / 256) ≡ m) → ⊥
   neighbour-names m same =
       let b = tied .b _ (meets 2 tableA 1 1) in
       let e = tied .e _ (meets 2 tableA 1 7) in
@@ -63,7 +63,7 @@ module _ (number : ℕ → List ℕ → ℕ → ℕ → ℕ → ℕ) (meets : (n
   pub corner-leaf-answers : ((n : ℕ) (T : List ℕ) (p D C : ℕ) → number n T p D C % 256 ≡ 0 → ⊥) → ⊥
   corner-leaf-answers refuses = refuses 2 tableA 1 1 1 (omega (arith, tied .c _ (meets 2 tableA 1 1 1)))
 
-  pub corner-leaf-names : (m : ℕ) → ((n : ℕ) (T : List ℕ) (p D C : ℕ) → number n T p D C % 256 ≡ 0 → number n T p D C / 256 ≡ m) → ⊥
+  pub corner-leaf-names : (m : ℕ) → ((n : ℕ) (T : List ℕ) (p D C : ℕ) → number n T p D C % 256 ≡ 0 → nodeIn (number n T p D C / 256) ≡ m) → ⊥
   corner-leaf-names m same =
       let c = tied .c _ (meets 2 tableA 1 1 1) in
       let d = tied .d _ (meets 2 tableA 1 1 3) in
@@ -88,7 +88,7 @@ module _ (number : ℕ → List ℕ → ℕ → ℕ → ℕ) (meets : (n : ℕ) 
   pub diagonal-leaf-answers : ((n : ℕ) (T : List ℕ) (p C : ℕ) → number n T p C % 256 ≡ 0 → ⊥) → ⊥
   diagonal-leaf-answers refuses = refuses 2 tableA 1 3 (omega (arith, beyond))
 
-  pub diagonal-leaf-names : (m : ℕ) → ((n : ℕ) (T : List ℕ) (p C : ℕ) → number n T p C % 256 ≡ 0 → number n T p C / 256 ≡ m) → ⊥
+  pub diagonal-leaf-names : (m : ℕ) → ((n : ℕ) (T : List ℕ) (p C : ℕ) → number n T p C % 256 ≡ 0 → nodeIn (number n T p C / 256) ≡ m) → ⊥
   diagonal-leaf-names m same = omega (arith, beyond, across, same 2 tableA 1 3 (omega (arith, beyond)), same 2 tableA 5 1 (omega (arith, across)))
 
   -- leaf 7 is larger than node 5

@@ -1,4 +1,4 @@
--- The marked cases as one table: what the definitions give, beside the number of document 01.
+-- The marked cases as one table: what the definitions give, beside the number of document 01, or of document 02 where a request moved it.
 use mathlib.Core.Bool.{Bool, true, _&&_}
 use mathlib.Core.List.{List, [], _∷_}
 use Prim.Native.Nat.{ℕ, _+_, _*_}
@@ -27,7 +27,7 @@ firstAnswers kind k n T = tally kind (answersOf (trace k T (start n)))
 abbrev pub tableJ : List ℕ
 tableJ = preorderTable (rasterTree 2 rasterJ)
 
--- a case: what the definitions give, and what document 01 says
+-- a case: what the definitions give, and what the document says
 pub record Case : Type 0 where
   pub gives : ℕ
   pub wants : ℕ

@@ -16,8 +16,7 @@ use Rattle.answer.specs.Numbers.{withLevel, nodeIn, levelIn}
 use Rattle.quad.specs.Block.{pathOf, column, row}
 use Rattle.quad.specs.Direction.{eastStep, southStep}
 use Rattle.quad.proofs.PathLaws.{path-back}
-use Rattle.table.specs.Table.{nodes}
-use Rattle.table.specs.Rules.{depthTo, Accepted}
+use Rattle.table.specs.Rules.{depthTo}
 use Rattle.table.specs.Nodes.{pathTo, holder, levelOf}
 use Rattle.table.proofs.AcceptedLaws.{depth-le}
 use Rattle.table.proofs.BlockLaws.{column-below, row-below}
@@ -25,7 +24,7 @@ use Rattle.table.proofs.HolderLaws.{own-quadrants, own-path, own-depth}
 use Rattle.neighbour.specs.declared.Found.the-variants.{At}
 use Rattle.neighbour.specs.Neighbour.{neighbourFound, neighbourOf}
 use Rattle.neighbour.specs.Containing.{opposite}
-use Rattle.neighbour.proofs.NeighbourLaws.{lies-found, neighbour-is, beside-p, neighbour-found, neighbour-smallest, neighbour-level}
+use Rattle.neighbour.proofs.NeighbourLaws.{lies-found, neighbour-is, beside-p, neighbour-answer}
 
 -- a direction and the one back cancel
 pub record Cancels (D : ℕ) : Type 0 where
@@ -50,19 +49,22 @@ cancels D h =
     let es = and-right w (e && s) v in
     record { way = ltb-true _ _ (and-left w (e && s) v); east = eqb-true _ _ (and-left e s es); south = eqb-true _ _ (and-right e s es) }
 
-pub neighbour-back : (n : ℕ) (T : List ℕ) → Accepted n T → (p D v : ℕ) → p < nodes T → D < 8
-    → neighbourOf n T p D ≡ Answered v → levelIn v ≡ levelOf n T p → neighbourOf n T (nodeIn v) (opposite D) ≡ Answered (withLevel p (levelIn v))
+pub neighbour-back : (n : ℕ) (T : List ℕ) (p D v : ℕ) → neighbourOf n T p D ≡ Answered v → levelIn v ≡ levelOf n T p
+    → neighbourOf n T (nodeIn v) (opposite D) ≡ Answered (withLevel p (levelIn v))
 unfolding neighbourFound
-neighbour-back n T acc p D v lt h e same =
+neighbour-back n T p D v e same =
     let m : ℕ = nodeIn v in
-    let l = beside-p n T acc p lt D m (levelIn v) (neighbour-found n T acc p lt D v h e) in
-    let c = neighbour-smallest n T acc p lt D v h e .contains in
+    let known = neighbour-answer n T p D v e in
+    let acc = known .asked .accepted in
+    let lt = known .asked .node in
+    let l = beside-p n T acc p lt D m (levelIn v) (known .found) in
+    let c = known .smallest .contains in
     let i = c .inside in
     let d : ℕ = depthTo T n p in
     let x : ℕ = column (pathTo T n p) in
     let y : ℕ = row (pathTo T n p) in
-    let k = cancels D h in
-    let dm : depthTo T n m ≡ d = omega (arith, neighbour-level n T acc p lt D v h e, depth-le T n p, depth-le T n m) in
+    let k = cancels D (known .way) in
+    let dm : depthTo T n m ≡ d = omega (arith, known .level, depth-le T n p, depth-le T n m) in
     let z : d - depthTo T n m ≡ 0 = omega arith in
     let ex : column (pathTo T n m) ≡ x + eastStep D - 1 = sym (rw (z, div-one (x + eastStep D - 1)) at (i .across)) in
     let ey : row (pathTo T n m) ≡ y + southStep D - 1 = sym (rw (z, div-one (y + southStep D - 1)) at (i .down)) in

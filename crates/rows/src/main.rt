@@ -104,8 +104,8 @@ fn main() {
         refusal(loaded);
         return;
     };
-    let level = value % 8;
-    let nodes = value / 8;
+    let level = value % answer::LEVEL_ROOM;
+    let nodes = value / answer::LEVEL_ROOM;
     title(level, nodes);
     let words = 6 * nodes as usize;
     let links = print_rows(level, &table[..words]);
