@@ -11,7 +11,7 @@ level-of-requires : tie.Need-level-of-requires
 level-of-requires c κs = let z = c .before .pre in record { accepted = z .accepted; node = z .node }
 
 find-requires : tie.Need-find-requires
-find-requires c κs = let z = c .before .before .pre in (z .accepted, z .node, c .level-of .ensures, z .way)
+find-requires c κs = let z = c .before .before .pre in (z .accepted, z .node, c .level-of .ensures, omega (arith, z .way, z .corner))
 
 enum-known-found : tie.Need-enum-known-found
 enum-known-found c = search needs
