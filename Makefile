@@ -1,10 +1,11 @@
 # make            the library: target/staticlib/libsheet.a
+# make shared     the same as a shared object: build/libsheet.so
 # make test       every test, as tests/run
 # make test-c     the C tests alone
 # make bench      each call against plain C written for speed
 # make clean      removes what was made
 #
-# test-c and bench take another archive by LIB=path.
+# shared, test-c and bench take another archive by LIB=path.
 #
 # The archive is for x86-64. On another processor its programs are made by a cross
 # compiler and run under an emulator (tests/on-x86), and a time says nothing.
@@ -48,13 +49,28 @@ TESTS = $(patsubst tests/%.c,build/tests/%,$(wildcard tests/*_test.c)) \
 EXAMPLES = $(patsubst %.c,build/%,$(wildcard examples/*.c))
 BENCHES = $(patsubst bench/%.c,build/bench/%,$(wildcard bench/*_bench.c))
 
-.PHONY: lib test test-c test-programs list-tests bench clean
+# The one place of the version is the header. Whatever moves an answer moves its first two numbers, and
+# the shared object's symbols carry them: a program made with other answers' header does not start with it.
+VERSION := $(shell sed -n 's/^.define SHEET_VERSION "\(.*\)"$$/\1/p' include/sheet.h)
+ANSWERS = $(basename $(VERSION))
+SONAME = libsheet.so.$(basename $(ANSWERS))
+
+.PHONY: lib shared test test-c test-programs list-tests bench clean
 .SECONDARY:
 
 lib: target/staticlib/libsheet.a
 
 target/staticlib/libsheet.a: crates.txt $(shell find crates 2>/dev/null)
 	rt staticlib sheet
+
+shared: build/libsheet.so
+
+# It gives out the calls alone, leaves none undefined and needs no change where it is loaded.
+build/libsheet.so: $(LIB) include/sheet.h
+	@mkdir -p $(@D)
+	echo 'SHEET_$(ANSWERS) { global: sheet_*; local: *; };' >build/libsheet.map
+	$(CC) -shared -Wl,-soname,$(SONAME) -Wl,--version-script=build/libsheet.map -Wl,-z,defs -Wl,-z,text \
+		-Wl,--whole-archive $(LIB) -Wl,--no-whole-archive -o $@
 
 test:
 	@tests/run

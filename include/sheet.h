@@ -56,6 +56,12 @@
 extern "C" {
 #endif
 
+/* ---- Version ----------------------------------------------------------- */
+
+/* Major 0 as long as requests move answers, then the number of requests that
+ * have landed, then the mendings since, which move no answer. */
+#define SHEET_VERSION "0.3.0"
+
 /* ---- Sizes ------------------------------------------------------------- */
 
 #define SHEET_HIGHEST_LEVEL 7      /* the highest level n of a sheet          */
