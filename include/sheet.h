@@ -2,7 +2,8 @@
  * sheet.h - quadtree map sheets: the calls of libsheet.a
  *
  * This header is the manual. It compiles as C89 (with <stddef.h> and
- * <stdint.h>) and as C++.
+ * <stdint.h>) and all C since, and as C++98 and all C++ since, without a
+ * warning at the strictest levels of gcc and clang.
  *
  * Sheets
  *
@@ -92,22 +93,32 @@ extern "C" {
 
 /* ---- The number given back --------------------------------------------- */
 
-/* The code and the value of a number given back by a call. Each takes its
- * argument once. */
-#define sheet_code(answer)  ((uint32_t)((answer) & 255u))
-#define sheet_value(answer) ((uint64_t)(answer) >> 8)
+/* A number below 2^32 as a uint32_t, for the macros below. C++ has a cast of its
+ * own, so as not to warn of C's. */
+#ifdef __cplusplus
+#define SHEET_WORD(number) (static_cast<uint32_t>(number))
+#else
+#define SHEET_WORD(number) ((uint32_t)(number))
+#endif
+
+/* The code, a uint32_t, and the value, a uint64_t, of a number given back by a
+ * call. The argument is that number, a uint64_t, and each takes it once; of a
+ * constant they make a constant. */
+#define sheet_code(answer)  SHEET_WORD((answer) & 255u)
+#define sheet_value(answer) ((answer) >> 8)
 
 /* A level that stands beside a node or a node count in a value is below this:
  * the value is the node or the count times this, plus the level. */
 #define SHEET_PACKED_LEVELS 8
 
-/* The parts of such a value. With code SHEET_OK, sheet_node and sheet_level are
- * for the answers of sheet_neighbour, sheet_corner_leaf and
- * sheet_diagonal_leaf, sheet_count and sheet_level for those of sheet_read; for
- * any other code or call they mean nothing. Each takes its argument once. */
-#define sheet_node(answer)  ((uint32_t)(sheet_value(answer) / SHEET_PACKED_LEVELS))
-#define sheet_count(answer) ((uint32_t)(sheet_value(answer) / SHEET_PACKED_LEVELS))
-#define sheet_level(answer) ((uint32_t)(sheet_value(answer) % SHEET_PACKED_LEVELS))
+/* The parts of such a value, each a uint32_t; the argument is as above. With
+ * code SHEET_OK, sheet_node and sheet_level are for the answers of
+ * sheet_neighbour, sheet_corner_leaf and sheet_diagonal_leaf, sheet_count and
+ * sheet_level for those of sheet_read; for any other code or call they mean
+ * nothing. */
+#define sheet_node(answer)  SHEET_WORD(sheet_value(answer) / SHEET_PACKED_LEVELS)
+#define sheet_count(answer) SHEET_WORD(sheet_value(answer) / SHEET_PACKED_LEVELS)
+#define sheet_level(answer) SHEET_WORD(sheet_value(answer) % SHEET_PACKED_LEVELS)
 
 /*
  * The codes. Each call's own comment says which of them it gives and, where
@@ -353,7 +364,7 @@ uint64_t sheet_decode(uint32_t n, const uint32_t *table, size_t table_len, uint8
  *
  * sheet_node and sheet_level take that value apart. The level says how large
  * the neighbour is, and the caller need not ask again or climb for it: its side
- * is 1 << sheet_level(answer) pixels. The level is at least that of the node
+ * is 1u << sheet_level(answer) pixels. The level is at least that of the node
  * asked about, and a fork has that very level.
  *
  * The root has no neighbour: all its directions are SHEET_NO_BLOCK.
@@ -405,7 +416,7 @@ uint64_t sheet_neighbour(uint32_t n, const uint32_t *table, size_t table_len, ui
  *
  * sheet_node and sheet_level take that value apart. The level says how large
  * the leaf is, and the caller need not ask again or climb for it: its side is
- * 1 << sheet_level(answer) pixels. The leaf may be larger or smaller than the
+ * 1u << sheet_level(answer) pixels. The leaf may be larger or smaller than the
  * node asked about, or of its size.
  *
  * Buffers:   the table is only read, and stands afterwards as it was.
@@ -453,7 +464,7 @@ uint64_t sheet_corner_leaf(uint32_t n, const uint32_t *table, size_t table_len, 
  *
  * sheet_node and sheet_level take that value apart. The level says how large
  * the leaf is, and the caller need not ask again or climb for it: its side is
- * 1 << sheet_level(answer) pixels. The leaf may be larger or smaller than the
+ * 1u << sheet_level(answer) pixels. The leaf may be larger or smaller than the
  * node asked about, or of its size.
  *
  * Buffers:   the table is only read, and stands afterwards as it was.

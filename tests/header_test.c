@@ -64,7 +64,8 @@ static void check_parts_of_a_value(void)
     report_check("parts within a sum", 54 - sheet_node(answer) * 6 == 0 && 54 - sheet_count(answer) * 6 == 0 &&
                                            1 << sheet_level(answer) == 4 && 7 % sheet_level(answer) == 1);
     report_check("parts are words", sizeof sheet_node(answer) == 4 && sizeof sheet_count(answer) == 4 &&
-                                        sizeof sheet_level(answer) == 4);
+                                        sizeof sheet_level(answer) == 4 && sizeof sheet_code(answer) == 4);
+    report_check("a value is two", sizeof sheet_value(answer) == 8);
 }
 
 static void check_numbers(void)
