@@ -1,11 +1,15 @@
 # make            the library: target/staticlib/libsheet.a
 # make shared     the same as a shared object: build/libsheet.so
+# make man        the man pages: build/man3
+# make install    archive, shared object, header, pkg-config file and man pages to
+#                 PREFIX, /usr/local unless it is given; DESTDIR stands before it
+# make uninstall  removes those files, and no folder
 # make test       every test, as tests/run
 # make test-c     the C tests alone
 # make bench      each call against plain C written for speed
 # make clean      removes what was made
 #
-# shared, test-c and bench take another archive by LIB=path.
+# shared, install, test-c and bench take another archive by LIB=path.
 #
 # The archive is for x86-64. On another processor its programs are made by a cross
 # compiler and run under an emulator (tests/on-x86), and a time says nothing.
@@ -55,7 +59,26 @@ VERSION := $(shell sed -n 's/^.define SHEET_VERSION "\(.*\)"$$/\1/p' include/she
 ANSWERS = $(basename $(VERSION))
 SONAME = libsheet.so.$(basename $(ANSWERS))
 
-.PHONY: lib shared test test-c test-programs list-tests bench clean
+# Where things are installed. Each folder can be given by itself; a name with a space in it is refused.
+PREFIX = /usr/local
+prefix = $(abspath $(PREFIX))
+includedir = $(prefix)/include
+libdir = $(prefix)/lib
+mandir = $(prefix)/share/man
+pkgconfigdir = $(libdir)/pkgconfig
+INSTALL = install
+in_prefix = $(patsubst $(prefix)/%,$${prefix}/%,$(1))
+
+# A page for each name that is called: the calls and the macros that take an answer apart.
+PAGES := sheet $(shell sed -n -e 's/^uint64_t \(sheet_[a-z_]*\).*/\1/p' -e 's/^.define \(sheet_[a-z_]*\).*/\1/p' \
+	include/sheet.h)
+MAN = $(PAGES:%=build/man3/%.3)
+FOLDERS = $(addprefix $(DESTDIR),$(includedir) $(libdir) $(pkgconfigdir) $(mandir)/man3)
+INSTALLED = $(addprefix $(DESTDIR),$(includedir)/sheet.h $(libdir)/libsheet.a $(libdir)/libsheet.so.$(VERSION) \
+	$(libdir)/$(SONAME) $(libdir)/libsheet.so $(pkgconfigdir)/sheet.pc $(MAN:build/%=$(mandir)/%))
+ONE_WORD_EACH = $(if $(filter-out 4,$(words $(FOLDERS))),$(error a folder has a space in its name))
+
+.PHONY: lib shared man install uninstall test test-c test-programs list-tests bench clean
 .SECONDARY:
 
 lib: target/staticlib/libsheet.a
@@ -71,6 +94,32 @@ build/libsheet.so: $(LIB) include/sheet.h
 	echo 'SHEET_$(ANSWERS) { global: sheet_*; local: *; };' >build/libsheet.map
 	$(CC) -shared -Wl,-soname,$(SONAME) -Wl,--version-script=build/libsheet.map -Wl,-z,defs -Wl,-z,text \
 		-Wl,--whole-archive $(LIB) -Wl,--no-whole-archive -o $@
+
+man: $(MAN)
+
+build/man3/sheet.3: packaging/man include/sheet.h
+	@mkdir -p $(@D)
+	sh packaging/man include/sheet.h >$@.part
+	mv $@.part $@
+
+build/man3/sheet_%.3:
+	@mkdir -p $(@D)
+	echo '.so man3/sheet.3' >$@
+
+install: $(LIB) build/libsheet.so $(MAN)
+	$(ONE_WORD_EACH)$(INSTALL) -d $(FOLDERS)
+	$(INSTALL) -m 644 include/sheet.h $(DESTDIR)$(includedir)
+	$(INSTALL) -m 644 $(LIB) $(DESTDIR)$(libdir)/libsheet.a
+	$(INSTALL) -m 755 build/libsheet.so $(DESTDIR)$(libdir)/libsheet.so.$(VERSION)
+	ln -sf libsheet.so.$(VERSION) $(DESTDIR)$(libdir)/$(SONAME)
+	ln -sf $(SONAME) $(DESTDIR)$(libdir)/libsheet.so
+	sed -e 's|@prefix@|$(prefix)|' -e 's|@includedir@|$(call in_prefix,$(includedir))|' \
+		-e 's|@libdir@|$(call in_prefix,$(libdir))|' -e 's|@version@|$(VERSION)|' packaging/sheet.pc.in >build/sheet.pc
+	$(INSTALL) -m 644 build/sheet.pc $(DESTDIR)$(pkgconfigdir)
+	$(INSTALL) -m 644 $(MAN) $(DESTDIR)$(mandir)/man3
+
+uninstall:
+	$(ONE_WORD_EACH)rm -f $(INSTALLED)
 
 test:
 	@tests/run

@@ -1,9 +1,10 @@
 /*
- * sheet.h - quadtree map sheets: the calls of libsheet.a
+ * sheet.h - quadtree map sheets: the calls of libsheet
  *
- * This header is the manual. It compiles as C89 (with <stddef.h> and
- * <stdint.h>) and all C since, and as C++98 and all C++ since, without a
- * warning at the strictest levels of gcc and clang.
+ * The header sheet.h is the manual, and the page sheet(3) is made from it. It
+ * compiles as C89 (with <stddef.h> and <stdint.h>) and all C since, and as
+ * C++98 and all C++ since, without a warning at the strictest levels of gcc and
+ * clang.
  *
  * Sheets
  *
@@ -93,9 +94,9 @@ extern "C" {
 
 /* ---- The number given back --------------------------------------------- */
 
+#ifdef __cplusplus
 /* A number below 2^32 as a uint32_t, for the macros below. C++ has a cast of its
  * own, so as not to warn of C's. */
-#ifdef __cplusplus
 #define SHEET_WORD(number) (static_cast<uint32_t>(number))
 #else
 #define SHEET_WORD(number) ((uint32_t)(number))
@@ -120,8 +121,10 @@ extern "C" {
 #define sheet_count(answer) SHEET_WORD(sheet_value(answer) / SHEET_PACKED_LEVELS)
 #define sheet_level(answer) SHEET_WORD(sheet_value(answer) % SHEET_PACKED_LEVELS)
 
+/* ---- The codes --------------------------------------------------------- */
+
 /*
- * The codes. Each call's own comment says which of them it gives and, where
+ * Each call's own comment says which of the codes it gives and, where
  * several apply, which one. Codes 10 and 15 of the documents belong to the row
  * walk and the row program, and no call gives them.
  */
@@ -359,8 +362,8 @@ uint64_t sheet_decode(uint32_t n, const uint32_t *table, size_t table_len, uint8
  *
  * If none fails the answer is
  *
- *   SHEET_OK             value 8q + i       q is the neighbour's number, i its
- *                                           level.
+ *   SHEET_OK             value 8q + i       q is the neighbour's number, i
+ *                                           its level.
  *
  * sheet_node and sheet_level take that value apart. The level says how large
  * the neighbour is, and the caller need not ask again or climb for it: its side
@@ -407,7 +410,8 @@ uint64_t sheet_neighbour(uint32_t n, const uint32_t *table, size_t table_len, ui
  *                        value p     sheet_check's first fault, at node p
  *   SHEET_NO_SUCH_NODE   value node      node is N or above
  *   SHEET_BAD_DIRECTION  value side      side is above 3
- *   SHEET_BAD_DIRECTION  value corner    corner is above 3, or not on that side
+ *   SHEET_BAD_DIRECTION  value corner    corner is above 3, or not on that
+ *                                        side
  *   SHEET_NO_BLOCK       value 0         that pixel is off the sheet
  *
  * If none fails the answer is
@@ -574,12 +578,13 @@ uint64_t sheet_distance(uint32_t n, const uint32_t *table, size_t table_len, uin
  *   SHEET_BAD_LENGTH     value 1     numbers_len is not N = table_len / 6
  *   SHEET_BAD_NODE, SHEET_TOO_DEEP or SHEET_NEEDLESS_FORK
  *                        value p     sheet_check's first fault, at node p
- *   SHEET_NO_ROOM        value 5B    reg_len is below 5B, B being the number of
- *                                    black leaves
+ *   SHEET_NO_ROOM        value 5B    reg_len is below 5B, B being the number
+ *                                    of black leaves
  *
  * If none fails the answer is
  *
- *   SHEET_OK             value: the number of ponds, 0 where no pixel is black.
+ *   SHEET_OK             value: the number of ponds, 0 where no pixel is
+ *                        black.
  *
  * The register needs only room: any reg_len from 5B on will do, as there are
  * never more ponds than black leaves. SHEET_LONGEST_REGISTER words are room
@@ -639,8 +644,8 @@ uint64_t sheet_ponds(uint32_t n, const uint32_t *table, size_t table_len, uint32
  * the file's form asks for:
  *
  *   SHEET_FILE_ENDS      value file_len     it is not there
- *   SHEET_BAD_RECORD     value its place    it is a wrong mark byte, or a type
- *                                           above 2
+ *   SHEET_BAD_RECORD     value its place    it is a wrong mark byte, or a
+ *                                           type above 2
  *   SHEET_BAD_LEVEL      value 2            it is n, and above 7
  *   SHEET_TOO_DEEP       value its place    it is the type of a fork where a
  *                                           block is one pixel
@@ -649,8 +654,8 @@ uint64_t sheet_ponds(uint32_t n, const uint32_t *table, size_t table_len, uint32
  *
  * After the block, in this order:
  *
- *   SHEET_BAD_COUNT      value 3            the header's N is not the number of
- *                                           node records
+ *   SHEET_BAD_COUNT      value 3            the header's N is not the number
+ *                                           of node records
  *   SHEET_BAD_COUNT      value 5 + 3N       bytes are left over from there on
  *   SHEET_NO_ROOM        value 6N           table_len is below 6N
  *

@@ -79,7 +79,6 @@ cross=
 
 every_name_is_used
 version_counts_requests
-# shellcheck disable=SC2086 # the flags are words
 {
     compiles gcc "${cross}gcc" c "$c_standards" $gnu $gnu_c
     compiles g++ "${cross}g++" c++ "$cxx_standards" $gnu $gnu_cxx
