@@ -57,9 +57,15 @@ files() { # FOLDER
     find "$1" ! -type d -printf '%m %P %l\n' | sed 's/ *$//' | LC_ALL=C sort
 }
 
+# Without it nothing else can be tried.
 installs() {
     install_to PREFIX="$prefix"
-    verdict "make install" $?
+    status=$?
+    verdict "make install" $status
+    return $status
+}
+
+installed_files() {
     wanted_files >"$work/wanted"
     files "$prefix" >"$work/found"
     same "its files and their modes" "$work/wanted" "$work/found"
@@ -95,7 +101,7 @@ flags_beside_others() { echo $(PKG_CONFIG_PATH="$prefix/lib/pkgconfig" pkg-confi
 pkg_config() {
     [ "$(flags --cflags --libs)" = "-I$prefix/include -L$prefix/lib -lsheet" ]
     verdict "pkg-config gives the copy's folders" $?
-    [ "$(flags_beside_others --cflags --libs)" = "$(flags --cflags --libs)" ]
+    [ "$(flags_beside_others --cflags --libs)" = "-I$prefix/include -L$prefix/lib -lsheet" ]
     verdict "and finds it beside other libraries" $?
     [ -n "$version" ] && [ "$(flags --modversion)" = "$version" ]
     verdict "the header's version is pkg-config's" $?
@@ -168,7 +174,7 @@ with() { # PROGRAM COMMAND
 # ---- away again
 
 uninstalls() {
-    : >"$prefix/lib/libsheet.so.old"
+    touch "$prefix/lib/libsheet.so.old"
     uninstall_from PREFIX="$prefix"
     [ "$(find "$prefix" ! -type d)" = "$prefix/lib/libsheet.so.old" ] && [ -d "$prefix/share/man/man3" ]
     verdict "make uninstall takes away its own files and no other" $?
@@ -211,8 +217,8 @@ for tool in pkg-config "$readelf" "$cc"; do
     command -v "$tool" >/dev/null && continue
     verdict "$tool is here, which this test needs" 1
 done
-if [ "$failed" -eq 0 ]; then
-    installs
+if [ "$failed" -eq 0 ] && installs; then
+    installed_files
     shared_object
     pkg_config
     programs
