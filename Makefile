@@ -45,12 +45,14 @@ works = $(shell mkdir -p build && echo 'int main(void) { return 0; }' >build/wor
 	$(1) build/works.c -o build/works 2>/dev/null && $(RUN) build/works && echo yes)
 HAS_CXX := $(call works,$(CXX) -x c++)
 HAS_SANITIZE := $(if $(ON_X86),$(call works,$(CC) $(SANITIZE)))
+HAS_PNG := $(if $(ON_X86),$(call works,$(CC) -include png.h -lpng))
 
 CALL_TESTS = $(filter-out tests/header_test.c,$(wildcard tests/*_test.c))
 TESTS = $(patsubst tests/%.c,build/tests/%,$(wildcard tests/*_test.c)) \
 	$(if $(HAS_CXX),build/tests/header_test_as_cxx) \
 	$(if $(HAS_SANITIZE),$(patsubst tests/%.c,build/sanitized/%,$(CALL_TESTS)))
 EXAMPLES = $(patsubst %.c,build/%,$(wildcard examples/*.c))
+VIEWER_TESTS = $(if $(HAS_PNG),build/tests/viewer/png) $(if $(HAS_SANITIZE),build/sanitized/viewer)
 BENCHES = $(patsubst bench/%.c,build/bench/%,$(wildcard bench/*_bench.c))
 
 # The one place of the version is the header. Whatever moves an answer moves its first two numbers, and
@@ -127,7 +129,7 @@ test:
 test-c:
 	@tests/run c $(LIB)
 
-test-programs: $(TESTS) $(EXAMPLES)
+test-programs: $(TESTS) $(EXAMPLES) $(VIEWER_TESTS)
 
 # The programs that tests/run runs; what this machine cannot run is said on stderr.
 list-tests:
@@ -148,10 +150,22 @@ build/%.o: %.c $(HEADERS)
 build/tests/header_test.o: CFLAGS = -std=c89 -pedantic -O2 $(WARN)
 build/bench/plain/%.o: CFLAGS = $(PLAIN_CFLAGS)
 
-# An example sees the header and the library, and nothing else.
+# An example sees the header and the library, and nothing else; the viewer also
+# libpng where it is there, and tests/viewer/png reads what it wrote.
 build/examples/%: examples/%.c include/sheet.h $(LIB)
 	@mkdir -p $(@D)
-	$(CC) $(CFLAGS) -Iinclude -o $@ $< $(LIB)
+	$(CC) $(CFLAGS) -Iinclude -o $@ $< $(LIB) $(WITH)
+
+build/examples/viewer: WITH = $(if $(HAS_PNG),-DWITH_PNG -lpng)
+build/examples/viewer build/sanitized/viewer: WARN += -Wpedantic -Wconversion -Wshadow
+
+build/sanitized/viewer: examples/viewer.c include/sheet.h $(LIB)
+	@mkdir -p $(@D)
+	$(CC) $(CFLAGS) $(SANITIZE) -Iinclude -o $@ $< $(LIB)
+
+build/tests/viewer/png: tests/viewer/png.c
+	@mkdir -p $(@D)
+	$(CC) $(CFLAGS) -o $@ $< -lpng
 
 build/tests/%_test: build/tests/%_test.o $(SHARED_OBJECTS) $(LIB)
 	$(CC) -o $@ $^
