@@ -42,19 +42,10 @@ rust() {
         "$(awk -v word='failed;' "$sum" "$built/log/rust.out")"
 }
 
-# The Makefile's shared object or, where it has no such target, one that is made here.
-shared() {
-    if make -n LIB="$archive" shared >/dev/null 2>&1; then
-        make -s LIB="$archive" shared
-    else
-        cc -shared -o build/libsheet.so -Wl,--whole-archive "$archive" -Wl,--no-whole-archive
-    fi
-}
-
 # Python ends its tests with 'Ran N tests in ..', and then 'OK' or 'FAILED (failures=F, errors=E)'.
 python() {
     command -v python3 >/dev/null || { failure Python "there is no python3 here"; return; }
-    shared || { failure Python "no shared object could be made"; return; }
+    make -s LIB="$archive" shared || { failure Python "no shared object could be made"; return; }
     (cd callers/python && SHEET_LIBRARY=$built/libsheet.so PYTHONDONTWRITEBYTECODE=1 exec python3 -m unittest) \
         >"$built/log/python.out" 2>&1
     status=$?
