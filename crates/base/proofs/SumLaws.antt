@@ -65,6 +65,18 @@ term-le f (suc k) i h =
     (λ (l : i < k). omega (arith, term-le f k i l))
     (eq-or-lt-of-le (le-of-suc-le-suc h))
 
+-- a sum of k terms, none above 1, that is k has no term below 1
+pub sum-full : (f : ℕ → ℕ) (k : ℕ) → ((i : ℕ) → i < k → f i ≤ 1) → sum f k ≡ k → (i : ℕ) → i < k → f i ≡ 1
+unfolding sum
+sum-full f zero h e i lt = absurd (not-suc-le-zero lt)
+sum-full f (suc k) h e i lt =
+    let few = sum-le f (λ j. 1) k (λ j l. h j (omega arith)) in
+    let rest : sum f k ≡ k = omega (arith, few, sum-ones k, h k (omega arith)) in
+    ⊎-elim
+    (λ (d : i ≡ k). ap f d ∙ omega (arith, h k (omega arith)))
+    (λ (l : i < k). sum-full f k (λ j m. h j (omega arith)) rest i l)
+    (eq-or-lt-of-le (le-of-suc-le-suc lt))
+
 -- k numbers, each of which is the value of f at one of the places below m that are counted
 pub no-more-than : (f : ℕ → ℕ) (b : ℕ → Bool) (m k : ℕ)
     → ((a : ℕ) → a < k → (p : ℕ) × (p < m) × (b p ≡ true) × (f p ≡ a)) → k ≤ sum (λ p. cond (b p) 1 0) m

@@ -95,7 +95,7 @@ module _ (n : ℕ) (T : List ℕ) where
       rw e at (from-first (nodes T) 0 p lt (λ i le l. h i (omega arith)) (rw (sym e) at f))
 
   -- no fault at all
-  from-sound-all : (k p : ℕ) → ((i : ℕ) → p ≤ i → i < p + k → faultAt n T i ≡ 0) → faultFrom n T k p ≡ Answered (p + k)
+  pub from-sound-all : (k p : ℕ) → ((i : ℕ) → p ≤ i → i < p + k → faultAt n T i ≡ 0) → faultFrom n T k p ≡ Answered (p + k)
   from-sound-all zero p h = from-none n T 0 p refl ∙ ap Answered (sym (add-zero p))
   from-sound-all (suc k) p h =
       let e : p + suc k ≡ p + 1 + k = omega arith in

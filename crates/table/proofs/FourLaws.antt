@@ -12,7 +12,7 @@ pub record One (g : ℕ → Bool) : Type 0 where
   pub holds : g (firstQuadrant g) ≡ true
   pub only : (q : ℕ) → q < 4 → g q ≡ true → q ≡ firstQuadrant g
 
-one-le : (b : Bool) → one b ≤ 1
+pub one-le : (b : Bool) → one b ≤ 1
 one-le true = omega arith
 one-le false = omega arith
 

@@ -4,7 +4,10 @@ pub mod FourLaws
 pub mod AcceptedLaws
 pub mod NodeLaws
 pub mod PictureLaws
+pub mod FamilyLaws
 pub mod SizeLaws
+pub mod SeenLaws
+pub mod SoundLaws
 pub mod PreorderLaws
 pub mod PreorderAccepted
 pub mod SonTypeLaws

@@ -16,10 +16,11 @@ use Rattle.quad.specs.Numbers.{topLevel, topColour, none, forkType}
 use Rattle.quad.specs.Tree.{Tree, leaf, fork, sonOf, Within, Reduced, Coloured, sizeOf}
 use Rattle.quad.proofs.TreeLaws.{by-quadrant, each-son, within-son, coloured-son, reduced-son, same-sons, size-pos, size-fits}
 use Rattle.table.specs.Table.{nodes, father, son, type, isFork}
-use Rattle.table.specs.Rules.{depthTo, allOf, one, typeOk, fatherOk, onceOk, sonOk, wordOk, sonsOk, depthOk, sonAlike, mixedOk, faultAt, Accepted}
+use Rattle.table.specs.Rules.{depthTo, allOf, one, fatherOk, onceOk, sonAlike, mixedOk, faultAt, Accepted}
+use Rattle.table.specs.Links.{SonsIn}
 use Rattle.table.specs.Nodes.{treeAt}
 use Rattle.table.specs.Preorder.{preorder, preorderTable}
-use Rattle.table.proofs.RuleLaws.{depth-root, depth-step, all-at, Passed}
+use Rattle.table.proofs.RuleLaws.{depth-root, depth-step, all-at, Placed, leaf-passed, fork-passed}
 use Rattle.table.proofs.AcceptedLaws.{tree-leaf, tree-fork, depth-less, Sound}
 use Rattle.table.proofs.PreorderLaws.{preorder-length}
 
@@ -173,10 +174,6 @@ holds-tree T (suc l) f p (fork a b c d) h w co =
     (holds-tree T l p (sonNode p t q) (sonOf t q) (r .parts q lt) (within-son l t w q) (each-son Coloured co q)))
 
 -- a node that keeps the six rules has no fault
-no-fault : (n : ℕ) (T : List ℕ) (p : ℕ) → Passed n T p → faultAt n T p ≡ 0
-unfolding faultAt
-no-fault n T p r = rw (faultAt, r .kind, r .up, r .once, r .sons, r .deep, r .mixed)
-
 -- four words that name four nodes in rising order name each of them once
 named-once : (g : ℕ → ℕ) → ((i j : ℕ) → i < j → g i < g j) → (q : ℕ) → q < 4
     → one (eqb (g 0) (g q)) + one (eqb (g 1) (g q)) + one (eqb (g 2) (g q)) + one (eqb (g 3) (g q)) ≡ 1
@@ -192,28 +189,6 @@ named-once g rise q lt = rw (same 0, same 1, same 2, same 3) (by-quadrant (λ (q
         (λ (l : q < i). ne-eqb (g i) (g q) (λ e. omega (arith, rise q i l)) ∙ sym (ne-eqb i q (λ e. omega arith)))
         (eq-or-lt-of-le h))
         (lt-or-ge i q)
-
-all-four : (g : ℕ → Bool) → ((q : ℕ) → q < 4 → g q ≡ true) → allOf g 4 0 ≡ true
-unfolding allOf
-all-four g h = rw (h 0 (omega arith), h 1 (omega arith), h 2 (omega arith), h 3 (omega arith))
-
--- rules 2 and 3, which a node keeps by its father's words
-record Placed (T : List ℕ) (p : ℕ) : Type 0 where
-  up : fatherOk T p ≡ true
-  once : onceOk T p ≡ true
-
-leaf-passed : (n : ℕ) (T : List ℕ) (f p c : ℕ) → LeafAt T f p c → c ≤ topColour → Placed T p → Passed n T p
-unfolding typeOk sonsOk wordOk depthOk mixedOk
-leaf-passed n T f p c r le pl =
-    let lf : isFork T p ≡ false = ne-eqb (type T p) forkType (λ e. omega (arith, r .kind)) in
-    record {
-      kind = rw (le-leb (type T p) topColour (omega (arith, r .kind)));
-      up = pl .up;
-      once = pl .once;
-      sons = all-four (wordOk T p) (λ q lt. rw (lf, eq-eqb (son T p q) none (r .sons q lt)));
-      deep = rw lf;
-      mixed = rw lf;
-    }
 
 module _ (T : List ℕ) (f p : ℕ) (a b c d : Tree) (r : ForkAt T f p (fork a b c d)) where
   fork-here : isFork T p ≡ true
@@ -256,29 +231,14 @@ module _ (T : List ℕ) (f p : ℕ) (a b c d : Tree) (r : ForkAt T f p (fork a b
           let z : t ≡ leaf k = same-sons t (leaf k) rd (unfold Reduced in tt) (λ q lt. leaves q lt ∙ unfold sonOf in refl) in
           absurd (let w : _≡_ {A = ℕ} 0 1 = cc in omega arith)
 
-  fork-passed : (n : ℕ) → p + sizeOf (fork a b c d) ≤ nodes T → depthTo T n p < n → Reduced (fork a b c d) → Placed T p → Passed n T p
-  unfolding typeOk sonsOk wordOk sonOk depthOk
-  fork-passed n room deep rd pl =
+  fork-sons : p + sizeOf (fork a b c d) ≤ nodes T → SonsIn T p
+  fork-sons room q lt =
       let t : Tree = fork a b c d in
-      let fk = fork-here in
+      let e = r .sons q lt in
       record {
-        kind = rw fk (or-true (leb (type T p) topColour));
-        up = pl .up;
-        once = pl .once;
-        sons =
-            all-four (wordOk T p) (λ q lt.
-            let s : ℕ = sonNode p t q in
-            let below = node-end p a b c d q lt in
-            let above = node-above p t q in
-            rw (
-              fk,
-              r .sons q lt,
-              lt-ltb p s above,
-              lt-ltb s (nodes T) (omega (arith, size-pos (sonOf t q))),
-              eq-eqb (father T s) p (son-up q lt),
-            ));
-        deep = rw (fk, lt-ltb (depthTo T n p) n deep);
-        mixed = fork-mixed rd;
+        above = rw e (node-above p t q);
+        below = rw e (omega (arith, node-end p a b c d q lt, size-pos (sonOf t q)));
+        up = rw e (son-up q lt);
       }
 
 depth-under : (n : ℕ) (T : List ℕ) (p s : ℕ) → father T s ≡ p → p < s → depthTo T n p < n → depthTo T n s ≡ suc (depthTo T n p)
@@ -291,7 +251,10 @@ leaf-faultless : (n : ℕ) (T : List ℕ) (l f p c : ℕ) → Holds T f p (leaf 
 unfolding sizeOf Coloured
 leaf-faultless n T l f p c h s pl k lo hi =
     let e : p ≡ k = omega arith in
-    rw (← e) (no-fault n T p (leaf-passed n T f p c (leaf-at T f p c h) (s .coloured) pl))
+    rw (← e) (
+      let r = leaf-at T f p c h in
+      leaf-passed n T p (omega (arith, r .kind, s .coloured)) (r .sons) pl
+    )
 
 no-fork : {a b c d : Tree} → Sound 0 (fork a b c d) → ⊥
 unfolding Within
@@ -311,7 +274,9 @@ holds-faultless n T (suc l) f p (fork a b c d) h room s e pl k lo hi =
     let r = fork-at T f p a b c d h in
     let deep : depthTo T n p < n = omega arith in
     ⊎-elim
-    (λ (z : p ≡ k). rw (← z) (no-fault n T p (fork-passed T f p a b c d r n room deep (s .reduced) pl)))
+    (λ (z : p ≡ k). rw (← z) (
+      fork-passed n T p (fork-here T f p a b c d r) (fork-sons T f p a b c d r room) deep (fork-mixed T f p a b c d r (s .reduced)) pl
+    ))
     (λ (g : p < k).
     which-son p t (faultAt n T k ≡ 0) k 4 g (omega (arith, nodes-end p a b c d)) (λ q lt low high.
     let up = son-up T f p a b c d r q lt in

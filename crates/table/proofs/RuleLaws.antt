@@ -8,11 +8,11 @@ use native.Mathlib.Nat.{add-zero, zero-add, eq-or-lt-of-le, not-suc-le-zero}
 use native.Mathlib.Omega.{arith}
 use lib.Dec.{leb, ltb, eqb}
 use lib.ListN.{length}
-use borrow.Author.Tests.{eq-eqb, ne-eqb, eqb-true, ltb-true, lt-ltb, le-ltb}
-use Rattle.base.proofs.BoolLaws.{and-left, and-right, on, off}
+use borrow.Author.Tests.{eq-eqb, ne-eqb, eqb-true, ltb-true, lt-ltb, le-ltb, le-leb}
+use Rattle.base.proofs.BoolLaws.{and-left, and-right, or-true, on, off}
 use Rattle.answer.specs.declared.Outcome.the-variants.{Answered, BadLevel, WrongLength}
-use Rattle.quad.specs.Numbers.{none, topLevel, maxWords}
-use Rattle.table.specs.Table.{nodes, father, son, isFork}
+use Rattle.quad.specs.Numbers.{none, topLevel, topColour, forkType, maxWords}
+use Rattle.table.specs.Table.{nodes, father, son, type, isFork}
 use Rattle.table.specs.Links.{Rising, SonIn, SonsIn}
 use Rattle.table.specs.Rules.{
   depthTo,
@@ -152,6 +152,49 @@ unfolding faultAt
 passed n T p e =
     let z = code-zero (typeOk T p) (fatherOk T p) (onceOk T p) (sonsOk T p) (depthOk n T p) (mixedOk T p) e in
     record { kind = z .0; up = z .1; once = z .2; sons = z .3; deep = z .4; mixed = z .5 }
+
+no-fault : (n : ℕ) (T : List ℕ) (p : ℕ) → Passed n T p → faultAt n T p ≡ 0
+unfolding faultAt
+no-fault n T p r = rw (faultAt, r .kind, r .up, r .once, r .sons, r .deep, r .mixed)
+
+all-four : (g : ℕ → Bool) → ((q : ℕ) → q < 4 → g q ≡ true) → allOf g 4 0 ≡ true
+unfolding allOf
+all-four g h = rw (h 0 (omega arith), h 1 (omega arith), h 2 (omega arith), h 3 (omega arith))
+
+-- rules 2 and 3, which a node keeps by its father's words
+pub record Placed (T : List ℕ) (p : ℕ) : Type 0 where
+  pub up : fatherOk T p ≡ true
+  pub once : onceOk T p ≡ true
+
+-- a leaf and a fork, each where its father names it, have no fault
+module _ (n : ℕ) (T : List ℕ) (p : ℕ) where
+  pub leaf-passed : type T p ≤ topColour → ((q : ℕ) → q < 4 → son T p q ≡ none) → Placed T p → faultAt n T p ≡ 0
+  unfolding typeOk sonsOk wordOk depthOk mixedOk
+  leaf-passed le words pl =
+      let lf : isFork T p ≡ false = ne-eqb (type T p) forkType (λ e. omega arith) in
+      no-fault n T p (record {
+        kind = rw (le-leb (type T p) topColour le);
+        up = pl .up;
+        once = pl .once;
+        sons = all-four (wordOk T p) (λ q lt. rw (lf, eq-eqb (son T p q) none (words q lt)));
+        deep = rw lf;
+        mixed = rw lf;
+      })
+
+  pub fork-passed : isFork T p ≡ true → SonsIn T p → depthTo T n p < n → mixedOk T p ≡ true → Placed T p → faultAt n T p ≡ 0
+  unfolding typeOk sonsOk wordOk sonOk depthOk
+  fork-passed fk sons deep mixed pl =
+      no-fault n T p (record {
+        kind = rw fk (or-true (leb (type T p) topColour));
+        up = pl .up;
+        once = pl .once;
+        sons =
+            all-four (wordOk T p) (λ q lt.
+            let i = sons q lt in
+            rw (fk, lt-ltb p (son T p q) (i .above), lt-ltb (son T p q) (nodes T) (i .below), eq-eqb (father T (son T p q)) p (i .up)));
+        deep = rw (fk, lt-ltb (depthTo T n p) n deep);
+        mixed = mixed;
+      })
 
 -- the first fault, node by node
 module _ (n : ℕ) (T : List ℕ) where

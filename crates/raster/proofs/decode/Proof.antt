@@ -28,7 +28,7 @@ returns-2 c =
     decodes-length (s .n) (s .table .now) (s .raster .now) _ _ (c .before .before .before .before .before .sizes .ensures) (c .before .before .before .before .answered .ensures) (c .before .before .before .if1 .left) _ _ (c .before .before .raster-length .ensures) (c .before .answered2 .ensures) (c .if2 .taken)
 
 faults-requires : tie.Need-faults-requires
-faults-requires c κs = sized-call _ _ _ _ (c .before .before .before .before .before .sizes .ensures) (c .before .before .before .before .answered .ensures) (c .before .before .before .if1 .left) .few
+faults-requires c κs = sized-call _ _ _ _ (c .before .before .before .before .before .sizes .ensures) (c .before .before .before .before .answered .ensures) (c .before .before .before .if1 .left)
 
 answered-requires-3 : tie.Need-answered-requires-3
 answered-requires-3 c κs = search needs

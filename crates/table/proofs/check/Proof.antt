@@ -17,7 +17,7 @@ unfolding checkOf
 returns c = search (thens, needs)
 
 faults-requires : tie.Need-faults-requires
-faults-requires c κs = sized-call _ _ _ _ (c .before .before .sizes .ensures) (c .before .answered .ensures) (c .if1 .left) .few
+faults-requires c κs = sized-call _ _ _ _ (c .before .before .sizes .ensures) (c .before .answered .ensures) (c .if1 .left)
 
 returns-2 : tie.Need-returns-2
 unfolding checkOf

@@ -23,7 +23,7 @@ returns-2 : tie.Need-returns-2
 returns-2 c = search (each-node-words, needs)
 
 faults-requires : tie.Need-faults-requires
-faults-requires c κs = sized-call _ _ _ _ (c .before .before .before .before .sizes .ensures) (c .before .before .before .answered .ensures) (c .before .before .if1 .left) .few
+faults-requires c κs = sized-call _ _ _ _ (c .before .before .before .before .sizes .ensures) (c .before .before .before .answered .ensures) (c .before .before .if1 .left)
 
 returns-3 : tie.Need-returns-3
 returns-3 c = search (each-node-faults, needs)
