@@ -1,9 +1,11 @@
 -- Writing, one function at a time: a node's block of records, written from a place on.
-use mathlib.Core.List.{List}
+use mathlib.Core.List.{List, [], _++_}
 use mathlib.Core.Path.{_≡_}
-use Prim.Native.Nat.{ℕ, _+_, _*_, _≤_}
+use Prim.Native.Nat.{ℕ, zero, suc, _+_, _-_, _*_, _≤_}
+use lib.ListN.{length}
 use lib.Seq.{sets}
 use Rattle.quad.specs.Tree.{Tree, sizeOf, typesOf}
+use Rattle.table.specs.Table.{son}
 use Rattle.table.specs.Rules.{AtLevel}
 use Rattle.table.specs.Nodes.{treeAt}
 use Rattle.file.specs.File.{records}
@@ -18,3 +20,16 @@ pub record Writable (T : List ℕ) (l p at bytes : ℕ) : Type 0 where
 pub record Wrote (t : Tree) (at : ℕ) (before after : List ℕ) (r : ℕ) : Type 0 where
   pub next : r ≡ at + 3 * sizeOf t
   pub bytes : after ≡ sets before at (records (typesOf t))
+
+-- the tree of son q of a fork at level l, and the types of the sons before son q
+unfoldable pub sonTree : List ℕ → ℕ → ℕ → ℕ → Tree
+sonTree T l p q = treeAt T (l - 1) (son T p q)
+
+unfoldable pub typesTo : List ℕ → ℕ → ℕ → ℕ → List ℕ
+typesTo T l p zero = []
+typesTo T l p (suc q) = typesTo T l p q ++ typesOf (sonTree T l p q)
+
+-- the blocks of the sons before son q were written from a place on, and r is the place after them
+pub record SonsWrote (T : List ℕ) (l p q at : ℕ) (before after : List ℕ) (r : ℕ) : Type 0 where
+  pub next : r ≡ at + 3 * length (typesTo T l p q)
+  pub bytes : after ≡ sets before at (records (typesTo T l p q))

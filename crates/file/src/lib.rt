@@ -1,10 +1,12 @@
 // The sheet file, read and written.
 use answer::Outcome;
 ghost use mathlib.Core.List.{[], _∷_};
+ghost use mathlib.Core.Bool.{true};
 ghost use mathlib.Core.Path.{_≡_};
 ghost use Prim.Native.Nat.{_+_, _*_, _/_, _%_, _<_, _≤_};
 ghost use lib.ListN.{length, getD};
 ghost use lib.Seq.{sets};
+ghost use Rattle.table.specs.Table.{isFork};
 ghost use Rattle.table.specs.Nodes.{treeAt};
 ghost use Rattle.file.specs.File.{mark, sheetMark, nodeMark, isType, blockAt, fourAt, openOf};
 ghost use Rattle.file.specs.Calls.{Reads, Writes};
@@ -283,26 +285,39 @@ fn put_record(file: &mut [u8], at: usize, kind: u8)
     file[at + 2] = kind;
 }
 
-// Writes the block of node p, its sons' in the order NW, NE, SW, SE, and gives the place after it.
+// Writes the block of fork p, its sons' in the order NW, NE, SW, SE, and gives the place after it. A son that is a leaf is written here, without a call.
+fn write_fork(table: &[u32], level: u32, p: usize, file: &mut [u8], at: usize) -> usize
+    requires { ⌜ Writable (now table) level p at (length (now file)) × (isFork (now table) p ≡ true) ⌝ }
+    ensures { λ r. ⌜ Wrote (treeAt (now (table .entry)) level p) at (now (file .entry)) (now (file .exit)) r ⌝ }
+{
+    put_record(file, at, quad::FORK as u8);
+    let mut next = at + 3;
+    let mut q = 0;
+    while q < 4 {
+        let son = table::word_at(table, p, 1 + q);
+        q += 1;
+        let kind = table::word_at(table, son, 5);
+        if kind == quad::FORK {
+            next = write_fork(table, level - 1, son, file, next);
+        } else {
+            put_record(file, next, kind as u8);
+            next += 3;
+        }
+    }
+    next
+}
+
+// Writes the block of node p and gives the place after it.
 fn write_block(table: &[u32], level: u32, p: usize, file: &mut [u8], at: usize) -> usize
     requires { ⌜ Writable (now table) level p at (length (now file)) ⌝ }
     ensures { λ r. ⌜ Wrote (treeAt (now (table .entry)) level p) at (now (file .entry)) (now (file .exit)) r ⌝ }
 {
     let kind = table::word_at(table, p, 5);
-    put_record(file, at, kind as u8);
-    let first = at + 3;
-    if kind != quad::FORK {
-        return first;
+    if kind == quad::FORK {
+        return write_fork(table, level, p, file, at);
     }
-    let below = level - 1;
-    let nw = table::word_at(table, p, 1);
-    let ne = table::word_at(table, p, 2);
-    let sw = table::word_at(table, p, 3);
-    let se = table::word_at(table, p, 4);
-    let second = write_block(table, below, nw, file, first);
-    let third = write_block(table, below, ne, file, second);
-    let fourth = write_block(table, below, sw, file, third);
-    write_block(table, below, se, file, fourth)
+    put_record(file, at, kind as u8);
+    at + 3
 }
 
 // A table's file, whichever numbering the table has; bytes beyond it stay.

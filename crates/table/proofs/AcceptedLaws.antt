@@ -161,7 +161,7 @@ module _ (n : ℕ) (T : List ℕ) (acc : Accepted n T) where
       go false e = omega (arith, leaf-colour p lt e)
 
   -- four like sons of a fork do not occur
-  not-alike : (p : ℕ) → p < nodes T → isFork T p ≡ true → isFork T (son T p 0) ≡ false
+  pub not-alike : (p : ℕ) → p < nodes T → isFork T p ≡ true → isFork T (son T p 0) ≡ false
       → ((q : ℕ) → q < 4 → type T (son T p q) ≡ type T (son T p 0)) → ⊥
   unfolding mixedOk allOf sonAlike
   not-alike p lt f leaf₀ h =

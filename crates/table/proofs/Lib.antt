@@ -8,6 +8,7 @@ pub mod FamilyLaws
 pub mod SizeLaws
 pub mod SeenLaws
 pub mod SoundLaws
+pub mod SoundExactly
 pub mod PreorderLaws
 pub mod PreorderAccepted
 pub mod SonTypeLaws

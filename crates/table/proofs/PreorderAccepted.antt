@@ -252,8 +252,8 @@ unfolding sizeOf Coloured
 leaf-faultless n T l f p c h s pl k lo hi =
     let e : p ≡ k = omega arith in
     rw (← e) (
-      let r = leaf-at T f p c h in
-      leaf-passed n T p (omega (arith, r .kind, s .coloured)) (r .sons) pl
+    let r = leaf-at T f p c h in
+    leaf-passed n T p (omega (arith, r .kind, s .coloured)) (r .sons) pl
     )
 
 no-fork : {a b c d : Tree} → Sound 0 (fork a b c d) → ⊥
@@ -275,7 +275,7 @@ holds-faultless n T (suc l) f p (fork a b c d) h room s e pl k lo hi =
     let deep : depthTo T n p < n = omega arith in
     ⊎-elim
     (λ (z : p ≡ k). rw (← z) (
-      fork-passed n T p (fork-here T f p a b c d r) (fork-sons T f p a b c d r room) deep (fork-mixed T f p a b c d r (s .reduced)) pl
+    fork-passed n T p (fork-here T f p a b c d r) (fork-sons T f p a b c d r room) deep (fork-mixed T f p a b c d r (s .reduced)) pl
     ))
     (λ (g : p < k).
     which-son p t (faultAt n T k ≡ 0) k 4 g (omega (arith, nodes-end p a b c d)) (λ q lt low high.

@@ -179,10 +179,10 @@ sons-fit T p e =
     let f = all-are p _ _ _ _ (z .0) in
     record {
       sons = by-quadrant (SonIn T p)
-      (record { above = b .0; below = b .4 .nw; up = f .0 })
-      (record { above = b .1; below = b .4 .ne; up = f .1 })
-      (record { above = b .2; below = b .4 .sw; up = f .2 })
-      (record { above = b .3; below = b .4 .se; up = f .3 });
+          (record { above = b .0; below = b .4 .nw; up = f .0 })
+          (record { above = b .1; below = b .4 .ne; up = f .1 })
+          (record { above = b .2; below = b .4 .sw; up = f .2 })
+          (record { above = b .3; below = b .4 .se; up = f .3 });
       apart = different-apart _ _ _ _ (y .0);
       unlike = not-true _ (z .1);
     }

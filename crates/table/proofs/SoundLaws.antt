@@ -222,13 +222,13 @@ module _ (n : ℕ) (T : List ℕ) (sz : Sized n T) (whole : soundOf n T ≡ true
     some = sz .some;
     root = omega (arith, sz .few, root-none);
     above = λ s ls pos v.
-    let u = at-up s pos v in
-    let le : u .0 ≤ n = omega (arith, u .1, depth-le T n s) in record {
-      node = on-seen (u .0) (father T s) (u .2 .up) le .0;
-      family = on-seen-at (u .0) (father T s) (u .2 .up) le;
-      fork = u .2 .fork;
-      once = u .2 .once;
-    };
+        let u = at-up s pos v in
+        let le : u .0 ≤ n = omega (arith, u .1, depth-le T n s) in record {
+          node = on-seen (u .0) (father T s) (u .2 .up) le .0;
+          family = on-seen-at (u .0) (father T s) (u .2 .up) le;
+          fork = u .2 .fork;
+          once = u .2 .once;
+        };
     below = λ p lt v f q q4. let i = fork-seen T (n - depthTo T n p) p (at p v) f .fit .sons q q4 in record { node = i .below; up = i .up };
   }
 

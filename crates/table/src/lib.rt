@@ -246,7 +246,9 @@ pub fn faults(n: u32, table: &[u32]) -> Outcome
     ensures { λ r. ⌜ r ≡ faultsOf n (now (table .entry)) ⌝ }
 {
     if seen::sound(n, table) {
-        return Outcome::Answered { value: node_count(table) as u32 };
+        return Outcome::Answered {
+            value: node_count(table) as u32,
+        };
     }
     first_fault(n, table)
 }

@@ -80,7 +80,13 @@ fn is_father(table: &[u32], p: usize, nw: usize, ne: usize, sw: usize, se: usize
     requires { ⌜ Four (nodes (now table)) nw ne sw se ⌝ }
     ensures { λ r. ⌜ r ≡ fatherOf (now (table .entry)) p nw ne sw se ⌝ }
 {
-    all_are(p, word_at(table, nw, 0), word_at(table, ne, 0), word_at(table, sw, 0), word_at(table, se, 0))
+    all_are(
+        p,
+        word_at(table, nw, 0),
+        word_at(table, ne, 0),
+        word_at(table, sw, 0),
+        word_at(table, se, 0),
+    )
 }
 
 // Whether four nodes are like leaves.
@@ -88,7 +94,12 @@ fn are_like(table: &[u32], nw: usize, ne: usize, sw: usize, se: usize) -> bool
     requires { ⌜ Four (nodes (now table)) nw ne sw se ⌝ }
     ensures { λ r. ⌜ r ≡ likeLeaves (now (table .entry)) nw ne sw se ⌝ }
 {
-    quad::like_leaves(word_at(table, nw, 5), word_at(table, ne, 5), word_at(table, sw, 5), word_at(table, se, 5))
+    quad::like_leaves(
+        word_at(table, nw, 5),
+        word_at(table, ne, 5),
+        word_at(table, sw, 5),
+        word_at(table, se, 5),
+    )
 }
 
 // Whether four numbers are what a fork's sons must be: different nodes above it whose father it is, and not four like leaves.
@@ -113,7 +124,15 @@ fn fork_ok(table: &[u32], count: usize, p: usize) -> bool
     requires { ⌜ (p < nodes (now table)) × (count ≡ nodes (now table)) ⌝ }
     ensures { λ r. ⌜ r ≡ forkOk (now (table .entry)) p ⌝ }
 {
-    fit(table, count, p, word_at(table, p, 1), word_at(table, p, 2), word_at(table, p, 3), word_at(table, p, 4))
+    fit(
+        table,
+        count,
+        p,
+        word_at(table, p, 1),
+        word_at(table, p, 2),
+        word_at(table, p, 3),
+        word_at(table, p, 4),
+    )
 }
 
 // Whether a node is a leaf as the rules want it: of a leaf's type, its son words None.
@@ -124,7 +143,13 @@ fn leaf_ok(table: &[u32], p: usize) -> bool
     if quad::TOP_COLOUR < word_at(table, p, 5) {
         return false;
     }
-    all_are(quad::NONE, word_at(table, p, 1), word_at(table, p, 2), word_at(table, p, 3), word_at(table, p, 4))
+    all_are(
+        quad::NONE,
+        word_at(table, p, 1),
+        word_at(table, p, 2),
+        word_at(table, p, 3),
+        word_at(table, p, 4),
+    )
 }
 
 // The nodes seen from a fork downwards, itself among them; 0 where something is wrong.

@@ -62,7 +62,7 @@ seen-sub-seen : (t : ℕ) → seen-lts.Need-sub-seen (calls t) (seen-at t) seen.
 seen-sub-seen t c = omega (arith, c .before .before .before .before .before .before .before .if1 .left)
 
 seen-seen-requires : (t : ℕ) → seen-lts.Need-seen-requires (calls t) (seen-at t) seen.Post seen-Inv-loop seen-μ-loop
-seen-seen-requires t c κs = 
+seen-seen-requires t c κs =
     let u = c .before .before .before .before .before .before .before .before .before .pre in (
       omega (arith, u .0, c .before .before .before .before .before .before .before .if1 .left),
       (
@@ -74,13 +74,13 @@ seen-seen-requires t c κs =
     )
 
 seen-returns-3 : (t : ℕ) → seen-lts.Need-returns-3 (calls t) (seen-at t) seen.Post seen-Inv-loop seen-μ-loop
-seen-returns-3 t c = 
+seen-returns-3 t c =
     let l = c .before .before .before .before .before .before .loop in
     let x = son-seen _ _ _ _ _ _ (c .before .before .before .before .word-at .ensures) (c .before .seen .ensures) in
     added-stop _ (l .q) (l .all) (omega arith) (sym x ∙ c .if4 .taken) ∙ l .inv .1
 
 seen-add-all : (t : ℕ) → seen-lts.Need-add-all (calls t) (seen-at t) seen.Post seen-Inv-loop seen-μ-loop
-seen-add-all t c = 
+seen-add-all t c =
     let m = seen-most _ _ _ _ (c .before .seen .ensures) (omega (arith, c .before .before .before .before .before .before .before .before .before .before .before .pre .1 .3)) in
     omega (arith, m)
 
@@ -88,7 +88,7 @@ seen-loop-less : (t : ℕ) → seen-lts.Need-loop-less (calls t) (seen-at t) see
 seen-loop-less t c = omega arith
 
 seen-loop-again : (t : ℕ) → seen-lts.Need-loop-again (calls t) (seen-at t) seen.Post seen-Inv-loop seen-μ-loop
-seen-loop-again t c = 
+seen-loop-again t c =
     let l = c .before .before .before .before .before .before .loop in
     let e = c .before .seen .ensures in
     let x = son-seen _ _ _ _ _ _ (c .before .before .before .before .word-at .ensures) e in
@@ -99,7 +99,7 @@ seen-leaf-ok-requires : (t : ℕ) → seen-lts.Need-leaf-ok-requires (calls t) (
 seen-leaf-ok-requires t c κs = rw (c .before .before .word-at .ensures) (son-node _ _ _ (on _ _ (c .before .before .before .before .before .before .fork-ok .ensures) (c .before .before .before .before .before .if2 .left)) (omega arith))
 
 seen-returns-4 : (t : ℕ) → seen-lts.Need-returns-4 (calls t) (seen-at t) seen.Post seen-Inv-loop seen-μ-loop
-seen-returns-4 t c = 
+seen-returns-4 t c =
     let l = c .before .before .before .before .before .before .loop in
     let z = seen-no-leaf _ _ _ (told-leaf (c .before .before .before .before .before .before .before .before .before .before .before .args .table .now) (c .before .before .before .before .word-at .result) _ (c .before .before .before .word-at2 .ensures) (c .before .before .if3 .left)) (off _ _ (c .before .leaf-ok .ensures) (c .if5 .taken)) in
     let x = son-seen _ _ _ _ _ _ (c .before .before .before .before .word-at .ensures) (sym z) in
@@ -112,14 +112,14 @@ seen-loop-less-2 : (t : ℕ) → seen-lts.Need-loop-less-2 (calls t) (seen-at t)
 seen-loop-less-2 t c = omega arith
 
 seen-loop-again-2 : (t : ℕ) → seen-lts.Need-loop-again-2 (calls t) (seen-at t) seen.Post seen-Inv-loop seen-μ-loop
-seen-loop-again-2 t c = 
+seen-loop-again-2 t c =
     let l = c .before .before .before .before .before .before .loop in
     let z = seen-leaf _ _ _ (told-leaf (c .before .before .before .before .before .before .before .before .before .before .before .args .table .now) (c .before .before .before .before .word-at .result) _ (c .before .before .before .word-at2 .ensures) (c .before .before .if3 .left)) (on _ _ (c .before .leaf-ok .ensures) (c .if5 .left)) in
     let x = son-seen _ _ _ _ _ _ (c .before .before .before .before .word-at .ensures) (sym z) in
     (omega arith, added-more _ (l .q) (l .all) 1 (omega arith) x (λ e. omega arith) ∙ l .inv .1, omega arith)
 
 seen-returns-5 : (t : ℕ) → seen-lts.Need-returns-5 (calls t) (seen-at t) seen.Post seen-Inv-loop seen-μ-loop
-seen-returns-5 t c = 
+seen-returns-5 t c =
     let l = c .before .loop in
     added-none _ (4 - l .q) (l .q) (l .all) (omega arith) ∙ l .inv .1
 
