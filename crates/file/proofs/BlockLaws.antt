@@ -44,7 +44,7 @@ module _ (s : List ℕ) (at : ℕ) (forked : Got) where
       (λ _. faults _)))
       (λ _. faults _))
 
-  record-stands : (k : ℕ) → Stands s at k → isType k ≡ true → recordAt s at forked ≡ cond (eqb k forkType) forked (got (at + 3) (leaf k))
+  pub record-stands : (k : ℕ) → Stands s at k → isType k ≡ true → recordAt s at forked ≡ cond (eqb k forkType) forked (got (at + 3) (leaf k))
   record-stands k h ok =
       rw (
         lt-leb (length s) at (omega (arith, h .fits)),

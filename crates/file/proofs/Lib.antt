@@ -2,6 +2,7 @@ pub mod RecordLaws
 pub mod SpeltLaws
 pub mod BlockLaws
 pub mod ReadLaws
+pub mod ScanLaws
 pub mod SurveyLaws
 pub mod LinkLaws
 pub mod OpenLaws

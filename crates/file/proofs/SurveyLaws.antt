@@ -2,7 +2,7 @@
 use mathlib.Core.Bool.{Bool, true, false, not, cond, false≢true}
 use mathlib.Core.List.{List}
 use mathlib.Core.Path.{_≡_, refl, ap, sym, _∙_}
-use Prim.Native.Nat.{ℕ, _+_, _≤_}
+use Prim.Native.Nat.{ℕ, _+_, _≤_, _<_}
 use native.Mathlib.Omega.{arith}
 use lib.Dec.{leb, ltb, eqb}
 use lib.ListN.{length, getD}
@@ -14,14 +14,14 @@ use Rattle.answer.specs.declared.Outcome.the-variants.{Answered}
 use Rattle.answer.specs.Numbers.{valueOf, answers}
 use Rattle.quad.specs.Numbers.{topLevel}
 use Rattle.quad.specs.Tree.{Tree, sizeOf}
-use Rattle.quad.proofs.TreeLaws.{pixels-top}
+use Rattle.quad.proofs.TreeLaws.{size-le, pixels-top}
 use Rattle.file.specs.declared.Block.{Block}
 use Rattle.file.specs.declared.Block.the-variants.{Read, Bad}
 use Rattle.file.specs.declared.Contents.{Contents}
 use Rattle.file.specs.declared.Contents.the-variants.{Faulty}
-use Rattle.file.specs.File.{Opened, faulty, mark, sheetMark, closed, blockAt, openOf}
-use Rattle.file.specs.Reading.{marksOf, told, Reaches, headerOf, countOf, recordsTo, closingOf, contentsOf}
-use Rattle.file.proofs.BlockLaws.{block-spells}
+use Rattle.file.specs.File.{got, Opened, faulty, mark, sheetMark, closed, blockAt, openOf}
+use Rattle.file.specs.Reading.{marksOf, told, ScannedRoot, Reaches, headerOf, countOf, recordsTo, closingOf, contentsOf}
+use Rattle.file.proofs.BlockLaws.{Spells, block-spells}
 use Rattle.file.proofs.ReadLaws.{marks-by, found, told-bad}
 
 -- a header that answers
@@ -106,21 +106,45 @@ module _ (s : List ℕ) (h : Outcome) (u : Bool) (e : h ≡ headerOf s) (a : u �
     pub close-long : 5 ≤ length s
     close-long = header .long
 
+    -- the block that was read ends near, and then the file is closed
+    module _ (i : ℕ) (t : Tree) (is : blockAt s level 5 ≡ got i t) where
+      spells : Spells s level 5 i t
+      spells = block-spells s level 5 i t is
+
+      ends-late : 5 ≤ i
+      ends-late = omega (arith, spells .next)
+
+      ends-near : i < 4294967296
+      ends-near =
+          let low : level ≤ topLevel = omega (arith, header .level, its-level) in
+          omega (arith, spells .next, size-le level t (spells .sound .within), pixels-top level low)
+
+      closes : (c : Contents) → c ≡ closingOf s level i → c ≡ contentsOf (openOf s)
+      unfolding closingOf
+      closes c g =
+          let size : recordsTo i ≡ sizeOf t = omega (arith, spells .next) in
+          g ∙ rw (opens, is, size)
+          (sym (cond-map contentsOf (eqb (countOf s) (sizeOf t)) _ _ _ _ (cond-map contentsOf (ltb i (length s)) _ _ _ _ refl refl) refl))
+
+    -- as the fast way read it
+    module _ (i : ℕ) (sc : ScannedRoot s level i) (nz : i ≡ 0 → ⊥) where
+      pub scan-late : 5 ≤ i
+      scan-late = ends-late i (sc nz .0) (sc nz .1)
+
+      pub scan-near : i < 4294967296
+      scan-near = ends-near i (sc nz .0) (sc nz .1)
+
+      pub survey-scanned : (c : Contents) → c ≡ closingOf s level i → c ≡ contentsOf (openOf s)
+      survey-scanned = closes i (sc nz .0) (sc nz .1)
+
+    -- as it was read byte by byte
     module _ (r : Block) (b : r ≡ told (blockAt s level 5)) where
       pub survey-bad : (o : Outcome) → r ≡ Bad o → Faulty o ≡ contentsOf (openOf s)
       survey-bad o f = rw (opens, told-bad (blockAt s level 5) r o b f)
 
       module _ (i k : ℕ) (f : r ≡ Read i k) where
         pub close-start : 5 ≤ i
-        close-start =
-            let d = found s level 5 i k r b f in
-            omega (arith, block-spells s level 5 i (d .tree) (d .is) .next)
+        close-start = let d = found s level 5 i k r b f in ends-late i (d .tree) (d .is)
 
         pub survey-read : (c : Contents) → c ≡ closingOf s level i → c ≡ contentsOf (openOf s)
-        unfolding closingOf
-        survey-read c g =
-            let d = found s level 5 i k r b f in
-            let t : Tree = d .tree in
-            let size : recordsTo i ≡ sizeOf t = omega (arith, block-spells s level 5 i t (d .is) .next) in
-            g ∙ rw (opens, d .is, size)
-            (sym (cond-map contentsOf (eqb (countOf s) (sizeOf t)) _ _ _ _ (cond-map contentsOf (ltb i (length s)) _ _ _ _ refl refl) refl))
+        survey-read = let d = found s level 5 i k r b f in closes i (d .tree) (d .is)

@@ -1,19 +1,20 @@
 -- Reading, one function at a time: what the first pass tells of a record, of a block, of four and of the whole file, and how far a block reaches.
-use mathlib.Core.Bool.{cond}
+use mathlib.Core.Bool.{Bool, false, cond}
+use mathlib.Core.Path.{_≡_}
 use mathlib.Core.List.{List}
-use Prim.Native.Nat.{ℕ, _+_, _-_, _*_, _/_, _^_, _<_}
+use Prim.Native.Nat.{ℕ, zero, suc, _+_, _-_, _*_, _/_, _^_, _<_}
 use lib.Dec.{eqb, ltb}
 use lib.ListN.{length, getD}
 use Rattle.answer.specs.declared.Outcome.{Outcome}
 use Rattle.answer.specs.declared.Outcome.the-variants.{Answered, BadLevel, BadByte, BadCount}
 use Rattle.answer.specs.Numbers.{answers, andThen}
-use Rattle.quad.specs.Numbers.{topLevel}
-use Rattle.quad.specs.Tree.{colour, sizeOf}
+use Rattle.quad.specs.Numbers.{topLevel, forkType}
+use Rattle.quad.specs.Tree.{Tree, colour, sizeOf}
 use Rattle.file.specs.declared.Block.{Block}
 use Rattle.file.specs.declared.Block.the-variants.{Read, Bad}
 use Rattle.file.specs.declared.Contents.{Contents}
 use Rattle.file.specs.declared.Contents.the-variants.{Sheet, Faulty}
-use Rattle.file.specs.File.{Got, got, bad, Opened, opened, faulty, mark, sheetMark, nodeMark, needed, marked, isType}
+use Rattle.file.specs.File.{Got, got, bad, Opened, opened, faulty, mark, sheetMark, nodeMark, needed, marked, isType, fourAt, blockAt}
 
 -- the two mark bytes at a place
 unfoldable pub marksOf : List ℕ → ℕ → ℕ → Outcome
@@ -63,3 +64,27 @@ closingOf s n at =
 abbrev pub contentsOf : Opened → Contents
 contentsOf (opened n t) = Sheet n (sizeOf t)
 contentsOf (faulty o) = Faulty o
+
+-- a whole node record stands at a place
+unfoldable pub standsAt : List ℕ → ℕ → Bool
+standsAt s at =
+    cond (ltb (length s - at) 3) false
+    (cond (eqb (getD s at 0) mark) (cond (eqb (getD s (at + 1) 0) nodeMark) (isType (getD s (at + 2) 0)) false) false)
+
+abbrev pub sameType : ℕ → ℕ → ℕ
+sameType a b = cond (eqb a b) 1 0
+
+-- four blocks of level l were read from a place on, the place after them being r; or r is 0
+abbrev pub Scanned : List ℕ → ℕ → ℕ → ℕ → Type 0
+Scanned s l at r = (r ≡ 0 → ⊥) → (t : Tree) × (fourAt (blockAt s l) at ≡ got r t) × (colour t ≡ forkType)
+
+-- the first q of four blocks were read: `next` is the place after them, `last` the type of the last one, and `same` of them have the type of the one before
+unfoldable pub Row : List ℕ → ℕ → ℕ → ℕ → ℕ → ℕ → ℕ → Type 0
+Row s l at zero next last same = (next ≡ at) × (last ≡ 255) × (same ≡ 0)
+Row s l at (suc q) next last same =
+    (i : ℕ) × (before : ℕ) × (some : ℕ) × (t : Tree) × Row s l at q i before some × (blockAt s l i ≡ got next t) × (last ≡ colour t)
+    × (same ≡ some + sameType (colour t) before)
+
+-- the block behind the header was read, the place after it being r; or r is 0
+abbrev pub ScannedRoot : List ℕ → ℕ → ℕ → Type 0
+ScannedRoot s l r = (r ≡ 0 → ⊥) → (t : Tree) × (blockAt s l 5 ≡ got r t)

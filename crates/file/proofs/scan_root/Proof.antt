@@ -1,0 +1,49 @@
+-- `file::scan_root`: a leaf's record, or a fork's and four blocks. Assumes nothing.
+use mathlib.Core.Path.{refl}
+use native.Mathlib.Omega.{arith}
+use Rattle.base.proofs.BoolLaws.{on}
+use Rattle.file.proofs.ScanLaws.{fits-three, root-leaf, root-fork}
+use borrow.Author.Needs.{needs}
+use Rattle.file.proofs.scan_root.Statement.{statement}
+use Rattle.file.proofs.scan_root.Tie as tie
+
+has-record-requires : tie.Need-has-record-requires
+has-record-requires c κs = search needs
+
+returns : tie.Need-returns
+returns c nz = absurd (nz refl)
+
+shared-slice-read-wide : tie.Need-shared-slice-read-wide
+shared-slice-read-wide c = fits-three (c .before .before .before .before .args .file .now) (c .before .before .before .before .args .level) 5 (c .before .before .before .before .pre) (on _ _ (c .before .before .has-record .ensures) (c .before .if1 .left)) _ refl
+
+wide-requires : tie.Need-wide-requires
+wide-requires c κs = search needs
+
+returns-2 : tie.Need-returns-2
+returns-2 c = root-leaf _ _ _ (c .before .before .before .before .before .before .pre) (on _ _ (c .before .before .before .before .has-record .ensures) (c .before .before .before .if1 .left)) (c .before .wide .ensures) (c .if2 .taken)
+
+returns-3 : tie.Need-returns-3
+returns-3 c nz = absurd (nz refl)
+
+sub-scan : tie.Need-sub-scan
+sub-scan c = search needs
+
+scan-requires : tie.Need-scan-requires
+scan-requires c κs = fits-three (c .before .before .before .before .before .before .before .args .file .now) (c .before .before .before .before .before .before .before .args .level) 5 (c .before .before .before .before .before .before .before .pre) (on _ _ (c .before .before .before .before .before .has-record .ensures) (c .before .before .before .before .if1 .left)) _ refl
+
+returns-4 : tie.Need-returns-4
+returns-4 c = root-fork _ _ _ (c .before .before .before .before .before .before .before .before .pre) (on _ _ (c .before .before .before .before .before .before .has-record .ensures) (c .before .before .before .before .before .if1 .left)) (c .before .before .before .wide .ensures) _ (c .before .before .if2 .left) (c .before .if3 .left) (c .scan .ensures .0)
+
+pub scan-root-spec : {M : Type 1} → statement M
+scan-root-spec =
+    tie.close
+    (tie.spec
+    has-record-requires
+    returns
+    shared-slice-read-wide
+    wide-requires
+    returns-2
+    returns-3
+    sub-scan
+    scan-requires
+    returns-4)
