@@ -45,23 +45,10 @@ static size_t words_needed(uint32_t level, const uint8_t *raster)
     return (size_t)(second_build(level, raster, pixels_of(level), NULL, 0) / 256);
 }
 
-/* A room for a table: the words needed, a few more or less, none or any. */
-static size_t some_room(size_t needed, struct dice *d)
-{
-    switch (dice_below(d, 10)) {
-    case 0: return needed - 1;
-    case 1: return needed + 1;
-    case 2: return needed + dice_below(d, 20);
-    case 3: return dice_below(d, (uint32_t)needed);
-    case 4: return 0;
-    default: return needed;
-    }
-}
-
 static void compare_picture(struct dice *d)
 {
     size_t needed = words_needed(pic.level, pic.pixels);
-    compare(pic.level, pic.pixels, pixels_of(pic.level), some_room(needed, d));
+    compare(pic.level, pic.pixels, pixels_of(pic.level), sample_room(needed, d));
 }
 
 /* ---- answers worked out by hand */
@@ -140,7 +127,7 @@ static void compare_every_small_picture(void)
         for (uint32_t bits = 0; bits < UINT32_C(1) << pixels_of(level); bits++) {
             for (size_t i = 0; i < pixels_of(level); i++)
                 raster[i] = (uint8_t)(bits >> i & 1);
-            compare(level, raster, pixels_of(level), some_room(words_needed(level, raster), &d));
+            compare(level, raster, pixels_of(level), sample_room(words_needed(level, raster), &d));
         }
 }
 

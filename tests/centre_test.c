@@ -1,7 +1,6 @@
 /*
  * sheet_centre against the second implementation, bit for bit, and against
- * answers worked out by hand. Numbers are drawn as bits, so that NaNs keep their
- * payloads and zeros their signs.
+ * answers worked out by hand.
  */
 #include <inttypes.h>
 #include <string.h>
@@ -9,6 +8,7 @@
 #include "second/second.h"
 #include "sheet.h"
 #include "support/dice.h"
+#include "support/ground.h"
 #include "support/lender.h"
 #include "support/met.h"
 #include "support/report.h"
@@ -18,10 +18,6 @@
 
 enum { LEAST_INPUTS = 1000000, SHEETS = 4500, TRIPLES = 256, MOST_NODES = 90, MOST_PLACE = 6 };
 
-struct ground {
-    double east, north, step;
-};
-
 /* Which of the three numbers the refusals with code 11 named; and, for each
  * axis, sums that one rounding instead of two would change, and centres at an
  * origin of -0. */
@@ -29,24 +25,6 @@ static uint32_t met_wrong_number[3], met_not_fused[2], met_minus_zero[2];
 
 static struct lender table_lender, place_lender;
 static struct table table;
-
-/* ---- numbers as bits */
-
-static const uint64_t SIGN = UINT64_C(1) << 63, INFINITE = UINT64_C(0x7ff0000000000000);
-
-static double number_of(uint64_t bits)
-{
-    double number;
-    memcpy(&number, &bits, sizeof number);
-    return number;
-}
-
-static uint64_t bits_of(double number)
-{
-    uint64_t bits;
-    memcpy(&bits, &number, sizeof bits);
-    return bits;
-}
 
 /* ---- one call */
 
@@ -80,11 +58,11 @@ static void meet_zeros(uint32_t node, struct ground g, const double *place)
     struct second_block b = second_block(table.level, table.words, node);
     if (place[0] == 0) {
         met_not_fused[0] += is_rounded(2 * b.left + b.side - 1, g.step);
-        met_minus_zero[0] += bits_of(g.east) == SIGN;
+        met_minus_zero[0] += bits_of(g.east) == bits_of(-0.0);
     }
     if (place[1] == 0) {
         met_not_fused[1] += is_rounded(2 * b.top + b.side - 1, g.step);
-        met_minus_zero[1] += bits_of(g.north) == SIGN;
+        met_minus_zero[1] += bits_of(g.north) == bits_of(-0.0);
     }
 }
 
@@ -106,9 +84,6 @@ static void compare(uint32_t node, struct ground g, const double *place, size_t 
 
 static const uint32_t sheet_a[] = {SHEET_A};
 
-#define EAST_LIMIT 16777216.0
-#define STEP_LEAST (1.0 / 1024)
-#define STEP_MOST 16384.0
 #define TINY 4.9406564584124654e-324
 
 struct vector {
@@ -197,100 +172,12 @@ static void run_short_places(void)
 
 /* ---- numbers drawn */
 
-static uint64_t draw_bits(struct dice *d)
-{
-    uint64_t high = dice_word(d);
-    return high << 32 | dice_word(d);
-}
-
-/* A NaN of either sign, quiet or not, with any payload. */
-static uint64_t draw_nan(struct dice *d)
-{
-    return (draw_bits(d) & (SIGN | (UINT64_C(0xfffffffffffff) >> dice_below(d, 52)))) | INFINITE | 1;
-}
-
-/* A number of any sign with an exponent of this span. */
-static double draw_number(int lowest, uint32_t span, struct dice *d)
-{
-    uint64_t exponent = (uint64_t)(1023 + lowest + (int)dice_below(d, span));
-    return number_of((draw_bits(d) & ~INFINITE) | exponent << 52);
-}
-
-/* A number that is not finite, or has no full exponent. */
-static double draw_odd_number(struct dice *d)
-{
-    uint64_t sign = dice_below(d, 2) ? SIGN : 0;
-    switch (dice_below(d, 5)) {
-    case 0: return number_of(sign);
-    case 1: return number_of(sign | (draw_bits(d) & UINT64_C(0xfffffffffffff) >> dice_below(d, 52)));
-    case 2: return number_of(sign | INFINITE);
-    case 3: return number_of(draw_nan(d));
-    default: return number_of(draw_bits(d));
-    }
-}
-
-/* A limit, or one of the four numbers next to it. */
-static double draw_near(double limit, struct dice *d)
-{
-    return number_of(bits_of(limit) + dice_below(d, 5) - 2);
-}
-
-static double draw_east(struct dice *d)
-{
-    switch (dice_below(d, 16)) {
-    case 0: return draw_near(EAST_LIMIT, d);
-    case 1: return draw_near(-EAST_LIMIT, d);
-    case 2: return draw_odd_number(d);
-    case 3: return (double)dice_below(d, 33554433) - EAST_LIMIT;
-    case 4: return draw_number(20, 8, d);
-    case 5: return draw_number(-60, 84, d);
-    default: return draw_number(-10, 34, d);
-    }
-}
-
-static double draw_step(struct dice *d)
-{
-    double number = draw_number(-10, 24, d);
-    switch (dice_below(d, 16)) {
-    case 0: return draw_near(STEP_LEAST, d);
-    case 1: return draw_near(STEP_MOST, d);
-    case 2: return draw_odd_number(d);
-    case 3: return draw_number(-12, 28, d);
-    case 4: return 1 + dice_below(d, 100);
-    default: return number < 0 ? -number : number;
-    }
-}
-
-/* How far so many half pixels reach, with one rounding. */
-static double way(uint32_t half_pixels, double step)
-{
-    volatile double result = half_pixels / 2.0 * step;
-    return result;
-}
-
-/* A ground on which the node's centre is at 0, 0. */
-static struct ground draw_cancelling(uint32_t node, struct dice *d)
-{
-    struct second_block b = second_block(table.level, table.words, node);
-    struct ground g = {0, 0, draw_number(-10, 24, d)};
-    g.step = g.step < 0 ? -g.step : g.step;
-    g.east = -way(2 * b.left + b.side - 1, g.step);
-    g.north = way(2 * b.top + b.side - 1, g.step);
-    return g;
-}
-
-static struct ground draw_ground(struct dice *d)
-{
-    struct ground g = {draw_east(d), draw_east(d), draw_step(d)};
-    return g;
-}
-
 /* A place with anything in it, half of it NaNs. Gives back how many numbers. */
 static size_t draw_place(double *place, struct dice *d)
 {
     static const size_t lengths[] = {0, 1, 2, 2, 2, 3, 3, MOST_PLACE};
     for (int i = 0; i < MOST_PLACE; i++)
-        place[i] = number_of(dice_below(d, 2) ? draw_nan(d) : draw_bits(d));
+        place[i] = number_of(dice_below(d, 2) ? ground_draw_nan(d) : ground_draw_bits(d));
     return lengths[dice_below(d, sizeof lengths / sizeof *lengths)];
 }
 
@@ -312,7 +199,9 @@ static void compare_numbers(void)
         while (table_count(&table) > MOST_NODES);
         for (uint32_t triple = 0; triple < TRIPLES; triple++) {
             uint32_t node = dice_below(&d, table_count(&table));
-            compare_ground(node, triple % 8 ? draw_ground(&d) : draw_cancelling(node, &d), &d);
+            struct ground g = triple % 8 ? ground_draw(&d)
+                                         : ground_draw_cancelling(table.level, table.words, node, &d);
+            compare_ground(node, g, &d);
         }
     }
 }
@@ -328,7 +217,8 @@ static void compare_nodes(void)
             table_in_turn(&table, &pic, i / 8, &d);
         } while (table_count(&table) > 700);
         for (uint32_t node = 0; node < table_count(&table); node++) {
-            struct ground g = {draw_number(-10, 34, &d), draw_number(-10, 34, &d), 1 + dice_below(&d, 1000) / 7.0};
+            struct ground g = {ground_draw_number(-10, 34, &d), ground_draw_number(-10, 34, &d),
+                               1 + dice_below(&d, 1000) / 7.0};
             compare_ground(node, g, &d);
         }
     }
@@ -340,7 +230,7 @@ static void compare_samples(void)
     for (uint32_t i = 0; i < 48000; i++) {
         sample_make(&table, (enum sample)(i % SAMPLES), &d);
         uint32_t node = sample_node(&table, &d);
-        compare_ground(node, draw_ground(&d), &d);
+        compare_ground(node, ground_draw(&d), &d);
     }
 }
 

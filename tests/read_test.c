@@ -13,6 +13,7 @@
 #include "support/lender.h"
 #include "support/met.h"
 #include "support/report.h"
+#include "support/sample.h"
 #include "support/words.h"
 
 enum { LEAST_INPUTS = 400000, COUNT_FIELD = 3 };
@@ -55,22 +56,9 @@ static size_t words_needed(const struct file *f)
     return f->length < FILE_HEADER_SIZE ? 0 : (size_t)file_records(f) * SHEET_NODE_WORDS;
 }
 
-/* A room for a table: the words needed, a few more or less, none or any. */
-static size_t some_room(size_t needed, struct dice *d)
-{
-    switch (dice_below(d, 12)) {
-    case 0: return needed == 0 ? 0 : needed - 1;
-    case 1: return needed + 1;
-    case 2: return needed + dice_below(d, 20);
-    case 3: return dice_below(d, (uint32_t)needed + 1);
-    case 4: return 0;
-    default: return needed;
-    }
-}
-
 static void compare_file(struct dice *d)
 {
-    compare(file.bytes, file.length, some_room(words_needed(&file), d));
+    compare(file.bytes, file.length, sample_room(words_needed(&file), d));
 }
 
 /* ---- answers worked out by hand */

@@ -41,22 +41,9 @@ static size_t bytes_needed(size_t length)
     return FILE_HEADER_SIZE + length / SHEET_NODE_WORDS * FILE_RECORD_SIZE;
 }
 
-/* A room for a file: the bytes needed, a few more or less, none or any. */
-static size_t some_room(size_t needed, struct dice *d)
-{
-    switch (dice_below(d, 12)) {
-    case 0: return needed - 1;
-    case 1: return needed + 1;
-    case 2: return needed + dice_below(d, 20);
-    case 3: return dice_below(d, (uint32_t)needed);
-    case 4: return 0;
-    default: return needed;
-    }
-}
-
 static void compare_table(struct dice *d)
 {
-    compare(table.level, table.words, table.length, some_room(bytes_needed(table.length), d));
+    compare(table.level, table.words, table.length, sample_room(bytes_needed(table.length), d));
 }
 
 /* ---- answers worked out by hand */

@@ -155,25 +155,10 @@ static void compare_longest_table(void)
 
 /* ---- wrong tables, wrong numbers */
 
-/* A number below the limit or, one time in four, one from the limit on. */
-static uint32_t draw_number(struct dice *d)
-{
-    uint32_t good = dice_below(d, call->below);
-    if (dice_below(d, 4) != 0)
-        return good;
-    switch (dice_below(d, 6)) {
-    case 0: return call->below + good;
-    case 1: return UINT32_C(256) + good;
-    case 2: return UINT32_C(65536) + good;
-    case 3: return UINT32_C(0x80000000) + good;
-    case 4: return SHEET_NONE - good;
-    default: return dice_word(d);
-    }
-}
-
 static void compare_one_question(struct dice *d)
 {
-    uint32_t node = sample_node(&table, d), numbers[MOST_NUMBERS] = {draw_number(d), draw_number(d)};
+    uint32_t node = sample_node(&table, d);
+    uint32_t numbers[MOST_NUMBERS] = {sample_number(call->below, d), sample_number(call->below, d)};
     const uint32_t *lent = lend_table();
     second_cover(&cover, table.level, table.words, table.length);
     compare(lent, node, numbers, 1);

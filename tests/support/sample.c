@@ -53,6 +53,33 @@ uint32_t sample_node(const struct table *t, struct dice *d)
     }
 }
 
+uint32_t sample_number(uint32_t bound, struct dice *d)
+{
+    uint32_t good = dice_below(d, bound);
+    if (dice_below(d, 4) != 0)
+        return good;
+    switch (dice_below(d, 6)) {
+    case 0: return bound + good;
+    case 1: return UINT32_C(256) + good;
+    case 2: return UINT32_C(65536) + good;
+    case 3: return UINT32_C(0x80000000) + good;
+    case 4: return SHEET_NONE - good;
+    default: return dice_word(d);
+    }
+}
+
+size_t sample_room(size_t needed, struct dice *d)
+{
+    switch (dice_below(d, 12)) {
+    case 0: return needed == 0 ? 0 : needed - 1;
+    case 1: return needed + 1;
+    case 2: return needed + dice_below(d, 20);
+    case 3: return dice_below(d, (uint32_t)needed + 1);
+    case 4: return 0;
+    default: return needed;
+    }
+}
+
 uint32_t sample_hostile_level(struct dice *d)
 {
     static const uint32_t levels[] = {

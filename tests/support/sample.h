@@ -32,6 +32,12 @@ void sample_picture(struct picture *pic, struct dice *d);
 /* A node of the table or, one time in four, a number that is none. */
 uint32_t sample_node(const struct table *t, struct dice *d);
 
+/* A number below the bound or, one time in four, one from the bound on. */
+uint32_t sample_number(uint32_t bound, struct dice *d);
+
+/* Room for so many elements: just so many, a few more or less, none or any. */
+size_t sample_room(size_t needed, struct dice *d);
+
 /* A level above 7: near a limit, or anywhere. */
 uint32_t sample_hostile_level(struct dice *d);
 
