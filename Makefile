@@ -6,6 +6,8 @@
 # make uninstall  removes those files, and no folder
 # make test       every test, as tests/run
 # make test-c     the C tests alone
+# make compare    build/tests/compare: every call against the second implementation,
+#                 for hours by 'build/tests/compare --seed $(date +%s) --minutes 240'
 # make bench      each call against plain C written for speed
 # make clean      removes what was made
 #
@@ -51,6 +53,7 @@ CALL_TESTS = $(filter-out tests/header_test.c,$(wildcard tests/*_test.c))
 TESTS = $(patsubst tests/%.c,build/tests/%,$(wildcard tests/*_test.c)) \
 	$(if $(HAS_CXX),build/tests/header_test_as_cxx) \
 	$(if $(HAS_SANITIZE),$(patsubst tests/%.c,build/sanitized/%,$(CALL_TESTS)))
+COMPARE = build/tests/compare $(if $(HAS_SANITIZE),build/sanitized/compare)
 EXAMPLES = $(patsubst %.c,build/%,$(wildcard examples/*.c))
 VIEWER_TESTS = $(if $(HAS_PNG),build/tests/viewer/png) $(if $(HAS_SANITIZE),build/sanitized/viewer)
 BENCHES = $(patsubst bench/%.c,build/bench/%,$(wildcard bench/*_bench.c))
@@ -80,7 +83,7 @@ INSTALLED = $(addprefix $(DESTDIR),$(includedir)/sheet.h $(libdir)/libsheet.a $(
 	$(libdir)/$(SONAME) $(libdir)/libsheet.so $(pkgconfigdir)/sheet.pc $(MAN:build/%=$(mandir)/%))
 ONE_WORD_EACH = $(if $(filter-out 4,$(words $(FOLDERS))),$(error a folder has a space in its name))
 
-.PHONY: lib shared man install uninstall test test-c test-programs list-tests bench clean
+.PHONY: lib shared man install uninstall test test-c test-programs list-tests bench compare clean
 .SECONDARY:
 
 lib: target/staticlib/libsheet.a
@@ -130,6 +133,9 @@ test-c:
 	@tests/run c $(LIB)
 
 test-programs: $(TESTS) $(EXAMPLES) $(VIEWER_TESTS)
+test-programs: $(TESTS) $(COMPARE) $(EXAMPLES)
+
+compare: build/tests/compare
 
 # The programs that tests/run runs; what this machine cannot run is said on stderr.
 list-tests:
@@ -170,11 +176,14 @@ build/tests/viewer/png: tests/viewer/png.c
 build/tests/%_test: build/tests/%_test.o $(SHARED_OBJECTS) $(LIB)
 	$(CC) -o $@ $^
 
+build/tests/compare: build/tests/compare.o $(SHARED_OBJECTS) $(LIB)
+	$(CC) -o $@ $^
+
 build/tests/header_test_as_cxx: tests/header_test.c build/tests/support/report.o $(HEADERS) $(LIB)
 	$(CXX) -std=c++98 -pedantic -O2 $(WARN) $(INCLUDE) -x c++ -c -o $@.o $<
 	$(CXX) -o $@ $@.o build/tests/support/report.o $(LIB)
 
-build/sanitized/%_test: tests/%_test.c $(SHARED) $(HEADERS) $(LIB)
+build/sanitized/%: tests/%.c $(SHARED) $(HEADERS) $(LIB)
 	@mkdir -p $(@D)
 	$(CC) $(CFLAGS) $(SANITIZE) $(INCLUDE) -o $@ $< $(SHARED) $(LIB)
 
