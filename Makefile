@@ -8,6 +8,8 @@
 # make test-c     the C tests alone
 # make compare    build/tests/compare: every call against the second implementation,
 #                 for hours by 'build/tests/compare --seed $(date +%s) --minutes 240'
+# make fuzz       the coverage-guided fuzzers, each for MINUTES (fuzz/run)
+# make faulty     the outside tests with a library that has a fault (tests/faulty.sh)
 # make bench      each call against plain C written for speed
 # make clean      removes what was made
 #
@@ -25,9 +27,13 @@ ON_X86 := $(filter x86_64,$(shell uname -m))
 ifdef ON_X86
 CC = cc
 CXX = c++
+AR = ar
+OBJCOPY = objcopy
 else
 CC = x86_64-linux-gnu-gcc
 CXX = x86_64-linux-gnu-g++
+AR = x86_64-linux-gnu-ar
+OBJCOPY = x86_64-linux-gnu-objcopy
 endif
 RUN = tests/on-x86
 INCLUDE = -Iinclude -Itests -Ibench
@@ -37,9 +43,14 @@ CFLAGS = -std=c99 -O2 $(NOT_FUSED) $(WARN)
 PLAIN_CFLAGS = -std=c99 -O3 $(NOT_FUSED) $(WARN)
 SANITIZE = -fsanitize=address,undefined -fno-sanitize-recover=all
 
-HEADERS = $(wildcard include/*.h tests/*/*.h bench/*.h bench/*/*.h)
+FUZZ_CC = clang
+FUZZ_CFLAGS = -std=c99 -O1 -g $(NOT_FUSED) $(WARN) $(SANITIZE)
+MINUTES = 30
+
+HEADERS = $(wildcard include/*.h tests/*/*.h bench/*.h bench/*/*.h fuzz/*.h)
 SHARED = $(wildcard tests/support/*.c tests/second/*.c)
 SHARED_OBJECTS = $(SHARED:%.c=build/%.o)
+FUZZ_OBJECTS = $(patsubst %.c,build/fuzz/%.o,$(SHARED) fuzz/held.c)
 BENCH_SHARED = $(filter-out %_bench.c,$(wildcard bench/*.c bench/plain/*.c))
 BENCH_OBJECTS = $(BENCH_SHARED:%.c=build/%.o)
 
@@ -54,6 +65,12 @@ TESTS = $(patsubst tests/%.c,build/tests/%,$(wildcard tests/*_test.c)) \
 	$(if $(HAS_CXX),build/tests/header_test_as_cxx) \
 	$(if $(HAS_SANITIZE),$(patsubst tests/%.c,build/sanitized/%,$(CALL_TESTS)))
 COMPARE = build/tests/compare $(if $(HAS_SANITIZE),build/sanitized/compare)
+# Each fault of tests/faulty.c with its call, as 4-neighbour; and the fuzzer for that call.
+FAULTS := $(shell sed -n 's:.* FAULT == \([0-9]*\) /\* \([a-z_]*\).*:\1-\2:p' tests/faulty.c)
+fuzzer_of = $(if $(filter %-read,$(1)),read,table)
+# Is there a compiler with a fuzzer's run time? Only the goals that need one ask.
+HAS_FUZZ = $(if $(ON_X86),$(shell mkdir -p build && echo 'int LLVMFuzzerTestOneInput(void) { return 0; }' >build/fuzzes.c && \
+	$(FUZZ_CC) $(SANITIZE) -fsanitize=fuzzer build/fuzzes.c -o build/fuzzes 2>/dev/null && echo yes))
 EXAMPLES = $(patsubst %.c,build/%,$(wildcard examples/*.c))
 VIEWER_TESTS = $(if $(HAS_PNG),build/tests/viewer/png) $(if $(HAS_SANITIZE),build/sanitized/viewer)
 BENCHES = $(patsubst bench/%.c,build/bench/%,$(wildcard bench/*_bench.c))
@@ -83,7 +100,7 @@ INSTALLED = $(addprefix $(DESTDIR),$(includedir)/sheet.h $(libdir)/libsheet.a $(
 	$(libdir)/$(SONAME) $(libdir)/libsheet.so $(pkgconfigdir)/sheet.pc $(MAN:build/%=$(mandir)/%))
 ONE_WORD_EACH = $(if $(filter-out 4,$(words $(FOLDERS))),$(error a folder has a space in its name))
 
-.PHONY: lib shared man install uninstall test test-c test-programs list-tests bench compare clean
+.PHONY: lib shared man install uninstall test test-c test-programs list-tests bench compare faulty has-fuzz fuzz clean
 .SECONDARY:
 
 lib: target/staticlib/libsheet.a
@@ -143,6 +160,17 @@ list-tests:
 	@$(if $(HAS_CXX),:,echo 'left out: sheet.h as C++, no C++ compiler here' >&2)
 	@$(if $(HAS_SANITIZE),:,echo 'left out: the tests under the sanitizers, which do not run here' >&2)
 
+faulty: $(FAULTS:%=build/faulty/%/compare)
+	@$(if $(HAS_FUZZ),$(MAKE) -s LIB=$(LIB) $(foreach fault,$(FAULTS),build/faulty/$(fault)/$(call fuzzer_of,$(fault))),:)
+
+# Fails, and says so, where no fuzzer can be built.
+has-fuzz:
+	@$(if $(HAS_FUZZ),:,echo 'left out: the fuzzers, which want clang and its libFuzzer on x86-64' >&2; exit 1)
+
+fuzz:
+	fuzz/run read $(MINUTES)m
+	fuzz/run table $(MINUTES)m
+
 bench: $(BENCHES)
 	@for program in $(BENCHES); do $(RUN) $$program || exit 1; done
 
@@ -189,3 +217,38 @@ build/sanitized/%: tests/%.c $(SHARED) $(HEADERS) $(LIB)
 
 build/bench/%_bench: build/bench/%_bench.o $(BENCH_OBJECTS) $(SHARED_OBJECTS) $(LIB)
 	$(CC) -o $@ $^
+
+# The fuzzers follow the branches of the library and of the second implementation,
+# and of nothing else.
+build/fuzz/tests/second/%.o: FUZZ_CFLAGS += -fsanitize=fuzzer-no-link
+
+build/fuzz/%.o: %.c $(HEADERS)
+	@mkdir -p $(@D)
+	$(FUZZ_CC) $(FUZZ_CFLAGS) $(INCLUDE) -c -o $@ $<
+
+build/fuzz/covered/libsheet.a: $(LIB)
+	@mkdir -p $(@D)
+	fuzz/covered $@ $(LIB)
+
+build/fuzz/covered/%: build/fuzz/fuzz/%.o $(FUZZ_OBJECTS) build/fuzz/covered/libsheet.a
+	$(FUZZ_CC) $(SANITIZE) -fsanitize=fuzzer -o $@ $^
+
+build/fuzz/plain/%: build/fuzz/fuzz/%.o $(FUZZ_OBJECTS) $(LIB)
+	@mkdir -p $(@D)
+	$(FUZZ_CC) $(SANITIZE) -fsanitize=fuzzer -o $@ $^
+
+# The archive with one fault: its own call is renamed, and the faulty one is put beside it.
+build/faulty/%/libsheet.a: tests/faulty.c include/sheet.h $(LIB)
+	@mkdir -p $(@D)
+	$(CC) $(CFLAGS) -Iinclude -DFAULT=$(firstword $(subst -, ,$*)) -c -o $(@D)/fault.o $<
+	$(OBJCOPY) --redefine-sym sheet_$(lastword $(subst -, ,$*))=sound $(LIB) $@
+	$(AR) rs $@ $(@D)/fault.o
+
+build/faulty/%/compare: build/tests/compare.o $(SHARED_OBJECTS) build/faulty/%/libsheet.a
+	$(CC) -o $@ $^
+
+build/faulty/%/read: build/fuzz/fuzz/read.o $(FUZZ_OBJECTS) build/faulty/%/libsheet.a
+	$(FUZZ_CC) $(SANITIZE) -fsanitize=fuzzer -o $@ $^
+
+build/faulty/%/table: build/fuzz/fuzz/table.o $(FUZZ_OBJECTS) build/faulty/%/libsheet.a
+	$(FUZZ_CC) $(SANITIZE) -fsanitize=fuzzer -o $@ $^
