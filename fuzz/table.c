@@ -85,7 +85,8 @@ static void table_from(const uint8_t *bytes, size_t size)
 
 static size_t write_word(uint8_t *bytes, uint32_t word)
 {
-    bytes[0] = word < TWO_BYTES ? (uint8_t)word : word == SHEET_NONE ? NONE_BYTE : word < 65536 ? TWO_BYTES : FOUR_BYTES;
+    uint8_t longer = word == SHEET_NONE ? NONE_BYTE : word < 65536 ? TWO_BYTES : FOUR_BYTES;
+    bytes[0] = word < TWO_BYTES ? (uint8_t)word : longer;
     for (size_t i = 0; i < more_bytes(bytes[0]); i++)
         bytes[1 + i] = (uint8_t)(word >> 8 * i);
     return 1 + more_bytes(bytes[0]);
@@ -208,8 +209,9 @@ static void ask_about_raster(const uint8_t *bytes, size_t size)
         q.level = level;
     q.contents = raster;
     q.lengths[0] = length_near(pixels, bytes[WHOLE]);
-    uint64_t needed = second_build(level, raster, pixels, NULL, 0);
-    ask(&q, CALL_BUILD, sheet_code(needed) == SHEET_NO_ROOM ? length_near(sheet_value(needed), bytes[SECOND_LENGTH]) : 6, 0);
+    uint64_t no_room = second_build(level, raster, pixels, NULL, 0);
+    size_t needed = sheet_code(no_room) == SHEET_NO_ROOM ? (size_t)sheet_value(no_room) : SHEET_NODE_WORDS;
+    ask(&q, CALL_BUILD, length_near(needed, bytes[SECOND_LENGTH]), 0);
 }
 
 /* What is missing of the head is 0. */

@@ -41,7 +41,9 @@ struct asked_for {
 /* What may be special about a case. */
 enum special { LARGEST, EMPTY_NULL, EMPTY_POINTER, NO_SHEETS_LENGTH, TOO_LONG, SPECIALS };
 
-static const char *const special_name[SPECIALS] = {"largest", "empty, NULL", "empty, no NULL", "odd length", "too long"};
+static const char *const special_name[SPECIALS] = {
+    "largest", "empty, NULL", "empty, no NULL", "odd length", "too long",
+};
 
 static struct asked_for asked = {1, 0, 0, 0, -1};
 static uint64_t met_cases, met_unequal, met_call[CALLS], met_call_unequal[CALLS], met_code[CALLS][256];
@@ -256,6 +258,20 @@ static void watch(void)
     for (size_t i = 0; i < sizeof signals / sizeof *signals; i++)
         signal(signals[i], name_case);
 }
+
+#ifdef __SANITIZE_ADDRESS__
+/* What the sanitizers ask for on their start: with this they end the program by a
+ * signal when they have found something. */
+const char *__asan_default_options(void)
+{
+    return "abort_on_error=1";
+}
+
+const char *__ubsan_default_options(void)
+{
+    return "abort_on_error=1";
+}
+#endif
 
 /* ---- the end */
 

@@ -77,8 +77,8 @@ uint64_t sheet_distance(uint32_t n, const uint32_t *table, size_t table_len, uin
 }
 
 #elif FAULT == 8 /* ponds: the third pond's last column is one too high */
-uint64_t sound(uint32_t n, const uint32_t *table, size_t table_len, uint32_t *numbers, size_t numbers_len, uint32_t *reg,
-               size_t reg_len);
+uint64_t sound(uint32_t n, const uint32_t *table, size_t table_len, uint32_t *numbers, size_t numbers_len,
+               uint32_t *reg, size_t reg_len);
 uint64_t sheet_ponds(uint32_t n, const uint32_t *table, size_t table_len, uint32_t *numbers, size_t numbers_len,
                      uint32_t *reg, size_t reg_len)
 {
@@ -99,12 +99,13 @@ uint64_t sheet_write(uint32_t n, const uint32_t *table, size_t table_len, uint8_
 }
 
 #elif FAULT == 10 /* centre: an east one bit above its limit is let through */
-uint64_t sound(uint32_t n, const uint32_t *table, size_t table_len, uint32_t node, double east, double north, double step,
-               double *place, size_t place_len);
+uint64_t sound(uint32_t n, const uint32_t *table, size_t table_len, uint32_t node, double east, double north,
+               double step, double *place, size_t place_len);
 uint64_t sheet_centre(uint32_t n, const uint32_t *table, size_t table_len, uint32_t node, double east, double north,
                       double step, double *place, size_t place_len)
 {
-    return sound(n, table, table_len, node, east == 16777216 + 0x1p-28 ? 16777216 : east, north, step, place, place_len);
+    double let_in = east == 16777216 + 0x1p-28 ? 16777216 : east;
+    return sound(n, table, table_len, node, let_in, north, step, place, place_len);
 }
 
 #elif FAULT == 11 /* read: the place of a needless fork far into the file is one too high */

@@ -51,7 +51,9 @@ static void set_length(size_t length)
 /* Longer than the longest table, by a word, by a node or by many. */
 static void make_too_long(struct dice *d)
 {
-    static const size_t lengths[] = {131071, 131072, 131075, 131076, 131082, 131094, 196608, TABLE_ROOM - 1, TABLE_ROOM};
+    static const size_t lengths[] = {
+        131071, 131072, 131075, 131076, 131082, 131094, 196608, TABLE_ROOM - 1, TABLE_ROOM,
+    };
     if (dice_below(d, 2) == 0)
         make_largest(d);
     else
