@@ -51,7 +51,7 @@ while read -r fault call rest; do
     found_by_compare "$folder"
     verdict "compare finds: $call $rest" $?
     [ -n "$fuzzers" ] || continue
-    case $call in read:) fuzzer=read ;; *) fuzzer=table ;; esac
+    case $call in read:) fuzzer='read' ;; *) fuzzer='table' ;; esac
     found_by_fuzzer "$folder" "$fuzzer"
     verdict "fuzz/$fuzzer finds: $call $rest" $?
 done <build/faulty/list

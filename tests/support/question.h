@@ -28,7 +28,7 @@ enum call {
     CALLS
 };
 
-enum { MOST_CODES = 9, MOST_SLICES = 3, MOST_WRITTEN = 2 };
+enum { MOST_CODES = 9, MOST_SLICES = 3 };
 
 /* What the header says of a call: its name without 'sheet_', the codes that it
  * may give, and its slices, the one that is only read first. */
