@@ -149,8 +149,7 @@ test:
 test-c:
 	@tests/run c $(LIB)
 
-test-programs: $(TESTS) $(EXAMPLES) $(VIEWER_TESTS)
-test-programs: $(TESTS) $(COMPARE) $(EXAMPLES)
+test-programs: $(TESTS) $(COMPARE) $(EXAMPLES) $(VIEWER_TESTS)
 
 compare: build/tests/compare
 
