@@ -330,11 +330,12 @@ static void report_codes(size_t call)
     report(named == met_call[call], form->name, "another code", met_call[call] - named);
 }
 
-/* The largest sheets take longest and are the rarest: one in a million cases. */
+/* These are rarer: 50 times in a million cases, and the largest sheets, which take
+ * longest, once. */
 static void report_specials(size_t call)
 {
     for (size_t i = 0; i < SPECIALS; i++) {
-        uint64_t least = i == LARGEST ? met_cases / MILLION : met_cases / CASES_TO_MEET;
+        uint64_t least = i == LARGEST ? met_cases / MILLION : met_cases / (2 * CASES_TO_MEET);
         report(met_special[call][i] >= least, call_form[call].name, special_name[i], met_special[call][i]);
     }
 }
