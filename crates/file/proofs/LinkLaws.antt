@@ -4,12 +4,12 @@ use mathlib.Core.List.{List, [], _∷_, _++_}
 use mathlib.Core.Path.{_≡_, refl, ap, sym, _∙_}
 use Prim.Native.Nat.{ℕ, zero, suc, _+_, _-_, _*_, _≤_, _<_}
 use native.Mathlib.Omega.{arith}
-use lib.ListN.{length, getD}
+use lib.ListN.{length, getD, set, length-set}
 use lib.Seq.{sets}
 use Rattle.quad.specs.Numbers.{forkType, none, maxWords}
-use Rattle.quad.specs.Tree.{Tree, leaf, fork, colour, Within, Reduced, Coloured, sizeOf, typesOf}
-use Rattle.quad.proofs.TreeLaws.{leaf-by-type, type-le, size-pos, types-length}
-use Rattle.table.proofs.PreorderLaws.{written-leaf, written-fork, written-length}
+use Rattle.quad.specs.Tree.{Tree, leaf, fork, colour, sonOf, Within, Reduced, Coloured, sizeOf, typesOf}
+use Rattle.quad.proofs.TreeLaws.{by-quadrant, leaf-by-type, type-le, size-pos, types-length}
+use Rattle.table.proofs.PreorderLaws.{sonNode, SonsWritten, number-written, part-written, sons-length, sons-written, written-leaf, written-length}
 use Rattle.file.specs.File.{got, blockAt}
 use Rattle.file.specs.Linking.{placeOf, treeIn, Ready, Linked}
 use Rattle.file.proofs.SpeltLaws.{Stands, Spelt, spelt-parts}
@@ -20,16 +20,6 @@ pub leaf-linked : (k p f : ℕ) (before after : List ℕ) → after ≡ sets bef
     → Linked (leaf k) f p before after (p + 1)
 unfolding sizeOf
 leaf-linked k p f before after e = record { next = refl; words = written-leaf k p f before after e }
-
--- four sons' words, then the fork's
-pub fork-linked : (a b c d : Tree) (p f nw ne sw se r : ℕ) (l l₁ l₂ l₃ l₄ after : List ℕ) → nw ≡ p + 1
-    → Linked a p nw l l₁ ne → Linked b p ne l₁ l₂ sw → Linked c p sw l₂ l₃ se → Linked d p se l₃ l₄ r
-    → after ≡ sets l₄ (6 * p) (f ∷ nw ∷ ne ∷ sw ∷ se ∷ forkType ∷ []) → Linked (fork a b c d) f p l after r
-unfolding sizeOf
-fork-linked a b c d p f nw ne sw se r l l₁ l₂ l₃ l₄ after enw ha hb hc hd e = record {
-  next = omega (arith, ha .next, hb .next, hc .next, hd .next);
-  words = written-fork a b c d p f nw ne sw se l l₁ l₂ l₃ l₄ after enw (ha .next) (hb .next) (hc .next) (ha .words) (hb .words) (hc .words) (hd .words) e;
-}
 
 -- the root's type byte
 root-kind : (s : List ℕ) (at : ℕ) (t : Tree) → Spelt s at (typesOf t) → Stands s at (colour t)
@@ -115,66 +105,87 @@ module _ (s : List ℕ) (l p : ℕ) (w : List ℕ) (ready : Ready s l p (length 
         let lt : ready .tree ≡ leaf k = leaf-by-type (ready .tree) (λ q. ne (sym kind-is ∙ q)) ∙ ap leaf kind-is in
         rw (ready .is, lt) (leaf-linked k p f w after h)
 
-    -- a fork: its sons are ready, one after the other
-    module _ (fk : k ≡ forkType) where
-      parts : Forked s l p (ready .tree)
-      parts =
-          let h = its-spells .sound in
-          forked-in s l p (ready .tree) (its-spells .spelt) (h .within) (h .reduced) (h .coloured) (kind-is ∙ fk)
+  -- a fork: its sons are ready, one after the other
+  module _ (fk : getD s (placeOf p + 2) 0 ≡ forkType) where
+    parts : Forked s l p (ready .tree)
+    parts =
+        let h = its-spells .sound in
+        forked-in s l p (ready .tree) (its-spells .spelt) (h .within) (h .reduced) (h .coloured) (kind-is (getD s (placeOf p + 2) 0) refl ∙ fk)
 
-      -- the level falls
-      pub deeper : 0 < l
-      deeper = parts .deep
+    -- the level falls
+    pub deeper : 0 < l
+    deeper = parts .deep
 
-      pub lower : (m : ℕ) → l ≡ m → l - 1 < m
-      lower m e = omega (arith, deeper)
+    pub lower : (m : ℕ) → l ≡ m → l - 1 < m
+    lower m e = omega (arith, deeper)
 
-      size : sizeOf (ready .tree) ≡ 1 + (sizeOf (parts .a) + (sizeOf (parts .b) + (sizeOf (parts .c) + sizeOf (parts .d))))
-      size = ap sizeOf (parts .is) ∙ unfold sizeOf in refl
+    is-tree : treeIn (blockAt s l (placeOf p)) ≡ ready .tree
+    is-tree = rw (ready .is)
 
-      son-ready : (q i : ℕ) (t : Tree) (words : ℕ) → q ≡ i → words ≡ length w → blockAt s (l - 1) (placeOf i) ≡ got (placeOf (i + sizeOf t)) t
-          → i + sizeOf t ≤ p + sizeOf (ready .tree) → Ready s (l - 1) q words
-      son-ready q i t words eq ew is le =
-          record { tree = t; is = rw eq is; room = omega (arith, ready .room); few = omega (arith, ready .few) }
+    -- son q was read at its record, and has room
+    son-read : (q : ℕ) → q < 4
+        → (blockAt s (l - 1) (placeOf (sonNode p (ready .tree) q)) ≡ got (placeOf (sonNode p (ready .tree) (suc q))) (sonOf (ready .tree) q))
+        × (sonNode p (ready .tree) (suc q) ≤ p + sizeOf (ready .tree))
+    unfolding sonNode sonOf sizeOf
+    son-read =
+        let h = parts in
+        rw (h .is) (by-quadrant _ (h .nw, omega arith) (h .ne, omega arith) (h .sw, omega arith) (h .se, omega arith))
 
-      pub ready-nw : Ready s (l - 1) (p + 1) (length w)
-      ready-nw = son-ready (p + 1) (p + 1) (parts .a) (length w) refl refl (parts .nw) (omega (arith, size))
+    -- the table with the fork's father word, and then with the numbers and the parts of its first sons
+    module _ (f : ℕ) (w₀ : List ℕ) (e₀ : w₀ ≡ set w (6 * p) f) where
+      headed : length w₀ ≡ length w
+      headed = ap length e₀ ∙ length-set w (6 * p) f
 
-      module _ (w₁ : List ℕ) (ne : ℕ) (h₁ : Linked (treeIn (blockAt s (l - 1) (placeOf (p + 1)))) p (p + 1) w w₁ ne) where
-        g₁ : Linked (parts .a) p (p + 1) w w₁ ne
-        g₁ = rw (parts .nw) at h₁
+      kept : (k q : ℕ) (w′ : List ℕ) → SonsWritten p (treeIn (blockAt s l (placeOf p))) k q w₀ w′ → length w′ ≡ length w
+      kept k q w′ so = sons-length p _ k q w₀ w′ so ∙ headed
 
-        pub ready-ne : Ready s (l - 1) ne (length w₁)
-        ready-ne = son-ready ne _ (parts .b) _ (g₁ .next) (linked-length g₁) (parts .ne) (omega (arith, size))
+      -- and its type
+      pub type-room : (q : ℕ) (w′ : List ℕ) → SonsWritten p (treeIn (blockAt s l (placeOf p))) 0 q w₀ w′ → 6 * p + 5 < length w′
+      type-room q w′ so = omega (arith, node-room, kept 0 q w′ so)
 
-        module _ (w₂ : List ℕ) (sw : ℕ) (h₂ : Linked (treeIn (blockAt s (l - 1) (placeOf ne))) p ne w₁ w₂ sw) where
-          g₂ : Linked (parts .b) p ne w₁ w₂ sw
-          g₂ = rw (ap (λ (i : ℕ). blockAt s (l - 1) (placeOf i)) (g₁ .next) ∙ parts .ne) at h₂
+      module _ (q next : ℕ) (w′ : List ℕ) (q4 : q < 4) (is : next ≡ sonNode p (treeIn (blockAt s l (placeOf p))) q)
+          (so : SonsWritten p (treeIn (blockAt s l (placeOf p))) 0 q w₀ w′) where
+        -- a son's number has room
+        pub number-room : 6 * p + 1 + q < length w′
+        number-room = omega (arith, node-room, kept 0 q w′ so)
 
-          sw-is : sw ≡ p + 1 + sizeOf (parts .a) + sizeOf (parts .b)
-          sw-is = omega (arith, g₁ .next, g₂ .next)
+        module _ (w₁ : List ℕ) (e₁ : w₁ ≡ set w′ (6 * p + 1 + q) next) where
+          so₁ : SonsWritten p (treeIn (blockAt s l (placeOf p))) 1 q w₀ w₁
+          so₁ = number-written p _ q next w₀ w′ w₁ q4 is so e₁
 
-          pub ready-sw : Ready s (l - 1) sw (length w₂)
-          ready-sw = son-ready sw _ (parts .c) _ sw-is (linked-length g₂ ∙ linked-length g₁) (parts .sw) (omega (arith, size))
+          is′ : next ≡ sonNode p (ready .tree) q
+          is′ = is ∙ ap (λ (u : Tree). sonNode p u q) is-tree
 
-          module _ (w₃ : List ℕ) (se : ℕ) (h₃ : Linked (treeIn (blockAt s (l - 1) (placeOf sw))) p sw w₂ w₃ se) where
-            g₃ : Linked (parts .c) p sw w₂ w₃ se
-            g₃ = rw (ap (λ (i : ℕ). blockAt s (l - 1) (placeOf i)) sw-is ∙ parts .sw) at h₃
+          pub son-ready : Ready s (l - 1) next (length w₁)
+          unfolding sonNode
+          son-ready =
+              let h = son-read q q4 in
+              record {
+                tree = sonOf (ready .tree) q;
+                is = rw is′ (h .0);
+                room = omega (arith, ready .room, h .1, is′, kept 1 q w₁ so₁);
+                few = omega (arith, ready .few, h .1, is′);
+              }
 
-            se-is : se ≡ p + 1 + sizeOf (parts .a) + sizeOf (parts .b) + sizeOf (parts .c)
-            se-is = omega (arith, sw-is, g₃ .next)
+          pub son-linked : (w₂ : List ℕ) (r : ℕ) → Linked (treeIn (blockAt s (l - 1) (placeOf next))) p next w₁ w₂ r
+              → (r ≡ sonNode p (treeIn (blockAt s l (placeOf p))) (q + 1)) × SonsWritten p (treeIn (blockAt s l (placeOf p))) 0 (q + 1) w₀ w₂
+          unfolding sonNode
+          son-linked w₂ r h =
+              let st : treeIn (blockAt s (l - 1) (placeOf next)) ≡ sonOf (treeIn (blockAt s l (placeOf p))) q =
+              ap (λ (i : ℕ). treeIn (blockAt s (l - 1) (placeOf i))) is′ ∙ ap treeIn (son-read q q4 .0) ∙ ap (λ (u : Tree). sonOf u q) (sym is-tree) in
+              let g : Linked (sonOf (treeIn (blockAt s l (placeOf p))) q) p next w₁ w₂ r = rw st at h in
+              let o : q + 1 ≡ suc q = omega arith in
+              (rw o (omega (arith, g .next, is)), part-written p _ q next w₀ w₁ w₂ is so₁ (g .words))
 
-            pub ready-se : Ready s (l - 1) se (length w₃)
-            ready-se = son-ready se _ (parts .d) _ se-is (linked-length g₃ ∙ linked-length g₂ ∙ linked-length g₁) (parts .se) (omega (arith, size))
-
-            module _ (w₄ : List ℕ) (r : ℕ) (h₄ : Linked (treeIn (blockAt s (l - 1) (placeOf se))) p se w₃ w₄ r) where
-              g₄ : Linked (parts .d) p se w₃ w₄ r
-              g₄ = rw (ap (λ (i : ℕ). blockAt s (l - 1) (placeOf i)) se-is ∙ parts .se) at h₄
-
-              pub fork-room : 6 * p + 6 ≤ length w₄
-              fork-room = omega (arith, node-room, linked-length g₄, linked-length g₃, linked-length g₂, linked-length g₁)
-
-              pub links-fork : (f : ℕ) (after : List ℕ) → after ≡ sets w₄ (6 * p) (f ∷ (p + 1) ∷ ne ∷ sw ∷ se ∷ forkType ∷ [])
-                  → Linked (treeIn (blockAt s l (placeOf p))) f p w after r
-              links-fork f after e =
-                  rw (ready .is, parts .is) (fork-linked _ _ _ _ p f (p + 1) ne sw se r w w₁ w₂ w₃ w₄ after refl g₁ g₂ g₃ g₄ e)
+      pub fork-linked : (q next : ℕ) (w′ w₂ : List ℕ) → q ≡ 4 → next ≡ sonNode p (treeIn (blockAt s l (placeOf p))) q
+          → SonsWritten p (treeIn (blockAt s l (placeOf p))) 0 q w₀ w′ → w₂ ≡ set w′ (6 * p + 5) forkType
+          → Linked (treeIn (blockAt s l (placeOf p))) f p w w₂ next
+      unfolding sonNode sonOf sizeOf
+      fork-linked q next w′ w₂ e is so e₂ =
+          let same : treeIn (blockAt s l (placeOf p)) ≡ fork (parts .a) (parts .b) (parts .c) (parts .d) = is-tree ∙ parts .is in
+          let so′ : SonsWritten p (fork (parts .a) (parts .b) (parts .c) (parts .d)) 0 q w₀ w′ = rw same at so in
+          let is′ : next ≡ sonNode p (fork (parts .a) (parts .b) (parts .c) (parts .d)) 4 = rw (same, e) at is in
+          rw same (record {
+            next = omega (arith, is′);
+            words = sons-written (parts .a) (parts .b) (parts .c) (parts .d) p f q w w₀ w′ w₂ e e₀ so′ e₂;
+          })

@@ -6,6 +6,7 @@ ghost use mathlib.Core.Path.{_≡_};
 ghost use Prim.Native.Nat.{_+_, _*_, _/_, _%_, _<_, _≤_};
 ghost use lib.ListN.{length, getD};
 ghost use lib.Seq.{sets};
+ghost use Rattle.quad.specs.Numbers.{none, forkType};
 ghost use Rattle.table.specs.Table.{isFork};
 ghost use Rattle.table.specs.Nodes.{treeAt};
 ghost use Rattle.file.specs.File.{mark, sheetMark, nodeMark, isType, blockAt, fourAt, openOf};
@@ -302,34 +303,60 @@ fn type_of(file: &[u8], p: u32) -> usize
     quad::wide(file[at + 2])
 }
 
-// The second pass, for a block: its nodes from p on, in preorder, and the next node. A fork's words are written once its sons' numbers are known.
+// Writes the six words of a leaf.
+fn put_leaf(table: &mut [u32], p: u32, father: u32, kind: usize)
+    requires { ⌜ (6 * p + 6 ≤ length (now table)) × (kind < 4294967296) ⌝ }
+    ensures { λ _. ⌜ now (table .exit) ≡ sets (now (table .entry)) (6 * p) (father ∷ none ∷ none ∷ none ∷ none ∷ kind ∷ []) ⌝ }
+{
+    let nobody = quad::NONE as u32;
+    table::put_node(
+        table,
+        p as usize,
+        father,
+        nobody,
+        nobody,
+        nobody,
+        nobody,
+        kind as u32,
+    );
+}
+
+// The second pass, for a fork: its nodes from p on, in preorder, and the next node. Each son's number is written before the son's part, and the type last; a son
+// that is a leaf is written here, without a call.
+fn link_fork(file: &[u8], level: u32, table: &mut [u32], p: u32, father: u32) -> u32
+    requires { ⌜ Ready (now file) level p (length (now table)) × (getD (now file) (placeOf p + 2) 0 ≡ forkType) ⌝ }
+    ensures { λ r. ⌜ Linked (treeIn (blockAt (now (file .entry)) level (placeOf p))) father p (now (table .entry)) (now (table .exit)) r ⌝ }
+{
+    let own = 6 * (p as usize);
+    table[own] = father;
+    let mut next = p + 1;
+    let mut q = 0;
+    while q < 4 {
+        table[own + 1 + q] = next;
+        q += 1;
+        let kind = type_of(file, next);
+        if kind == quad::FORK {
+            next = link_fork(file, level - 1, table, next, p);
+        } else {
+            put_leaf(table, next, p, kind);
+            next += 1;
+        }
+    }
+    table[own + 5] = quad::FORK as u32;
+    next
+}
+
+// The second pass, for a block: its nodes from p on, in preorder, and the next node.
 fn link_block(file: &[u8], level: u32, table: &mut [u32], p: u32, father: u32) -> u32
     requires { ⌜ Ready (now file) level p (length (now table)) ⌝ }
     ensures { λ r. ⌜ Linked (treeIn (blockAt (now (file .entry)) level (placeOf p))) father p (now (table .entry)) (now (table .exit)) r ⌝ }
 {
     let kind = type_of(file, p);
-    let none = quad::NONE as u32;
-    if kind != quad::FORK {
-        table::put_node(
-            table,
-            p as usize,
-            father,
-            none,
-            none,
-            none,
-            none,
-            kind as u32,
-        );
-        return p + 1;
+    if kind == quad::FORK {
+        return link_fork(file, level, table, p, father);
     }
-    let below = level - 1;
-    let nw = p + 1;
-    let ne = link_block(file, below, table, nw, p);
-    let sw = link_block(file, below, table, ne, p);
-    let se = link_block(file, below, table, sw, p);
-    let next = link_block(file, below, table, se, p);
-    table::put_node(table, p as usize, father, nw, ne, sw, se, quad::FORK as u32);
-    next
+    put_leaf(table, p, father, kind);
+    p + 1
 }
 
 // A file's table: the preorder one, written only where nothing is refused any more; words beyond it stay.

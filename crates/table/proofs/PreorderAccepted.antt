@@ -22,7 +22,7 @@ use Rattle.table.specs.Nodes.{treeAt}
 use Rattle.table.specs.Preorder.{preorder, preorderTable}
 use Rattle.table.proofs.RuleLaws.{depth-root, depth-step, all-at, Placed, leaf-passed, fork-passed}
 use Rattle.table.proofs.AcceptedLaws.{tree-leaf, tree-fork, depth-less, Sound}
-use Rattle.table.proofs.PreorderLaws.{preorder-length}
+use Rattle.table.proofs.PreorderLaws.{preorder-length, sonNode}
 
 -- the words of xs stand in T from place i on
 abbrev At : List ℕ → ℕ → List ℕ → Type 0
@@ -39,11 +39,6 @@ at-rest T i k xs ys e h j lt =
 -- T has the words of t, under father f, from node p on
 unfoldable pub Holds : List ℕ → ℕ → ℕ → Tree → Type 0
 Holds T f p t = At T (6 * p) (preorder f p t)
-
--- the node of a fork's son q, where the fork is node p; so `sonNode p t 4` is the node after it
-unfoldable pub sonNode : ℕ → Tree → ℕ → ℕ
-sonNode p t zero = p + 1
-sonNode p t (suc q) = sonNode p t q + sizeOf (sonOf t q)
 
 module _ (p : ℕ) (t : Tree) where
   node-rises : (i j : ℕ) → i < j → sonNode p t i < sonNode p t j
