@@ -1,6 +1,6 @@
 -- A choice by a test, where the test is known from a fact. `cases` closes a function's return against a definition by cases.
 use mathlib.Core.Path.{_≡_, refl, sym, _∙_}
-use mathlib.Core.Bool.{Bool, true, false, not, cond, _&&_}
+use mathlib.Core.Bool.{Bool, true, false, not, cond, _&&_, false≢true}
 use Prim.Native.Nat.{ℕ, _≤_, _<_}
 use lib.Dec.{ltb, leb, eqb}
 use Rattle.base.proofs.BoolLaws.{on, off}
@@ -77,3 +77,12 @@ cond-map-case f true x y x' y' p q = p refl
 cond-map-case f false x y x' y' p q = q refl
 
 pub ruleset cases = (at-lt, at-ge, at-le, at-gt, at-eq, at-ne, at-true, at-false, at-call-true, at-call-false, at-call-eq, at-call-ne, at-call-not, at-call-not-not)
+
+-- past a test that refuses, and past one that lets through
+pub past : (t x : Bool) → cond t false x ≡ true → (t ≡ false) × (x ≡ true)
+past true x e = absurd (false≢true e)
+past false x e = (refl, e)
+
+pub through : (t x : Bool) → cond t x false ≡ true → (t ≡ true) × (x ≡ true)
+through true x e = (refl, e)
+through false x e = absurd (false≢true e)

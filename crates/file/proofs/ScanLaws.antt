@@ -1,32 +1,23 @@
 -- Reading without a name for a fault: four blocks that were scanned are the four blocks of the definition, block by block.
-use mathlib.Core.Bool.{Bool, true, false, not, cond, false≢true}
+use mathlib.Core.Bool.{Bool, true, false}
 use mathlib.Core.List.{List}
 use mathlib.Core.Logic.{⊎-elim}
 use mathlib.Core.Path.{_≡_, refl, ap, sym, _∙_}
-use Prim.Native.Nat.{ℕ, zero, suc, _+_, _-_, _≤_, _<_}
+use Prim.Native.Nat.{ℕ, zero, suc, _+_, _-_, _≤_}
 use native.Mathlib.Numerals.{add-one}
 use native.Mathlib.Omega.{arith}
-use lib.Dec.{ltb, leb, eqb}
+use lib.Dec.{ltb, eqb}
 use lib.ListN.{length, getD}
 use borrow.Author.Tests.{eq-eqb, ne-eqb, eqb-true, eqb-false, ltb-false}
-use Rattle.base.proofs.BoolLaws.{by-bool, on}
-use Rattle.base.proofs.CaseLaws.{cond-case}
+use Rattle.base.proofs.BoolLaws.{by-bool}
+use Rattle.base.proofs.CaseLaws.{past, through}
 use Rattle.quad.specs.Numbers.{forkType}
-use Rattle.quad.specs.Tree.{Tree, leaf, fork, colour, alike, likeTypes, Coloured}
+use Rattle.quad.specs.Tree.{Tree, leaf, fork, colour, alike, likeTypes}
 use Rattle.quad.proofs.TreeLaws.{alike-types, type-le}
 use Rattle.file.specs.File.{Got, got, mark, nodeMark, isType, recordAt, fourAt, blockAt}
 use Rattle.file.specs.Reading.{standsAt, sameType, Scanned, Row, ScannedRoot}
 use Rattle.file.proofs.SpeltLaws.{Stands}
 use Rattle.file.proofs.BlockLaws.{record-stands, block-spells}
-
--- past a test that refuses, and past one that lets through
-past : (t x : Bool) → cond t false x ≡ true → (t ≡ false) × (x ≡ true)
-past true x e = absurd (false≢true e)
-past false x e = (refl, e)
-
-through : (t x : Bool) → cond t x false ≡ true → (t ≡ true) × (x ≡ true)
-through true x e = (refl, e)
-through false x e = absurd (false≢true e)
 
 -- the type byte was read, and tested by a call
 pub type-told : (b k : ℕ) (r : Bool) → k ≡ b → r ≡ isType k → r ≡ isType b

@@ -7,7 +7,7 @@ use native.Mathlib.Numerals.{add-one}
 use native.Mathlib.Omega.{arith}
 use lib.ListN.{length, length-append}
 use lib.Seq.{sets, length-sets}
-use borrow.Author.Tests.{eq-eqb, ne-eqb}
+use borrow.Author.Tests.{ne-eqb}
 use Rattle.base.proofs.SetsLaws.{sets-after}
 use Rattle.quad.specs.Numbers.{forkType}
 use Rattle.quad.specs.Tree.{Tree, leaf, fork, sizeOf, typesOf}

@@ -10,8 +10,8 @@ use native.Mathlib.Omega.{arith}
 use lib.Dec.{leb, eqb}
 use lib.ListN.{length, getD, length-append, List·getD-append}
 use lib.Seq.{getD-append-add}
-use borrow.Author.Tests.{eq-eqb, ne-eqb, eqb-true, lt-ltb, le-leb, leb-true}
-use Rattle.base.proofs.BoolLaws.{or-true, lt-or-ge}
+use borrow.Author.Tests.{eq-eqb, ne-eqb, eqb-true, lt-ltb, leb-true}
+use Rattle.base.proofs.BoolLaws.{lt-or-ge}
 use Rattle.quad.specs.Numbers.{topLevel, topColour, none, forkType}
 use Rattle.quad.specs.Tree.{Tree, leaf, fork, sonOf, Within, Reduced, Coloured, sizeOf}
 use Rattle.quad.proofs.TreeLaws.{by-quadrant, each-son, within-son, coloured-son, reduced-son, same-sons, size-pos, size-fits}

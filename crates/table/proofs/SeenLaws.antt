@@ -1,30 +1,20 @@
 -- The check accepts fast exactly the tables with no fault.
-use mathlib.Core.Bool.{Bool, true, false, not, cond, false≢true}
+use mathlib.Core.Bool.{Bool, true, false, not, cond}
 use mathlib.Core.List.{List}
-use mathlib.Core.Path.{_≡_, refl, ap, sym, _∙_}
+use mathlib.Core.Path.{_≡_, ap, sym, _∙_}
 use Prim.Native.Nat.{ℕ, zero, suc, _+_, _-_, _*_, _^_, _≤_, _<_}
 use native.Mathlib.Nat.{pow-le-pow-right, pow-succ'}
 use native.Mathlib.Omega.{arith}
-use lib.Dec.{leb, ltb, eqb}
-use borrow.Author.Tests.{le-leb, lt-leb, leb-true, leb-false, ltb-true, le-ltb, lt-ltb, eq-eqb, ne-eqb, eqb-true, not-true}
+use lib.Dec.{leb, eqb}
+use borrow.Author.Tests.{leb-false, ltb-true, le-ltb, lt-ltb, eq-eqb, ne-eqb, eqb-true, not-true}
 use Rattle.base.proofs.BoolLaws.{on, off}
-use Rattle.base.proofs.CaseLaws.{cond-case}
+use Rattle.base.proofs.CaseLaws.{cond-case, past, through}
 use Rattle.quad.specs.Numbers.{topLevel, topColour, forkType, none}
 use Rattle.quad.specs.Tree.{likeTypes}
 use Rattle.quad.proofs.TreeLaws.{by-quadrant}
 use Rattle.table.specs.Table.{nodes, father, son, type, isFork}
 use Rattle.table.specs.Links.{SonIn, SonsIn}
 use Rattle.table.specs.Seen.{Four, between, different, allAre, fatherOf, likeLeaves, leafOk, fits, forkOk, added, seenOf, soundOf}
-
--- past a test that refuses
-pub past : (t x : Bool) → cond t false x ≡ true → (t ≡ false) × (x ≡ true)
-past true x e = absurd (false≢true e)
-past false x e = (refl, e)
-
--- past a test that lets through
-pub through : (t x : Bool) → cond t x false ≡ true → (t ≡ true) × (x ≡ true)
-through true x e = (refl, e)
-through false x e = absurd (false≢true e)
 
 -- what four numbers between p and N are
 between-four : (p N a b c d : ℕ) → between p N a b c d ≡ true → (p < a) × (p < b) × (p < c) × (p < d) × Four N a b c d

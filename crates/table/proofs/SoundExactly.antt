@@ -9,6 +9,7 @@ use native.Mathlib.Omega.{arith}
 use lib.Dec.{eqb}
 use borrow.Author.Tests.{eq-eqb, ne-eqb, eqb-true, lt-ltb, le-ltb, lt-leb}
 use Rattle.base.proofs.BoolLaws.{by-bool}
+use Rattle.base.proofs.CaseLaws.{past, through}
 use Rattle.quad.specs.Numbers.{topColour, forkType, none}
 use Rattle.quad.specs.Tree.{likeTypes, sizeOf}
 use Rattle.quad.proofs.TreeLaws.{by-quadrant, size-pos}
@@ -19,7 +20,7 @@ use Rattle.table.specs.Seen.{Four, between, different, allAre, fatherOf,
 use Rattle.table.proofs.RuleLaws.{depth-root}
 use Rattle.table.proofs.AcceptedLaws.{tree-leaf, tree-fork, root-father, sons-of, leaf-sons, leaf-colour, sonType-only, not-alike, fork-deep, depth-son}
 use Rattle.table.proofs.SizeLaws.{tree-size}
-use Rattle.table.proofs.SeenLaws.{Apart, past, through, sonsSeen, seen-leaf, seen-fork}
+use Rattle.table.proofs.SeenLaws.{Apart, sonsSeen, seen-leaf, seen-fork}
 use Rattle.table.proofs.SoundLaws.{sound-faultless}
 
 between-true : (p N a b c d : ℕ) → p < a → p < b → p < c → p < d → Four N a b c d → between p N a b c d ≡ true

@@ -8,24 +8,24 @@ use Prim.Native.Nat.{ℕ, zero, suc, _+_, _-_, _≤_, _<_}
 use native.Mathlib.Nat.{zero-add, eq-zero-or-pos}
 use native.Mathlib.Omega.{arith}
 use lib.Dec.{leb, ltb, eqb}
-use borrow.Author.Tests.{eq-eqb, ne-eqb, eqb-true, eqb-false, ltb-true, ltb-false, lt-ltb, leb-true}
+use borrow.Author.Tests.{eq-eqb, ne-eqb, eqb-true, eqb-false, ltb-false, lt-ltb, leb-true}
 use Rattle.base.proofs.BoolLaws.{by-bool, or-true}
-use Rattle.base.proofs.CaseLaws.{cond-case}
 use Rattle.base.proofs.SumLaws.{sum-full}
 use Rattle.quad.proofs.TreeLaws.{by-quadrant}
 use Rattle.answer.specs.declared.Outcome.the-variants.{Answered}
 use Rattle.quad.specs.Tree.{likeTypes}
+use Rattle.base.proofs.CaseLaws.{past, through}
 use Rattle.quad.specs.Numbers.{topColour, forkType, none}
 use Rattle.table.specs.Table.{nodes, father, son, type, isFork}
 use Rattle.table.specs.Rules.{depthTo, allOf, one, timesNamed, fatherOk, onceOk, sonAlike, mixedOk, Sized, faultAt, faultsOf}
 use Rattle.table.specs.Nodes.{firstQuadrant}
 use Rattle.table.specs.Seen.{likeLeaves, forkOk, leafOk, added, seenOf, soundOf}
 use Rattle.table.proofs.RuleLaws.{depth-root, depth-step, all-at, Placed, leaf-passed, fork-passed}
-use Rattle.table.proofs.FourLaws.{One, one-le, one-of-four}
+use Rattle.table.proofs.FourLaws.{one-le, one-of-four}
 use Rattle.table.proofs.CheckLaws.{from-sound-all}
 use Rattle.table.proofs.AcceptedLaws.{depth-le}
 use Rattle.table.proofs.FamilyLaws.{Family, family-sum}
-use Rattle.table.proofs.SeenLaws.{all-are, sonsSeen, seen-leaf, seen-no-leaf, seen-low, seen-unfit, seen-fork, Apart, past, through, SonsFit, sons-fit}
+use Rattle.table.proofs.SeenLaws.{all-are, sonsSeen, seen-leaf, seen-no-leaf, seen-low, seen-unfit, seen-fork, Apart, SonsFit, sons-fit}
 
 -- what is added up is more than nothing only if each part is
 some-part : (x y : ℕ) → 0 < cond (eqb x 0) 0 y → (0 < x) × (cond (eqb x 0) 0 y ≡ y)

@@ -1,6 +1,5 @@
 -- `file::scan_root`: a leaf's record, or a fork's and four blocks. Assumes nothing.
 use mathlib.Core.Path.{refl}
-use native.Mathlib.Omega.{arith}
 use Rattle.base.proofs.BoolLaws.{on}
 use Rattle.file.proofs.ScanLaws.{fits-three, root-leaf, root-fork}
 use borrow.Author.Needs.{needs}
