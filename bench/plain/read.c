@@ -1,7 +1,8 @@
 /*
- * Reading for speed: one pass over the records finds the faults and counts, a
- * second one writes the nodes. Of each open fork the sons still to come are
- * kept, and which types have come, as bits.
+ * Reading for speed: one pass over the records, fork by fork, accepts a sound
+ * file and counts, a second one writes the nodes. Only if the first fails does an
+ * ordered pass run, to name the first fault: of each open fork it keeps the sons
+ * still to come, and which types have come, as bits.
  */
 #include "plain/plain.h"
 
@@ -41,8 +42,8 @@ static uint64_t record_fault(const uint8_t *file, size_t len, size_t at)
     return len - at < RECORD_SIZE ? at_place(13, len) : at_place(12, at + 2);
 }
 
-/* The first fault in the block after the header, or 0 with its end. */
-static uint64_t block_fault(const uint8_t *file, size_t len, size_t *end)
+/* The first fault in the block after the header, which has one. */
+static uint64_t block_fault(const uint8_t *file, size_t len)
 {
     uint8_t to_come[DEPTHS] = {1}, seen[DEPTHS] = {4};
     uint32_t depth = 0, n = file[2];
@@ -63,47 +64,83 @@ static uint64_t block_fault(const uint8_t *file, size_t len, size_t *end)
         }
         if (to_come[depth] == 0 && (seen[depth] == 1 || seen[depth] == 2))
             return at_place(5, at + 2);
-        while (depth > 0 && to_come[depth] == 0)
+        while (to_come[depth] == 0)
             depth--;
-        if (to_come[depth] == 0)
-            break;
     }
-    *end = at + RECORD_SIZE;
-    return 0;
 }
 
-static void write_nodes(const uint8_t *file, uint32_t count, uint32_t *table)
+/* The place after four sound blocks of this level, or 0. */
+static size_t end_of_four(const uint8_t *file, size_t len, uint32_t level, size_t at)
 {
-    uint32_t *son_word[DEPTHS], *last[DEPTHS], fork[DEPTHS] = {NONE}, root_place;
-    uint32_t depth = 0;
-    son_word[0] = &root_place;
-    last[0] = &root_place + 1;
-    for (uint32_t p = 0; p < count; p++, table += 6) {
-        uint32_t type = file[HEADER_SIZE + (size_t)p * RECORD_SIZE + 2];
-        *son_word[depth]++ = p;
-        table[0] = fork[depth];
-        table[5] = type;
-        if (type == FORK) {
-            depth++;
-            fork[depth] = p;
-            son_word[depth] = table + 1;
-            last[depth] = table + 5;
-            continue;
-        }
-        table[1] = table[2] = table[3] = table[4] = NONE;
-        while (depth > 0 && son_word[depth] == last[depth])
-            depth--;
+    uint32_t seen = 0;
+    for (int quadrant = 0; quadrant < 4; quadrant++) {
+        if (!is_record(file, len, at))
+            return 0;
+        uint32_t type = file[at + 2];
+        at += RECORD_SIZE;
+        seen |= 1u << type;
+        if (type == FORK && (level == 0 || (at = end_of_four(file, len, level - 1, at)) == 0))
+            return 0;
     }
+    return seen == 1 || seen == 2 ? 0 : at;
+}
+
+/* The place after the block behind the header, if it is sound, or 0. */
+static size_t end_of_block(const uint8_t *file, size_t len)
+{
+    if (!is_record(file, len, HEADER_SIZE))
+        return 0;
+    if (file[HEADER_SIZE + 2] != FORK)
+        return HEADER_SIZE + RECORD_SIZE;
+    return file[2] == 0 ? 0 : end_of_four(file, len, file[2] - 1u, HEADER_SIZE + RECORD_SIZE);
+}
+
+static uint32_t type_of(const uint8_t *file, uint32_t node)
+{
+    return file[HEADER_SIZE + (size_t)node * RECORD_SIZE + 2];
+}
+
+static void write_leaf(uint32_t *words, uint32_t father, uint32_t type)
+{
+    words[0] = father;
+    words[1] = words[2] = words[3] = words[4] = NONE;
+    words[5] = type;
+}
+
+/* Writes a fork and all below it, and gives back the next node. */
+static uint32_t write_fork(const uint8_t *file, uint32_t *table, uint32_t fork, uint32_t father)
+{
+    uint32_t *words = table + (size_t)fork * 6, next = fork + 1;
+    words[0] = father;
+    words[5] = FORK;
+    for (int quadrant = 0; quadrant < 4; quadrant++) {
+        uint32_t type = type_of(file, next);
+        words[1 + quadrant] = next;
+        if (type == FORK)
+            next = write_fork(file, table, next, fork);
+        else
+            write_leaf(table + (size_t)next++ * 6, fork, type);
+    }
+    return next;
+}
+
+static void write_nodes(const uint8_t *file, uint32_t *table)
+{
+    uint32_t type = type_of(file, 0);
+    if (type == FORK)
+        write_fork(file, table, 0, NONE);
+    else
+        write_leaf(table, NONE, type);
 }
 
 uint64_t plain_read(const uint8_t *file, size_t file_len, uint32_t *table, size_t table_len)
 {
-    size_t end = 0;
     uint64_t fault = header_fault(file, file_len);
-    if (fault == 0)
-        fault = block_fault(file, file_len, &end);
     if (fault != 0)
         return fault;
+    size_t end = end_of_block(file, file_len);
+    if (end == 0)
+        return block_fault(file, file_len);
     uint32_t count = (uint32_t)((end - HEADER_SIZE) / RECORD_SIZE);
     if ((file[3] | (uint32_t)file[4] << 8) != count)
         return at_place(14, 3);
@@ -111,6 +148,6 @@ uint64_t plain_read(const uint8_t *file, size_t file_len, uint32_t *table, size_
         return at_place(14, end);
     if (table_len < (size_t)count * 6)
         return 9 + 256 * ((uint64_t)count * 6);
-    write_nodes(file, count, table);
+    write_nodes(file, table);
     return 256 * (8 * (uint64_t)count + file[2]);
 }
