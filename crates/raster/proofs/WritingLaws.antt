@@ -16,8 +16,8 @@ use Rattle.quad.specs.Tree.{Tree, leaf, fork, sonOf, colour, alike, join, Withi
 use Rattle.quad.proofs.TreeLaws.{by-quadrant, each-son, size-pos, size-le, alike-leaves}
 use Rattle.quad.proofs.PictureLaws.{tree-within}
 use Rattle.table.specs.Preorder.{preorder}
-use Rattle.table.proofs.PreorderLaws.{Written, written-fork}
-use Rattle.table.proofs.PreorderAccepted.{sonNode, node-end}
+use Rattle.table.proofs.PreorderLaws.{sonNode, Written, written-fork}
+use Rattle.table.proofs.PreorderAccepted.{node-end}
 use Rattle.raster.specs.declared.Measured.{Measured}
 use Rattle.raster.specs.Blocks.{measureOf, joinedOf}
 use Rattle.raster.proofs.BlockLaws.{tree-quarters, join-measure, joined-fork}
