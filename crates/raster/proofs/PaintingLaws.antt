@@ -181,6 +181,23 @@ same-where : (b : Bool) (g k u : ℕ) → (b ≡ true → k ≡ g) → cond b k 
 same-where true g k u f = f refl
 same-where false g k u f = refl
 
+four-quarters : (l X Y x y g u : ℕ) → cond (inBlock l (2 * X + 1) (2 * Y + 1) x y) g
+    (cond (inBlock l (2 * X) (2 * Y + 1) x y) g (cond (inBlock l (2 * X + 1) (2 * Y) x y) g (cond (inBlock l (2 * X) (2 * Y) x y) g u)))
+    ≡ cond (inBlock (suc l) X Y x y) g u
+unfolding inBlock
+four-quarters l X Y x y g u =
+    four-over (eqb (x / 2 ^ l) (2 * X)) (eqb (x / 2 ^ l) (2 * X + 1)) (eqb (y / 2 ^ l) (2 * Y)) (eqb (y / 2 ^ l) (2 * Y + 1)) g u
+    ∙ rw (← half-test (x / 2 ^ l) X, ← half-test (y / 2 ^ l) Y, half-last l x, half-last l y)
+
+-- a block of one colour, quarter by quarter
+pub filled-four : (n l X Y k : ℕ) (U₀ U₁ U₂ U₃ U₄ : List ℕ) → Painted n (inBlock l (2 * X) (2 * Y)) (λ i j. k) U₀ U₁
+    → Painted n (inBlock l (2 * X + 1) (2 * Y)) (λ i j. k) U₁ U₂ → Painted n (inBlock l (2 * X) (2 * Y + 1)) (λ i j. k) U₂ U₃
+    → Painted n (inBlock l (2 * X + 1) (2 * Y + 1)) (λ i j. k) U₃ U₄ → Painted n (inBlock (suc l) X Y) (λ i j. k) U₀ U₄
+filled-four n l X Y k U₀ U₁ U₂ U₃ U₄ a b c d = record {
+  size = d .size ∙ c .size ∙ b .size ∙ a .size;
+  pixels = λ x y hx hy. d .pixels x y hx hy ∙ rw (c .pixels x y hx hy, b .pixels x y hx hy, a .pixels x y hx hy) (four-quarters l X Y x y k _);
+}
+
 module _ (T : List ℕ) (l p X Y : ℕ) where
   -- a leaf's block
   pub painted-leaf : (n c : ℕ) (U W : List ℕ) → c ≡ type T p → (c ≡ forkType → ⊥) → Painted n (inBlock l X Y) (λ i j. c) U W
@@ -205,14 +222,6 @@ module _ (T : List ℕ) (l p X Y : ℕ) where
       let s : sonOf (treeAt T (suc l) p) q ≡ treeAt T l (son T p q) = rw f at (table-son T l p q hq) in
       sym (shade-top l (treeAt T (suc l) p) x y ∙ rw (at, s))
 
-  four-quarters : (x y g u : ℕ) → cond (inBlock l (2 * X + 1) (2 * Y + 1) x y) g
-      (cond (inBlock l (2 * X) (2 * Y + 1) x y) g (cond (inBlock l (2 * X + 1) (2 * Y) x y) g (cond (inBlock l (2 * X) (2 * Y) x y) g u)))
-      ≡ cond (inBlock (suc l) X Y x y) g u
-  unfolding inBlock
-  four-quarters x y g u =
-      four-over (eqb (x / 2 ^ l) (2 * X)) (eqb (x / 2 ^ l) (2 * X + 1)) (eqb (y / 2 ^ l) (2 * Y)) (eqb (y / 2 ^ l) (2 * Y + 1)) g u
-      ∙ rw (← half-test (x / 2 ^ l) X, ← half-test (y / 2 ^ l) Y, half-last l x, half-last l y)
-
   -- a fork's four quarters are its block
   pub painted-four : (n : ℕ) (U₀ U₁ U₂ U₃ U₄ : List ℕ) → isFork T p ≡ true
       → Painted n (inBlock l (2 * X) (2 * Y)) (coloursAt T l (son T p 0)) U₀ U₁ → Painted n (inBlock l (2 * X + 1) (2 * Y)) (coloursAt T l (son T p 1)) U₁ U₂
@@ -232,7 +241,7 @@ module _ (T : List ℕ) (l p X Y : ℕ) where
           same-where (inBlock l (2 * X) (2 * Y + 1) x y) (coloursAt T (suc l) p x y) _ _ (quarter-colour 2 _ _ x y f (omega arith) (omega arith) (omega arith)),
           same-where (inBlock l (2 * X + 1) (2 * Y + 1) x y) (coloursAt T (suc l) p x y) _ _ (quarter-colour 3 _ _ x y f (omega arith) (omega arith) (omega arith)),
         )
-        (four-quarters x y _ _);
+        (four-quarters l X Y x y _ _);
   }
 
 -- the same in the code's numbers

@@ -310,6 +310,19 @@ fn fill_pixel(raster: &mut [u8], n: u32, x: usize, y: usize, colour: u8)
     raster[y * across + x] = colour;
 }
 
+// Fills a block of four pixels.
+fn fill_four(raster: &mut [u8], n: u32, x: usize, y: usize, colour: u8)
+    requires { ⌜ (n ≤ topLevel) × OnSheet n 1 x y × (length (now raster) ≡ 4 ^ n) ⌝ }
+    ensures { λ _. ⌜ Painted n (inBlock 1 x y) (λ i j. colour) (now (raster .entry)) (now (raster .exit)) ⌝ }
+{
+    let west = 2 * x;
+    let north = 2 * y;
+    fill_pixel(raster, n, west, north, colour);
+    fill_pixel(raster, n, west + 1, north, colour);
+    fill_pixel(raster, n, west, north + 1, colour);
+    fill_pixel(raster, n, west + 1, north + 1, colour);
+}
+
 // Fills a leaf's block.
 fn fill_leaf(raster: &mut [u8], n: u32, level: u32, x: usize, y: usize, colour: u8)
     requires { ⌜ (n ≤ topLevel) × OnSheet n level x y × (length (now raster) ≡ 4 ^ n) ⌝ }
@@ -317,6 +330,10 @@ fn fill_leaf(raster: &mut [u8], n: u32, level: u32, x: usize, y: usize, colour: 
 {
     if level == 0 {
         fill_pixel(raster, n, x, y, colour);
+        return;
+    }
+    if level == 1 {
+        fill_four(raster, n, x, y, colour);
         return;
     }
     fill_block(raster, n, level, x, y, colour);
