@@ -1,5 +1,5 @@
 /* Decoding for speed: the check, then each leaf painted row by row, going down
- * from the root. */
+ * from the root, fork by fork. */
 #include <string.h>
 
 #include "plain/plain.h"
@@ -13,9 +13,12 @@ struct painting {
 static void paint_leaf(uint8_t *at, uint32_t n, uint32_t level, uint8_t colour)
 {
     size_t across = (size_t)1 << n, side = (size_t)1 << level;
+    if (level == 0) {
+        *at = colour;
+        return;
+    }
     for (size_t y = 0; y < side; y++, at += across)
         switch (level) {
-        case 0: memset(at, colour, 1); break;
         case 1: memset(at, colour, 2); break;
         case 2: memset(at, colour, 4); break;
         case 3: memset(at, colour, 8); break;
@@ -24,18 +27,18 @@ static void paint_leaf(uint8_t *at, uint32_t n, uint32_t level, uint8_t colour)
         }
 }
 
-static void paint_node(const struct painting *p, uint32_t node, uint32_t level, uint8_t *at)
+static void paint_fork(const struct painting *p, uint32_t fork, uint32_t level, uint8_t *at)
 {
-    const uint32_t *words = p->table + (size_t)node * 6;
-    if (words[5] != 2) {
-        paint_leaf(at, p->n, level, (uint8_t)words[5]);
-        return;
+    const uint32_t *sons = p->table + (size_t)fork * 6 + 1;
+    size_t half = (size_t)1 << (level - 1);
+    for (size_t quadrant = 0; quadrant < 4; quadrant++) {
+        uint8_t *quarter = at + (quadrant % 2) * half + ((quadrant / 2 * half) << p->n);
+        uint32_t type = p->table[(size_t)sons[quadrant] * 6 + 5];
+        if (type == 2)
+            paint_fork(p, sons[quadrant], level - 1, quarter);
+        else
+            paint_leaf(quarter, p->n, level - 1, (uint8_t)type);
     }
-    size_t half = (size_t)1 << (level - 1), down = half << p->n;
-    paint_node(p, words[1], level - 1, at);
-    paint_node(p, words[2], level - 1, at + half);
-    paint_node(p, words[3], level - 1, at + down);
-    paint_node(p, words[4], level - 1, at + down + half);
 }
 
 uint64_t plain_decode(uint32_t n, const uint32_t *table, size_t table_len, uint8_t *raster, size_t raster_len)
@@ -50,6 +53,9 @@ uint64_t plain_decode(uint32_t n, const uint32_t *table, size_t table_len, uint8
     uint64_t check = plain_check(n, table, table_len);
     if (check % 256 != 0)
         return check;
-    paint_node(&p, 0, n, raster);
+    if (table[5] == 2)
+        paint_fork(&p, 0, n, raster);
+    else
+        paint_leaf(raster, n, n, (uint8_t)table[5]);
     return 0;
 }
