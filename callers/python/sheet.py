@@ -29,6 +29,8 @@ import os
 
 # ---- The numbers of the header
 
+VERSION = "0.3.0"
+
 HIGHEST_LEVEL = 7
 NODE_WORDS = 6
 LONGEST_TABLE = 131070
@@ -161,9 +163,22 @@ def _library_path():
     return own if os.path.exists(own) else "libsheet.so.0"
 
 
+def _gives_other_answers(library):
+    """Does the library carry another version than the numbers above? Where the system cannot tell, no."""
+    find = getattr(ctypes.PyDLL(None), "dlvsym", None)
+    if find is None:
+        return False
+    find.argtypes = (ctypes.c_void_p, ctypes.c_char_p, ctypes.c_char_p)
+    find.restype = ctypes.c_void_p
+    answers = "SHEET_" + VERSION.rpartition(".")[0]
+    return not find(library._handle, b"sheet_check", answers.encode())
+
+
 def _load(path):
     # Not CDLL, which lets go of the interpreter's lock while a call runs.
     library = ctypes.PyDLL(path)
+    if _gives_other_answers(library):
+        raise OSError("%s: its answers are not those of version %s" % (path, VERSION))
     for name, kinds in _CALLS.items():
         call = getattr(library, name)
         call.argtypes = kinds

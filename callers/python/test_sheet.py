@@ -627,9 +627,10 @@ class Header(unittest.TestCase):
         return calls
 
     def test_every_number(self):
-        """A definition with arguments is no number, nor is the guard."""
+        """A definition with arguments is no number, nor is the guard or the version."""
         defined = dict(re.findall(r"^\s*#\s*define\s+(\w+)(?!\w|\()[ \t]*(.*?)\s*$", self.header, flags=re.MULTILINE))
         self.assertEqual(defined.pop("SHEET_H"), "")
+        self.assertEqual(defined.pop("SHEET_VERSION"), '"%s"' % sheet.VERSION)
         wanted = {re.sub("^SHEET_", "", name): int(number.rstrip("u")) for name, number in defined.items()}
         known = {name: number for name, number in vars(sheet).items() if type(number) is int and name[0] != "_"}
         self.assertEqual(known, wanted)
@@ -702,6 +703,19 @@ class Loading(unittest.TestCase):
             self.assertEqual(self.loaded(folder, LD_LIBRARY_PATH=system), own)
             os.remove(own)
             self.assertEqual(self.loaded(folder, LD_LIBRARY_PATH=system), "libsheet.so.0")
+
+    def test_other_answers(self):
+        """A library whose calls carry another version is not read by this one's numbers."""
+        with open(sheet._library._name, "rb") as file:
+            library = file.read()
+        carried = ("SHEET_" + sheet.VERSION.rpartition(".")[0]).encode()
+        self.assertIn(carried, library)
+        with tempfile.TemporaryDirectory() as folder:
+            other = os.path.join(os.path.realpath(folder), "other.so")
+            for name, loads in ((carried, True), (b"SHEET_" + b"9" * (len(carried) - 6), False)):
+                with open(other, "wb") as file:
+                    file.write(library.replace(carried, name))
+                self.assertEqual(self.loaded(folder, SHEET_LIBRARY=other), other if loads else None)
 
 
 class Manual(unittest.TestCase):

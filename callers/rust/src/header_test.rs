@@ -19,13 +19,13 @@ fn bare_header() -> String {
     bare + rest
 }
 
-/// Every number that the header defines. A definition with arguments is no number, nor is the guard.
+/// Every number that the header defines. A definition with arguments is no number, nor is the guard or the version.
 fn defined() -> BTreeMap<String, u64> {
     let mut numbers = BTreeMap::new();
     for line in bare_header().lines() {
         let Some(definition) = line.trim().strip_prefix("#define") else { continue };
         let (name, number) = definition.trim().split_once(' ').unwrap_or((definition.trim(), ""));
-        if name.contains('(') || name == "SHEET_H" {
+        if name.contains('(') || matches!(name, "SHEET_H" | "SHEET_VERSION") {
             continue;
         }
         let number = number.trim().trim_end_matches('u').parse();
@@ -91,6 +91,12 @@ fn known() -> BTreeMap<String, u64> {
 #[test]
 fn every_number_of_the_header() {
     assert_eq!(defined(), known());
+}
+
+#[test]
+fn the_version_is_the_headers() {
+    let line = concat!("#define SHEET_VERSION \"", env!("CARGO_PKG_VERSION"), "\"");
+    assert!(bare_header().lines().any(|one| one == line));
 }
 
 #[test]
