@@ -46,6 +46,10 @@ FUZZ_CC = clang
 FUZZ_CFLAGS = -std=c99 -O1 -g $(NOT_FUSED) $(WARN) $(SANITIZE)
 MINUTES = 30
 
+# What is made with one archive is made again with another, even an older one: the file holds the archive's path.
+ARCHIVE = $(LIB) build/archive.path
+LINKED = $(filter-out build/archive.path,$^)
+
 HEADERS = $(wildcard include/*.h tests/*/*.h bench/*.h bench/*/*.h fuzz/*.h)
 SHARED = $(wildcard tests/support/*.c tests/second/*.c)
 SHARED_OBJECTS = $(SHARED:%.c=build/%.o)
@@ -81,7 +85,7 @@ VERSION := $(shell sed -n 's/^.define SHEET_VERSION "\(.*\)"$$/\1/p' include/she
 ANSWERS = $(basename $(VERSION))
 SONAME = libsheet.so.$(basename $(ANSWERS))
 
-# Where things are installed. Each folder can be given by itself; a name with a space in it is refused.
+# Where things are installed. Each folder can be given by itself; a name with a space or a sign of the shell's in it is refused.
 PREFIX = /usr/local
 prefix = $(abspath $(PREFIX))
 includedir = $(prefix)/include
@@ -98,9 +102,10 @@ MAN = $(PAGES:%=build/man3/%.3)
 FOLDERS = $(addprefix $(DESTDIR),$(includedir) $(libdir) $(pkgconfigdir) $(mandir)/man3)
 INSTALLED = $(addprefix $(DESTDIR),$(includedir)/sheet.h $(libdir)/libsheet.a $(libdir)/libsheet.so.$(VERSION) \
 	$(libdir)/$(SONAME) $(libdir)/libsheet.so $(pkgconfigdir)/sheet.pc $(MAN:build/%=$(mandir)/%))
-ONE_WORD_EACH = $(if $(filter-out 4,$(words $(FOLDERS))),$(error a folder has a space in its name))
+PLAIN_NAMES = $(if $(filter-out 4,$(words $(FOLDERS))),$(error a folder has a space in its name))$(foreach sign,\
+	' " ` & | ; < > ( ) * ?,$(if $(findstring $(sign),$(FOLDERS)),$(error a folder has $(sign) in its name)))
 
-.PHONY: lib shared man install uninstall test test-c test-programs list-tests bench compare faulty has-fuzz fuzz clean
+.PHONY: always lib shared man install uninstall test test-c test-programs list-tests bench compare faulty has-fuzz fuzz clean
 .SECONDARY:
 
 lib: target/staticlib/libsheet.a
@@ -108,10 +113,14 @@ lib: target/staticlib/libsheet.a
 target/staticlib/libsheet.a: crates.txt $(shell find crates 2>/dev/null)
 	rt staticlib sheet
 
+build/archive.path: always
+	@mkdir -p $(@D)
+	@echo '$(abspath $(LIB))' | cmp -s - $@ || echo '$(abspath $(LIB))' >$@
+
 shared: build/libsheet.so
 
 # It gives out the calls alone, leaves none undefined and needs no change where it is loaded.
-build/libsheet.so: $(LIB) include/sheet.h
+build/libsheet.so: $(ARCHIVE) include/sheet.h
 	@mkdir -p $(@D)
 	echo 'SHEET_$(ANSWERS) { global: sheet_*; local: *; };' >build/libsheet.map
 	$(CC) -shared -Wl,-soname,$(SONAME) -Wl,--version-script=build/libsheet.map -Wl,-z,defs -Wl,-z,text \
@@ -129,7 +138,7 @@ build/man3/sheet_%.3:
 	echo '.so man3/sheet.3' >$@
 
 install: $(LIB) build/libsheet.so $(MAN)
-	$(ONE_WORD_EACH)$(INSTALL) -d $(FOLDERS)
+	$(PLAIN_NAMES)$(INSTALL) -d $(FOLDERS)
 	$(INSTALL) -m 644 include/sheet.h $(DESTDIR)$(includedir)
 	$(INSTALL) -m 644 $(LIB) $(DESTDIR)$(libdir)/libsheet.a
 	$(INSTALL) -m 755 build/libsheet.so $(DESTDIR)$(libdir)/libsheet.so.$(VERSION)
@@ -141,7 +150,7 @@ install: $(LIB) build/libsheet.so $(MAN)
 	$(INSTALL) -m 644 $(MAN) $(DESTDIR)$(mandir)/man3
 
 uninstall:
-	$(ONE_WORD_EACH)rm -f $(INSTALLED)
+	$(PLAIN_NAMES)rm -f $(INSTALLED)
 
 test:
 	@tests/run
@@ -186,14 +195,14 @@ build/bench/plain/%.o: CFLAGS = $(PLAIN_CFLAGS)
 
 # An example sees the header and the library, and nothing else; the viewer also
 # libpng where it is there, and tests/viewer/png reads what it wrote.
-build/examples/%: examples/%.c include/sheet.h $(LIB)
+build/examples/%: examples/%.c include/sheet.h $(ARCHIVE)
 	@mkdir -p $(@D)
 	$(CC) $(CFLAGS) -Iinclude -o $@ $< $(LIB) $(WITH)
 
 build/examples/viewer: WITH = $(if $(HAS_PNG),-DWITH_PNG -lpng)
 build/examples/viewer build/sanitized/viewer: WARN += -Wpedantic -Wconversion -Wshadow
 
-build/sanitized/viewer: examples/viewer.c include/sheet.h $(LIB)
+build/sanitized/viewer: examples/viewer.c include/sheet.h $(ARCHIVE)
 	@mkdir -p $(@D)
 	$(CC) $(CFLAGS) $(SANITIZE) -Iinclude -o $@ $< $(LIB)
 
@@ -201,22 +210,22 @@ build/tests/viewer/png: tests/viewer/png.c
 	@mkdir -p $(@D)
 	$(CC) $(CFLAGS) -o $@ $< -lpng
 
-build/tests/%_test: build/tests/%_test.o $(SHARED_OBJECTS) $(LIB)
-	$(CC) -o $@ $^
+build/tests/%_test: build/tests/%_test.o $(SHARED_OBJECTS) $(ARCHIVE)
+	$(CC) -o $@ $(LINKED)
 
-build/tests/compare: build/tests/compare.o $(SHARED_OBJECTS) $(LIB)
-	$(CC) -o $@ $^
+build/tests/compare: build/tests/compare.o $(SHARED_OBJECTS) $(ARCHIVE)
+	$(CC) -o $@ $(LINKED)
 
-build/tests/header_test_as_cxx: tests/header_test.c build/tests/support/report.o $(HEADERS) $(LIB)
+build/tests/header_test_as_cxx: tests/header_test.c build/tests/support/report.o $(HEADERS) $(ARCHIVE)
 	$(CXX) -std=c++98 -pedantic -O2 $(WARN) $(INCLUDE) -x c++ -c -o $@.o $<
 	$(CXX) -o $@ $@.o build/tests/support/report.o $(LIB)
 
-build/sanitized/%: tests/%.c $(SHARED) $(HEADERS) $(LIB)
+build/sanitized/%: tests/%.c $(SHARED) $(HEADERS) $(ARCHIVE)
 	@mkdir -p $(@D)
 	$(CC) $(CFLAGS) $(SANITIZE) $(INCLUDE) -o $@ $< $(SHARED) $(LIB)
 
-build/bench/%_bench: build/bench/%_bench.o $(BENCH_OBJECTS) $(SHARED_OBJECTS) $(LIB)
-	$(CC) -o $@ $^
+build/bench/%_bench: build/bench/%_bench.o $(BENCH_OBJECTS) $(SHARED_OBJECTS) $(ARCHIVE)
+	$(CC) -o $@ $(LINKED)
 
 # The fuzzers follow the branches of the library and of the second implementation,
 # and of nothing else.
@@ -226,29 +235,29 @@ build/fuzz/%.o: %.c $(HEADERS)
 	@mkdir -p $(@D)
 	$(FUZZ_CC) $(FUZZ_CFLAGS) $(INCLUDE) -c -o $@ $<
 
-build/fuzz/covered/libsheet.a: $(LIB)
+build/fuzz/covered/libsheet.a: $(ARCHIVE)
 	@mkdir -p $(@D)
 	fuzz/covered $@ $(LIB)
 
 build/fuzz/covered/%: build/fuzz/fuzz/%.o $(FUZZ_OBJECTS) build/fuzz/covered/libsheet.a
-	$(FUZZ_CC) $(SANITIZE) -fsanitize=fuzzer -o $@ $^
+	$(FUZZ_CC) $(SANITIZE) -fsanitize=fuzzer -o $@ $(LINKED)
 
-build/fuzz/plain/%: build/fuzz/fuzz/%.o $(FUZZ_OBJECTS) $(LIB)
+build/fuzz/plain/%: build/fuzz/fuzz/%.o $(FUZZ_OBJECTS) $(ARCHIVE)
 	@mkdir -p $(@D)
-	$(FUZZ_CC) $(SANITIZE) -fsanitize=fuzzer -o $@ $^
+	$(FUZZ_CC) $(SANITIZE) -fsanitize=fuzzer -o $@ $(LINKED)
 
 # The archive with one fault: its own call is renamed, and the faulty one is put beside it.
-build/faulty/%/libsheet.a: tests/faulty.c include/sheet.h $(LIB)
+build/faulty/%/libsheet.a: tests/faulty.c include/sheet.h $(ARCHIVE)
 	@mkdir -p $(@D)
 	$(CC) $(CFLAGS) -Iinclude -DFAULT=$(firstword $(subst -, ,$*)) -c -o $(@D)/fault.o $<
 	$(OBJCOPY) --redefine-sym sheet_$(lastword $(subst -, ,$*))=sound $(LIB) $@
 	$(AR) rs $@ $(@D)/fault.o
 
 build/faulty/%/compare: build/tests/compare.o $(SHARED_OBJECTS) build/faulty/%/libsheet.a
-	$(CC) -o $@ $^
+	$(CC) -o $@ $(LINKED)
 
 build/faulty/%/read: build/fuzz/fuzz/read.o $(FUZZ_OBJECTS) build/faulty/%/libsheet.a
-	$(FUZZ_CC) $(SANITIZE) -fsanitize=fuzzer -o $@ $^
+	$(FUZZ_CC) $(SANITIZE) -fsanitize=fuzzer -o $@ $(LINKED)
 
 build/faulty/%/table: build/fuzz/fuzz/table.o $(FUZZ_OBJECTS) build/faulty/%/libsheet.a
-	$(FUZZ_CC) $(SANITIZE) -fsanitize=fuzzer -o $@ $^
+	$(FUZZ_CC) $(SANITIZE) -fsanitize=fuzzer -o $@ $(LINKED)

@@ -448,8 +448,8 @@ static void print_furthest(FILE *out)
     else if (distances[furthest] == 0)
         fprintf(out, "no pixel is black: there is no distance\n");
     else
-        fprintf(out, "greatest distance: %lu half pixels, first at node %lu\n", (unsigned long)distances[furthest],
-                (unsigned long)furthest);
+        fprintf(out, "greatest distance: %lu half pixel%s, first at node %lu\n", (unsigned long)distances[furthest],
+                distances[furthest] == 1 ? "" : "s", (unsigned long)furthest);
 }
 
 /* ---- drawing */
@@ -615,9 +615,13 @@ static int take_words(char **words)
             if (wish.view == NODE && !take_number(*words++, &wish.node))
                 return complain(BAD_WORDS, word, "the number of a node must follow");
         } else if (strcmp(word, "--scale") == 0) {
+            if (wish.scale)
+                return complain(BAD_WORDS, word, "a picture has one scale");
             if (!take_number(*words++, &wish.scale) || wish.scale < LEAST_SCALE)
                 return complain(BAD_WORDS, word, "a number from %d on must follow", LEAST_SCALE);
         } else if (strcmp(word, "-o") == 0) {
+            if (wish.to)
+                return complain(BAD_WORDS, word, "a picture goes to one file");
             if ((wish.to = *words++) == NULL)
                 return complain(BAD_WORDS, word, "the name of a file must follow");
         } else if (strcmp(word, "--help") == 0) {
@@ -653,7 +657,9 @@ static int show(void)
         return BAD_INPUT;
     if (wish.view != BLOCKS)
         views[wish.view].print(out);
-    return fflush(out) == 0 ? 0 : complain(BAD_INPUT, "standard output", "%s", strerror(errno));
+    if (fflush(out) == 0 && !ferror(out))
+        return 0;
+    return complain(BAD_INPUT, wish.to ? "standard output" : "standard error", "%s", strerror(errno));
 }
 
 int main(int count, char **words)

@@ -31,7 +31,7 @@ static size_t pixels_of(uint32_t level)
 static int compare(uint32_t level, const uint8_t *raster, size_t raster_len, size_t table_len)
 {
     static uint32_t wanted_table[TABLE_ROOM_WORDS];
-    uint8_t *lent_raster = lend(&raster_lender, raster, raster_len, met_turn());
+    uint8_t *lent_raster = lend_to_read(&raster_lender, raster, raster_len, met_turn());
     uint32_t *lent_table = lend_pattern(&table_lender, table_len * sizeof *wanted_table, met_turn());
     memcpy(wanted_table, lent_table, table_len * sizeof *wanted_table);
     uint64_t wanted = second_build(level, raster, raster_len, wanted_table, table_len);
@@ -83,7 +83,7 @@ static const struct vector vectors[] = {
 static int gives(const struct vector *v)
 {
     uint32_t wanted_table[10 * 6];
-    uint8_t *raster = lend(&raster_lender, v->raster, pixels_of(v->level), met_turn());
+    uint8_t *raster = lend_to_read(&raster_lender, v->raster, pixels_of(v->level), met_turn());
     uint32_t *table = lend_pattern(&table_lender, v->room * sizeof *table, met_turn());
     memcpy(wanted_table, table, v->room * sizeof *table);
     memcpy(wanted_table, v->words, v->nodes * SHEET_NODE_WORDS * sizeof *table);

@@ -33,7 +33,7 @@ static struct table table;
 static int gives(uint32_t level, const uint32_t *words, size_t length, uint32_t node, struct ground g,
                  const double *place, size_t place_length, uint64_t wanted, const double *wanted_place)
 {
-    uint32_t *lent_table = lend(&table_lender, words, length * sizeof *words, met_turn());
+    uint32_t *lent_table = lend_to_read(&table_lender, words, length * sizeof *words, met_turn());
     double *lent = lend(&place_lender, place, place_length * sizeof *place, met_turn());
     uint64_t given = sheet_centre(level, lent_table, length, node, g.east, g.north, g.step, lent, place_length);
     int right = lent_unchanged(&table_lender) && lent_holds(&place_lender, wanted_place);

@@ -28,7 +28,7 @@ static struct table table;
 /* Lends the words to the library, and holds its answer against the one wanted. */
 static int gives(uint32_t level, const uint32_t *words, size_t length, uint64_t wanted)
 {
-    uint32_t *lent = lend(&lender, words, length * sizeof *words, met_turn());
+    uint32_t *lent = lend_to_read(&lender, words, length * sizeof *words, met_turn());
     uint64_t given = sheet_check(level, lent, length);
     return met_answer(wanted, given, lent_unchanged(&lender), "level %" PRIu32 ", %zu words", level, length);
 }

@@ -15,6 +15,7 @@
  */
 #define _POSIX_C_SOURCE 200809L
 #include <inttypes.h>
+#include <errno.h>
 #include <signal.h>
 #include <stdio.h>
 #include <stdlib.h>
@@ -378,17 +379,18 @@ static int find_call(const char *name)
 static int take(const char *word, const char *value)
 {
     char *end;
+    errno = 0;
     uint64_t number = strtoull(value, &end, 10);
     if (strcmp(word, "--call") == 0)
         return (asked.call = find_call(value)) >= 0;
-    if (*value < '0' || *value > '9' || *end != '\0')
+    if (*value < '0' || *value > '9' || *end != '\0' || errno != 0)
         return 0;
     if (strcmp(word, "--seed") == 0)
         asked.seed = number;
     else if (strcmp(word, "--cases") == 0)
-        asked.cases = number;
+        return (asked.cases = number) > 0;
     else if (strcmp(word, "--minutes") == 0)
-        asked.minutes = number;
+        return (asked.minutes = number) > 0;
     else if (strcmp(word, "--first") == 0)
         asked.first = number;
     else

@@ -34,7 +34,7 @@ static size_t pixels_of(uint32_t level)
 static int compare(uint32_t level, const uint32_t *words, size_t length, size_t raster_len)
 {
     static uint8_t wanted_raster[RASTER_ROOM];
-    uint32_t *lent_table = lend(&table_lender, words, length * sizeof *words, met_turn());
+    uint32_t *lent_table = lend_to_read(&table_lender, words, length * sizeof *words, met_turn());
     uint8_t *lent_raster = lend_pattern(&raster_lender, raster_len, met_turn());
     memcpy(wanted_raster, lent_raster, raster_len);
     uint64_t wanted = second_decode(level, words, length, wanted_raster, raster_len);
@@ -60,7 +60,7 @@ static const uint32_t sheet_a_backwards[] = {
 static int gives_sheet_a(const uint32_t *words)
 {
     static const uint8_t rows[16] = {1, 1, 0, 0, 1, 1, 0, 1};
-    uint32_t *lent_table = lend(&table_lender, words, sizeof sheet_a, met_turn());
+    uint32_t *lent_table = lend_to_read(&table_lender, words, sizeof sheet_a, met_turn());
     uint8_t *raster = lend_pattern(&raster_lender, sizeof rows, met_turn());
     uint64_t given = sheet_decode(2, lent_table, 54, raster, sizeof rows);
     return met_answer(packed(0, 0), given, lent_unchanged(&table_lender) && lent_holds(&raster_lender, rows), "sheet A");
@@ -69,7 +69,7 @@ static int gives_sheet_a(const uint32_t *words)
 /* Is sheet A refused at this level, with these lengths? */
 static int refuses_sheet_a(uint32_t level, size_t length, size_t raster_len, uint64_t wanted)
 {
-    uint32_t *lent_table = lend(&table_lender, sheet_a, length * sizeof *sheet_a, met_turn());
+    uint32_t *lent_table = lend_to_read(&table_lender, sheet_a, length * sizeof *sheet_a, met_turn());
     uint8_t *raster = lend_pattern(&raster_lender, raster_len, met_turn());
     uint64_t given = sheet_decode(level, lent_table, length, raster, raster_len);
     return met_answer(wanted, given, lent_unchanged(&table_lender) && lent_unchanged(&raster_lender), "sheet A");

@@ -35,7 +35,7 @@ static uint32_t wanted_words[ROOM];
 static int gives(uint32_t level, const uint32_t *words, size_t length, size_t distances, uint64_t wanted,
                  const uint32_t *wanted_distances)
 {
-    uint32_t *lent_table = lend(&table_lender, words, length * sizeof *words, met_turn());
+    uint32_t *lent_table = lend_to_read(&table_lender, words, length * sizeof *words, met_turn());
     uint32_t *lent = lend_pattern(&distance_lender, distances * sizeof *lent, met_turn());
     uint64_t given = sheet_distance(level, lent_table, length, lent, distances);
     int right = lent_unchanged(&table_lender) && (wanted % 256 == SHEET_OK

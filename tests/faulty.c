@@ -135,4 +135,17 @@ uint64_t sheet_read(const uint8_t *file, size_t file_len, uint32_t *table, size_
         return answer + 256;
     return answer;
 }
+
+#elif FAULT == 14 /* diagonal_leaf: a word of the table is written and put back */
+uint64_t sound(uint32_t n, const uint32_t *table, size_t table_len, uint32_t node, uint32_t corner);
+uint64_t sheet_diagonal_leaf(uint32_t n, const uint32_t *table, size_t table_len, uint32_t node, uint32_t corner)
+{
+    volatile uint32_t *first = (volatile uint32_t *)table;
+    if (table_len > 0 && corner < 4) {
+        uint32_t old = *first;
+        *first = node;
+        *first = old;
+    }
+    return sound(n, table, table_len, node, corner);
+}
 #endif

@@ -211,6 +211,8 @@ chosen() {
     verdict "make uninstall leaves no file in them" $?
     ! install_to PREFIX="$work/with space" 2>/dev/null && [ ! -e "$work/with" ] && [ ! -e "$work/with space" ]
     verdict "a folder with a space in its name is refused" $?
+    ! install_to PREFIX="$work/this&that" 2>/dev/null && [ ! -e "$work/this" ] && [ ! -e "$work/this&that" ]
+    verdict "and so is one with a sign of the shell's" $?
 }
 
 for tool in pkg-config "$readelf" "$cc"; do

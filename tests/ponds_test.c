@@ -41,7 +41,7 @@ static uint32_t wanted_numbers[NUMBERS_ROOM], wanted_register[REGISTER_ROOM];
 /* Lends the table at hand and so many words for its numbers and its register. */
 static void lend_all(size_t numbers, size_t words)
 {
-    lend(&table_lender, table.words, table.length * sizeof *table.words, met_turn());
+    lend_to_read(&table_lender, table.words, table.length * sizeof *table.words, met_turn());
     lend_pattern(&numbers_lender, numbers * sizeof *wanted_numbers, met_turn());
     lend_pattern(&register_lender, words * sizeof *wanted_register, met_turn());
     memcpy(wanted_numbers, numbers_lender.lent, numbers_lender.lent_size);

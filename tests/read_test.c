@@ -40,7 +40,7 @@ static void count_code_14(uint64_t wanted)
 static int compare(const uint8_t *bytes, size_t length, size_t table_len)
 {
     static uint32_t wanted_table[TABLE_ROOM];
-    uint8_t *lent_file = lend(&file_lender, bytes, length, met_turn());
+    uint8_t *lent_file = lend_to_read(&file_lender, bytes, length, met_turn());
     uint32_t *lent_table = lend_pattern(&table_lender, table_len * sizeof *wanted_table, met_turn());
     memcpy(wanted_table, lent_table, table_len * sizeof *wanted_table);
     uint64_t wanted = second_read(bytes, length, wanted_table, table_len);
@@ -112,7 +112,7 @@ static const struct vector vectors[] = {
 static int gives(const struct vector *v)
 {
     uint32_t wanted_table[64];
-    uint8_t *bytes = lend(&file_lender, v->bytes, v->length, met_turn());
+    uint8_t *bytes = lend_to_read(&file_lender, v->bytes, v->length, met_turn());
     uint32_t *table = lend_pattern(&table_lender, v->room * sizeof *table, met_turn());
     memcpy(wanted_table, table, v->room * sizeof *table);
     memcpy(wanted_table, v->words, v->nodes * SHEET_NODE_WORDS * sizeof *table);

@@ -92,6 +92,10 @@ pictures() {
     draws "sheet A, node 8: a black leaf at a corner" sheet_a_node_8 --node 8 --scale 4 "$sheet_a"
     draws "sheet A, ponds" sheet_a_ponds --ponds --scale 4 "$sheet_a"
     draws "sheet A, distances" sheet_a_distance --distance --scale 4 "$sheet_a"
+    printf 'P1 2 2 01 00' >"$work/in"
+    prints "a distance of one" --distance "$work/in" <<'TABLE'
+greatest distance: 1 half pixel, first at node 2
+TABLE
     printf 'P1 4 4 1110 1110 1111 1111' >"$work/in"
     draws "case (j), distances" case_j_distance --distance --scale 4 "$work/in"
     printf 'P1 1 1 1' >"$work/in"
@@ -365,6 +369,8 @@ bad_words() {
     done
     refuses "no scale" 2 "--scale: a number from 4 on must follow" "$sheet_a" --scale
     refuses "too large a scale" 2 "--scale: at most 512 on a sheet of level 2" --scale 513 "$sheet_a"
+    refuses "two scales" 2 "--scale: a picture has one scale" --scale 8 --scale 9 "$sheet_a"
+    refuses "two files to write" 2 "-o: a picture goes to one file" -o "$work/one.ppm" -o "$work/two.ppm" "$sheet_a"
     refuses "no file to write" 2 "-o: the name of a file must follow" "$sheet_a" -o
     refuses "two files" 2 "$estate: a picture shows one file" "$sheet_a" "$estate"
     viewer --help >"$work/printed" 2>"$work/said" && [ ! -s "$work/said" ] &&
@@ -385,6 +391,9 @@ bad_files() {
     viewer --ponds -o "$out" "$sheet_a" 2>"$work/said" >/dev/full
     [ $? -eq 1 ] && [ "$(cat "$work/said")" = "viewer: standard output: $full" ]
     verdict "no room for the register" $?
+    viewer --ponds "$sheet_a" 2>/dev/full >"$out"
+    [ $? -eq 1 ]
+    verdict "no room for the register behind the standard error stream" $?
 }
 
 # ---- PNG

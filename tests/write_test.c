@@ -27,7 +27,7 @@ static struct table table;
 static int compare(uint32_t level, const uint32_t *words, size_t length, size_t file_len)
 {
     static uint8_t wanted_file[FILE_ROOM];
-    uint32_t *lent_table = lend(&table_lender, words, length * sizeof *words, met_turn());
+    uint32_t *lent_table = lend_to_read(&table_lender, words, length * sizeof *words, met_turn());
     uint8_t *lent_file = lend_pattern(&file_lender, file_len, met_turn());
     memcpy(wanted_file, lent_file, file_len);
     uint64_t wanted = second_write(level, words, length, wanted_file, file_len);
@@ -66,7 +66,7 @@ static int gives_sheet_a(const uint32_t *words, size_t room)
     static const uint8_t bytes[] = {0x51, 0x53, 2, 9, 0, NODE(2), NODE(1), NODE(2), NODE(0),
                                     NODE(0), NODE(0), NODE(1), NODE(0), NODE(0)};
     uint8_t wanted_file[64];
-    uint32_t *lent_table = lend(&table_lender, words, sizeof sheet_a, met_turn());
+    uint32_t *lent_table = lend_to_read(&table_lender, words, sizeof sheet_a, met_turn());
     uint8_t *file = lend_pattern(&file_lender, room, met_turn());
     memcpy(wanted_file, file, room);
     memcpy(wanted_file, bytes, sizeof bytes);
@@ -78,7 +78,7 @@ static int gives_sheet_a(const uint32_t *words, size_t room)
 /* Is sheet A refused at this level, with these lengths? */
 static int refuses_sheet_a(uint32_t level, size_t length, size_t room, uint64_t wanted)
 {
-    uint32_t *lent_table = lend(&table_lender, sheet_a, length * sizeof *sheet_a, met_turn());
+    uint32_t *lent_table = lend_to_read(&table_lender, sheet_a, length * sizeof *sheet_a, met_turn());
     uint8_t *file = lend_pattern(&file_lender, room, met_turn());
     uint64_t given = sheet_write(level, lent_table, length, file, room);
     return met_answer(wanted, given, lent_unchanged(&table_lender) && lent_unchanged(&file_lender), "sheet A");

@@ -42,7 +42,7 @@ static int gives(const uint32_t *lent, uint32_t level, size_t length, uint32_t n
 void asking_by_hand(uint32_t level, const uint32_t *words, size_t length, const struct asked *asked, size_t count)
 {
     for (size_t i = 0; i < count; i++) {
-        uint32_t *lent = lend(&lender, words, length * sizeof *words, met_turn());
+        uint32_t *lent = lend_to_read(&lender, words, length * sizeof *words, met_turn());
         report_check(asked[i].name, gives(lent, level, length, asked[i].node, asked[i].numbers,
                                           packed(asked[i].code, asked[i].value), 1));
     }
@@ -52,7 +52,7 @@ void asking_by_hand(uint32_t level, const uint32_t *words, size_t length, const 
 
 static const uint32_t *lend_table(void)
 {
-    return lend(&lender, table.words, table.length * sizeof *table.words, met_turn());
+    return lend_to_read(&lender, table.words, table.length * sizeof *table.words, met_turn());
 }
 
 static void count_level(uint32_t level, uint32_t own)

@@ -25,10 +25,19 @@ static uint32_t telling_word(uint32_t old, uint32_t p, uint32_t count, struct di
     }
 }
 
+/* A word of the table or, one time in eight, of its last two nodes. */
+static uint32_t some_place(const struct table *t, struct dice *d)
+{
+    uint32_t last = (uint32_t)t->length, from = 0;
+    if (dice_below(d, 8) == 0 && last > 2 * SHEET_NODE_WORDS)
+        from = last - 2 * SHEET_NODE_WORDS;
+    return from + dice_below(d, last - from);
+}
+
 void fault_damage(struct table *t, uint32_t words, struct dice *d)
 {
     for (; words > 0; words--) {
-        uint32_t place = dice_below(d, (uint32_t)t->length);
+        uint32_t place = some_place(t, d);
         t->words[place] = telling_word(t->words[place], place / SHEET_NODE_WORDS, table_count(t), d);
     }
 }

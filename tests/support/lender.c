@@ -19,10 +19,10 @@ static void *memory(size_t size)
     return m;
 }
 
-static void forbid(void *page, size_t size)
+static void allow(void *page, size_t size, int what)
 {
-    if (mprotect(page, size, PROT_NONE) != 0) {
-        perror("a forbidden page");
+    if (mprotect(page, size, what) != 0) {
+        perror("a page's protection");
         exit(2);
     }
 }
@@ -33,8 +33,8 @@ struct lender lender_open(size_t most)
     size_t page = (size_t)sysconf(_SC_PAGESIZE);
     size_t pages = (most + 2 * GUARD_SIZE + page - 1) / page;
     unsigned char *whole = memory((pages + 2) * page);
-    forbid(whole, page);
-    forbid(whole + (pages + 1) * page, page);
+    allow(whole, page, PROT_NONE);
+    allow(whole + (pages + 1) * page, page, PROT_NONE);
     l.room = whole + page;
     l.room_size = pages * page;
     l.copy = memory(l.room_size);
@@ -57,6 +57,9 @@ static size_t guard_after(const struct lender *l)
 static void take(struct lender *l, size_t size, enum lend_at at)
 {
     size_t start = at == LEND_FIRST ? 0 : at == LEND_LAST ? l->room_size - size : GUARD_SIZE;
+    if (l->is_read_only)
+        allow(l->room, l->room_size, PROT_READ | PROT_WRITE);
+    l->is_read_only = 0;
     l->lent = l->room + start;
     l->lent_size = size;
     memset(l->lent - guard_before(l), GUARD_BYTE, guard_before(l));
@@ -68,6 +71,14 @@ void *lend(struct lender *l, const void *contents, size_t size, enum lend_at at)
     take(l, size, at);
     memcpy(l->lent, contents, size);
     memcpy(l->copy, contents, size);
+    return l->lent;
+}
+
+void *lend_to_read(struct lender *l, const void *contents, size_t size, enum lend_at at)
+{
+    lend(l, contents, size, at);
+    allow(l->room, l->room_size, PROT_READ);
+    l->is_read_only = 1;
     return l->lent;
 }
 

@@ -19,6 +19,7 @@ struct lender {
     size_t room_size;
     unsigned char *lent;
     size_t lent_size;
+    int is_read_only;
 };
 
 /* A lender of buffers of up to 'most' bytes. Stops the program if the system
@@ -27,6 +28,10 @@ struct lender lender_open(size_t most);
 
 /* Lends one buffer with these contents; the buffer lent before is taken back. */
 void *lend(struct lender *l, const void *contents, size_t size, enum lend_at at);
+
+/* Lends one buffer that is only to be read: a write to it stops the program, even
+ * one that is taken back. */
+void *lend_to_read(struct lender *l, const void *contents, size_t size, enum lend_at at);
 
 /* Lends one buffer full of a pattern that no call writes: bytes from 128 to 250. */
 void *lend_pattern(struct lender *l, size_t size, enum lend_at at);

@@ -119,7 +119,7 @@ struct outcome question_ask(const struct question *q)
     size_t slices = call_form[q->call].slices;
     void *lent[MOST_SLICES] = {NULL, NULL, NULL};
     open_lenders();
-    lend(&lender[0], q->contents, bytes_of(q, 0), q->at[0]);
+    lend_to_read(&lender[0], q->contents, bytes_of(q, 0), q->at[0]);
     for (size_t i = 1; i < slices; i++)
         lend_to_write(q, i);
     for (size_t i = 0; i < slices; i++)
