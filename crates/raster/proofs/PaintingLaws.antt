@@ -2,7 +2,7 @@
 use mathlib.Core.Bool.{Bool, true, false, cond, _&&_, _||_, false≢true}
 use mathlib.Core.List.{List}
 use mathlib.Core.Logic.{⊎-elim}
-use mathlib.Core.Path.{_≡_, refl, ap, sym, _∙_}
+use mathlib.Core.Path.{_≡_, refl, ap, sym, subst, _∙_}
 use Prim.Native.Nat.{ℕ, suc, _+_, _-_, _*_, _/_, _%_, _^_, _≤_, _<_}
 use native.Mathlib.Nat.{add-zero, mul-one, eq-or-lt-of-le, suc-mul, mul-le-mul-right, mod-lt}
 use native.Mathlib.Omega.{arith}
@@ -10,19 +10,19 @@ use lib.Dec.{leb, ltb, eqb}
 use lib.ListN.{length, getD, set, length-set}
 use lib.Pow.{pow-pos, split, high}
 use lib.Seq.{getD-set-same, getD-set-other}
-use borrow.Author.Tests.{eq-eqb, ne-eqb, eqb-true, eqb-false, lt-ltb, le-leb, ltb-true, leb-true}
+use borrow.Author.Tests.{eq-eqb, ne-eqb, eqb-true, eqb-false, lt-ltb, le-ltb, le-leb, ltb-true, leb-true}
 use Rattle.base.proofs.BoolLaws.{and-left, and-right, and-both, and-false, or-true, or-second, same-tests, by-bool, lt-or-ge}
 use Rattle.quad.specs.Numbers.{forkType}
 use Rattle.quad.specs.Block.{quadrantOf}
 use Rattle.quad.specs.Tree.{sonOf}
 use Rattle.quad.proofs.PathLaws.{half-last, shade-top, shade-leaf}
-use Rattle.table.specs.Table.{son, type, isFork}
+use Rattle.table.specs.Table.{nodes, son, type, isFork}
 use Rattle.table.specs.Nodes.{treeAt}
 use Rattle.table.proofs.AcceptedLaws.{tree-leaf, fork-above, son-at}
 use Rattle.table.proofs.PictureLaws.{tree-son as table-son}
 use Rattle.raster.proofs.BlockLaws.{on-son, block-fits, place-lt}
 use Rattle.raster.specs.Blocks.{OnSheet}
-use Rattle.raster.specs.Painting.{within, Filled, Painted, inBlock, inRows, coloursAt, Paintable}
+use Rattle.raster.specs.Painting.{within, Filled, Painted, inBlock, inRows, inQuarters, coloursAt, Paintable}
 
 -- places in one row of a sheet of side s, both between its ends, are in the same row
 same-row : (y t s x left : ℕ) → x < s → t * s + left ≤ y * s + x → y * s + x < t * s + s → y ≡ t
@@ -222,41 +222,100 @@ module _ (T : List ℕ) (l p X Y : ℕ) where
       let s : sonOf (treeAt T (suc l) p) q ≡ treeAt T l (son T p q) = rw f at (table-son T l p q hq) in
       sym (shade-top l (treeAt T (suc l) p) x y ∙ rw (at, s))
 
-  -- a fork's four quarters are its block
-  pub painted-four : (n : ℕ) (U₀ U₁ U₂ U₃ U₄ : List ℕ) → isFork T p ≡ true
-      → Painted n (inBlock l (2 * X) (2 * Y)) (coloursAt T l (son T p 0)) U₀ U₁ → Painted n (inBlock l (2 * X + 1) (2 * Y)) (coloursAt T l (son T p 1)) U₁ U₂
-      → Painted n (inBlock l (2 * X) (2 * Y + 1)) (coloursAt T l (son T p 2)) U₂ U₃ → Painted n (inBlock l (2 * X + 1) (2 * Y + 1)) (coloursAt T l (son T p 3)) U₃ U₄
-      → Painted n (inBlock (suc l) X Y) (coloursAt T (suc l) p) U₀ U₄
-  painted-four n U₀ U₁ U₂ U₃ U₄ f a b c d = record {
-    size = d .size ∙ c .size ∙ b .size ∙ a .size;
-    pixels =
-        λ x y hx hy.
-        d .pixels x y hx hy
-        ∙ rw (
-          c .pixels x y hx hy,
-          b .pixels x y hx hy,
-          a .pixels x y hx hy,
-          same-where (inBlock l (2 * X) (2 * Y) x y) (coloursAt T (suc l) p x y) _ _ (quarter-colour 0 _ _ x y f (omega arith) (omega arith) (omega arith)),
-          same-where (inBlock l (2 * X + 1) (2 * Y) x y) (coloursAt T (suc l) p x y) _ _ (quarter-colour 1 _ _ x y f (omega arith) (omega arith) (omega arith)),
-          same-where (inBlock l (2 * X) (2 * Y + 1) x y) (coloursAt T (suc l) p x y) _ _ (quarter-colour 2 _ _ x y f (omega arith) (omega arith) (omega arith)),
-          same-where (inBlock l (2 * X + 1) (2 * Y + 1) x y) (coloursAt T (suc l) p x y) _ _ (quarter-colour 3 _ _ x y f (omega arith) (omega arith) (omega arith)),
-        )
-        (four-quarters l X Y x y _ _);
-  }
+-- a fork's block, quarter by quarter: a quarter is the pixels of the block whose quadrant it is
+quarter-test : (a b X Y q : ℕ) → q < 4 → eqb a (2 * X + q % 2) && eqb b (2 * Y + q / 2) ≡ (eqb (a / 2) X && eqb (b / 2) Y) && eqb (quadrantOf a b) q
+quarter-test a b X Y q q4 =
+    same-tests _ _
+    (λ e.
+    let ea : a ≡ 2 * X + q % 2 = eqb-true _ _ (and-left (eqb a (2 * X + q % 2)) _ e) in
+    let eb : b ≡ 2 * Y + q / 2 = eqb-true _ _ (and-right (eqb a (2 * X + q % 2)) _ e) in
+    and-both _ _ (and-both _ _ (eq-eqb (a / 2) X (omega arith)) (eq-eqb (b / 2) Y (omega arith))) (eq-eqb (quadrantOf a b) q (omega arith)))
+    (λ e.
+    let h = and-left (eqb (a / 2) X && eqb (b / 2) Y) _ e in
+    let ea : a / 2 ≡ X = eqb-true _ _ (and-left (eqb (a / 2) X) _ h) in
+    let eb : b / 2 ≡ Y = eqb-true _ _ (and-right (eqb (a / 2) X) _ h) in
+    let eq : quadrantOf a b ≡ q = eqb-true _ _ (and-right (eqb (a / 2) X && eqb (b / 2) Y) _ e) in
+    and-both _ _ (eq-eqb a (2 * X + q % 2) (omega arith)) (eq-eqb b (2 * Y + q / 2) (omega arith)))
+
+in-quarter : (l X Y q x y : ℕ) → q < 4 → inBlock l (2 * X + q % 2) (2 * Y + q / 2) x y ≡ inBlock (l + 1) X Y x y && eqb (quadrantOf (x / 2 ^ l) (y / 2 ^ l)) q
+unfolding inBlock
+in-quarter l X Y q x y q4 =
+    let o : l + 1 ≡ suc l = omega arith in
+    quarter-test (x / 2 ^ l) (y / 2 ^ l) X Y q q4 ∙ rw (o, half-last l x, half-last l y)
+
+one-more : (k q : ℕ) → ltb k (q + 1) ≡ eqb k q || ltb k q
+one-more k q =
+    same-tests _ _
+    (λ e.
+    ⊎-elim
+    (λ (l : k < q). rw (lt-ltb k q l) (or-true (eqb k q)))
+    (λ (g : q ≤ k). rw (eq-eqb k q (omega (arith, ltb-true k (q + 1) e))))
+    (lt-or-ge k q))
+    (λ e.
+    ⊎-elim
+    (λ (h : eqb k q ≡ true). lt-ltb k (q + 1) (omega (arith, eqb-true k q h)))
+    (λ (h : eqb k q ≡ false). lt-ltb k (q + 1) (omega (arith, ltb-true k q (or-second (eqb k q) _ e h))))
+    (by-bool (eqb k q)))
+
+and-true : (b : Bool) → b && true ≡ b
+and-true true = refl
+and-true false = refl
+
+pub quarters-none : (n l X Y : ℕ) (g : ℕ → ℕ → ℕ) (U : List ℕ) → Painted n (inQuarters l X Y 0) g U U
+unfolding inQuarters
+quarters-none n l X Y g U = record { size = refl; pixels = λ x y hx hy. rw (le-ltb (quadrantOf (x / 2 ^ l) (y / 2 ^ l)) 0 (omega arith), and-false (inBlock (l + 1) X Y x y)) }
+
+pub quarters-more : (T : List ℕ) (n l p X Y q : ℕ) (U W W′ : List ℕ) → isFork T p ≡ true → q < 4 → Painted n (inQuarters l X Y q) (coloursAt T (suc l) p) U W
+    → Painted n (inBlock l (2 * X + q % 2) (2 * Y + q / 2)) (coloursAt T l (son T p q)) W W′ → Painted n (inQuarters l X Y (q + 1)) (coloursAt T (suc l) p) U W′
+unfolding inQuarters
+quarters-more T n l p X Y q U W W′ f q4 a b = record {
+  size = b .size ∙ a .size;
+  pixels =
+      λ x y hx hy.
+      let k : ℕ = quadrantOf (x / 2 ^ l) (y / 2 ^ l) in
+      let c : ℕ = coloursAt T (suc l) p x y in
+      let here : Bool = inBlock (l + 1) X Y x y in
+      let old : ℕ = getD U (y * 2 ^ n + x) 0 in
+      b .pixels x y hx hy
+      ∙ same-where (inBlock l (2 * X + q % 2) (2 * Y + q / 2) x y) c _ _ (quarter-colour T l p X Y q _ _ x y f q4 refl refl)
+      ∙ ap (λ (v : ℕ). cond (inBlock l (2 * X + q % 2) (2 * Y + q / 2) x y) c v) (a .pixels x y hx hy)
+      ∙ ap (λ (t : Bool). cond t c (cond (here && ltb k q) c old)) (in-quarter l X Y q x y q4)
+      ∙ over-again here (eqb k q) (ltb k q) c old
+      ∙ ap (λ (t : Bool). cond (here && t) c old) (sym (one-more k q));
+}
+
+pub quarters-all : (n l X Y q : ℕ) (g : ℕ → ℕ → ℕ) (U W : List ℕ) → q ≡ 4 → Painted n (inQuarters l X Y q) g U W → Painted n (inBlock (l + 1) X Y) g U W
+unfolding inQuarters
+quarters-all n l X Y q g U W e a = record {
+  size = a .size;
+  pixels =
+      λ x y hx hy.
+      a .pixels x y hx hy
+      ∙ ap (λ (t : Bool). cond t (g x y) (getD U (y * 2 ^ n + x) 0))
+      (ap (λ (t : Bool). inBlock (l + 1) X Y x y && t) (lt-ltb (quadrantOf (x / 2 ^ l) (y / 2 ^ l)) q (omega arith)) ∙ and-true (inBlock (l + 1) X Y x y));
+}
 
 -- the same in the code's numbers
-pub painted-fork : (T : List ℕ) (l p X Y n : ℕ) (U₀ U₁ U₂ U₃ U₄ : List ℕ) → 0 < l → isFork T p ≡ true
-    → Painted n (inBlock (l - 1) (2 * X) (2 * Y)) (coloursAt T (l - 1) (son T p 0)) U₀ U₁
-    → Painted n (inBlock (l - 1) (2 * X + 1) (2 * Y)) (coloursAt T (l - 1) (son T p 1)) U₁ U₂
-    → Painted n (inBlock (l - 1) (2 * X) (2 * Y + 1)) (coloursAt T (l - 1) (son T p 2)) U₂ U₃
-    → Painted n (inBlock (l - 1) (2 * X + 1) (2 * Y + 1)) (coloursAt T (l - 1) (son T p 3)) U₃ U₄
-    → Painted n (inBlock l X Y) (coloursAt T l p) U₀ U₄
-painted-fork T l p X Y n U₀ U₁ U₂ U₃ U₄ pos f a b c d =
-    let e : l ≡ suc (l - 1) = omega arith in
-    rw e (painted-four T (l - 1) p X Y n U₀ U₁ U₂ U₃ U₄ f a b c d)
+module _ (T : List ℕ) (n l p X Y : ℕ) (pos : 0 < l) where
+  above : l ≡ suc (l - 1)
+  above = omega arith
+
+  pub quarter-painted : (q s : ℕ) (U W W′ : List ℕ) → isFork T p ≡ true → q < 4 → s ≡ son T p q → Painted n (inQuarters (l - 1) X Y q) (coloursAt T l p) U W
+      → Painted n (inBlock (l - 1) (2 * X + q % 2) (2 * Y + q / 2)) (coloursAt T (l - 1) s) W W′ → Painted n (inQuarters (l - 1) X Y (q + 1)) (coloursAt T l p) U W′
+  quarter-painted q s U W W′ f q4 e a b =
+      let a′ : Painted n (inQuarters (l - 1) X Y q) (coloursAt T (suc (l - 1)) p) U W = subst (λ (k : ℕ). Painted n (inQuarters (l - 1) X Y q) (coloursAt T k p) U W) above a in
+      subst (λ (k : ℕ). Painted n (inQuarters (l - 1) X Y (q + 1)) (coloursAt T k p) U W′) (sym above) (quarters-more T n (l - 1) p X Y q U W W′ f q4 a′ (rw e at b))
+
+  pub fork-painted : (q : ℕ) (U W : List ℕ) → q ≡ 4 → Painted n (inQuarters (l - 1) X Y q) (coloursAt T l p) U W → Painted n (inBlock l X Y) (coloursAt T l p) U W
+  fork-painted q U W e a =
+      let o : l - 1 + 1 ≡ l = omega arith in
+      subst (λ (k : ℕ). Painted n (inBlock k X Y) (coloursAt T l p) U W) o (quarters-all n (l - 1) X Y q (coloursAt T l p) U W e a)
 
 -- each son of a fork may be painted in its quarter
 pub paintable-son : {n : ℕ} {T : List ℕ} {p l x y bytes : ℕ} → Paintable n T p l x y bytes → isFork T p ≡ true → (q s u v : ℕ) → q < 4 → s ≡ son T p q
     → u ≤ 2 * x + 1 → v ≤ 2 * y + 1 → Paintable n T s (l - 1) u v bytes
 paintable-son h f q s u v lt e hu hv =
     rw e (record { place = son-at (h .place) f q lt; block = on-son (h .block) (fork-above (h .place) f) u v hu hv; whole = h .whole })
+
+pub son-at-quarter : {n : ℕ} {T : List ℕ} {p l x y bytes : ℕ} → Paintable n T p l x y bytes → isFork T p ≡ true → (q s : ℕ) → q < 4 → s ≡ son T p q → s < nodes T
+son-at-quarter h f q s lt e = rw e (son-at (h .place) f q lt .node)

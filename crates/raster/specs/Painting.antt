@@ -5,6 +5,7 @@ use mathlib.Core.Path.{_≡_}
 use Prim.Native.Nat.{ℕ, _+_, _*_, _/_, _^_, _<_}
 use lib.Dec.{leb, ltb, eqb}
 use lib.ListN.{length, getD}
+use Rattle.quad.specs.Block.{quadrantOf}
 use Rattle.quad.specs.Tree.{shade}
 use Rattle.table.specs.Rules.{AtLevel}
 use Rattle.table.specs.Nodes.{treeAt}
@@ -31,6 +32,10 @@ inBlock l X Y x y = eqb (x / 2 ^ l) X && eqb (y / 2 ^ l) Y
 -- it lies in the first j rows of that block
 unfoldable pub inRows : ℕ → ℕ → ℕ → ℕ → ℕ → ℕ → Bool
 inRows l X Y j x y = eqb (x / 2 ^ l) X && within (Y * 2 ^ l) j y
+
+-- it lies in one of the first q quarters of the block (X, Y) of the level above l
+unfoldable pub inQuarters : ℕ → ℕ → ℕ → ℕ → ℕ → ℕ → Bool
+inQuarters l X Y q x y = inBlock (l + 1) X Y x y && ltb (quadrantOf (x / 2 ^ l) (y / 2 ^ l)) q
 
 -- the colours of the tree that node p stands for at level l
 abbrev pub coloursAt : List ℕ → ℕ → ℕ → ℕ → ℕ → ℕ

@@ -1,11 +1,13 @@
 // A table and its raster are one picture: building and decoding.
 use answer::Outcome;
+ghost use mathlib.Core.Bool.{true};
 ghost use mathlib.Core.Path.{_≡_};
 ghost use Prim.Native.Nat.{_+_, _*_, _≤_, _^_};
 ghost use lib.ListN.{length};
 ghost use lib.Seq.{sets};
 ghost use Rattle.quad.specs.Numbers.{topLevel};
 ghost use Rattle.quad.specs.Tree.{treeOf};
+ghost use Rattle.table.specs.Table.{isFork};
 ghost use Rattle.raster.specs.Raster.{pictureOf, rasterLength, pixelsFrom};
 ghost use Rattle.raster.specs.Calls.{Builds, Decodes};
 ghost use Rattle.raster.specs.Blocks.{Picture, readableOf, OnSheet, Few, joinedOf, measureOf, quartersOf};
@@ -339,29 +341,38 @@ fn fill_leaf(raster: &mut [u8], n: u32, level: u32, x: usize, y: usize, colour: 
     fill_block(raster, n, level, x, y, colour);
 }
 
-// Paints the block of node p, each pixel once: a leaf fills its block, a fork paints its quarters.
+// Paints the block of fork p, each pixel once, quarter by quarter. A son that is a leaf is painted here, without a call.
+fn paint_fork(table: &[u32], p: usize, n: u32, level: u32, x: usize, y: usize, raster: &mut [u8])
+    requires { ⌜ Paintable n (now table) p level x y (length (now raster)) × (isFork (now table) p ≡ true) ⌝ }
+    ensures { λ _. ⌜ Painted n (inBlock level x y) (coloursAt (now (table .entry)) level p) (now (raster .entry)) (now (raster .exit)) ⌝ }
+{
+    let half = level - 1;
+    let mut q = 0;
+    while q < 4 {
+        let son = table::word_at(table, p, 1 + q);
+        let west = 2 * x + q % 2;
+        let north = 2 * y + q / 2;
+        q += 1;
+        let kind = table::word_at(table, son, 5);
+        if kind == quad::FORK {
+            paint_fork(table, son, n, half, west, north, raster);
+        } else {
+            fill_leaf(raster, n, half, west, north, kind as u8);
+        }
+    }
+}
+
+// Paints the block of node p.
 fn paint(table: &[u32], p: usize, n: u32, level: u32, x: usize, y: usize, raster: &mut [u8])
     requires { ⌜ Paintable n (now table) p level x y (length (now raster)) ⌝ }
     ensures { λ _. ⌜ Painted n (inBlock level x y) (coloursAt (now (table .entry)) level p) (now (raster .entry)) (now (raster .exit)) ⌝ }
 {
     let kind = table::word_at(table, p, 5);
-    if kind != quad::FORK {
-        fill_leaf(raster, n, level, x, y, kind as u8);
+    if kind == quad::FORK {
+        paint_fork(table, p, n, level, x, y, raster);
         return;
     }
-    let half = level - 1;
-    let west = 2 * x;
-    let north = 2 * y;
-    let east = west + 1;
-    let south = north + 1;
-    let nw = table::word_at(table, p, 1);
-    let ne = table::word_at(table, p, 2);
-    let sw = table::word_at(table, p, 3);
-    let se = table::word_at(table, p, 4);
-    paint(table, nw, n, half, west, north, raster);
-    paint(table, ne, n, half, east, north, raster);
-    paint(table, sw, n, half, west, south, raster);
-    paint(table, se, n, half, east, south, raster);
+    fill_leaf(raster, n, level, x, y, kind as u8);
 }
 
 // Decoding: for any level and any words, the table's picture in every byte of the raster, or the first refusal and the raster as it was.
