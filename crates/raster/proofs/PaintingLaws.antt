@@ -16,11 +16,12 @@ use Rattle.quad.specs.Numbers.{forkType}
 use Rattle.quad.specs.Block.{quadrantOf}
 use Rattle.quad.specs.Tree.{sonOf}
 use Rattle.quad.proofs.PathLaws.{half-last, shade-top, shade-leaf}
-use Rattle.table.specs.Table.{nodes, son, type, isFork}
+use Rattle.table.specs.Table.{son, type, isFork}
+use Rattle.table.specs.Rules.{AtLevel}
 use Rattle.table.specs.Nodes.{treeAt}
-use Rattle.table.proofs.AcceptedLaws.{tree-leaf, fork-above, son-at}
+use Rattle.table.proofs.AcceptedLaws.{tree-leaf, son-at}
 use Rattle.table.proofs.PictureLaws.{tree-son as table-son}
-use Rattle.raster.proofs.BlockLaws.{on-son, block-fits, place-lt}
+use Rattle.raster.proofs.BlockLaws.{block-fits, place-lt}
 use Rattle.raster.specs.Blocks.{OnSheet}
 use Rattle.raster.specs.Painting.{within, Filled, Painted, inBlock, inRows, inQuarters, coloursAt, Paintable}
 
@@ -311,11 +312,7 @@ module _ (T : List ℕ) (n l p X Y : ℕ) (pos : 0 < l) where
       let o : l - 1 + 1 ≡ l = omega arith in
       subst (λ (k : ℕ). Painted n (inBlock k X Y) (coloursAt T l p) U W) o (quarters-all n (l - 1) X Y q (coloursAt T l p) U W e a)
 
--- each son of a fork may be painted in its quarter
-pub paintable-son : {n : ℕ} {T : List ℕ} {p l x y bytes : ℕ} → Paintable n T p l x y bytes → isFork T p ≡ true → (q s u v : ℕ) → q < 4 → s ≡ son T p q
-    → u ≤ 2 * x + 1 → v ≤ 2 * y + 1 → Paintable n T s (l - 1) u v bytes
-paintable-son h f q s u v lt e hu hv =
-    rw e (record { place = son-at (h .place) f q lt; block = on-son (h .block) (fork-above (h .place) f) u v hu hv; whole = h .whole })
-
-pub son-at-quarter : {n : ℕ} {T : List ℕ} {p l x y bytes : ℕ} → Paintable n T p l x y bytes → isFork T p ≡ true → (q s : ℕ) → q < 4 → s ≡ son T p q → s < nodes T
-son-at-quarter h f q s lt e = rw e (son-at (h .place) f q lt .node)
+-- each son of a fork stands one level down
+pub son-place : {n : ℕ} {T : List ℕ} {p l x y bytes : ℕ} → Paintable n T p l x y bytes → isFork T p ≡ true → (q s : ℕ) → q < 4 → s ≡ son T p q
+    → AtLevel n T s (l - 1)
+son-place h f q s lt e = rw e (son-at (h .place) f q lt)

@@ -4,9 +4,9 @@ use native.Mathlib.Omega.{arith}
 use Rattle.table.proofs.AcceptedLaws.{type-byte, fork-above}
 use Rattle.table.proofs.SeenLaws.{told-fork}
 use Rattle.raster.specs.Painting.{Painted, inQuarters, coloursAt}
-use Rattle.raster.proofs.BlockLaws.{on-small}
-use Rattle.raster.proofs.PaintingLaws.{painted-leaf, paintable-son, son-at-quarter, quarters-none, quarter-painted, fork-painted}
-use Prim.Native.Nat.{ℕ, _+_, _-_, _*_, _/_, _%_, _≤_, _<_}
+use Rattle.raster.proofs.BlockLaws.{on-small, on-son}
+use Rattle.raster.proofs.PaintingLaws.{painted-leaf, son-place, quarters-none, quarter-painted, fork-painted}
+use Prim.Native.Nat.{ℕ, _-_, _≤_, _<_}
 use borrow.Fn.Kinds.{In}
 use borrow.Fn.PlainCycle.{Measures, is, falls, and}
 use Rattle.raster.proofs.paint_fork.Reads as paint-fork
@@ -65,16 +65,19 @@ paint-fork-add-q : (t : ℕ) → paint-fork-lts.Need-add-q (calls t) (paint-fork
 paint-fork-add-q t c = omega arith
 
 paint-fork-word-at-requires-2 : (t : ℕ) → paint-fork-lts.Need-word-at-requires-2 (calls t) (paint-fork-at t) paint-fork.Post paint-fork-Inv-loop paint-fork-μ-loop
-paint-fork-word-at-requires-2 t c κs = (son-at-quarter (c .before .before .before .before .before .pre .1 .0) (c .before .before .before .before .before .pre .1 .1) (c .before .before .loop .q) _ (omega arith) (c .word-at .ensures), omega arith)
+paint-fork-word-at-requires-2 t c κs = (son-place (c .before .before .before .before .before .pre .1 .0) (c .before .before .before .before .before .pre .1 .1) (c .before .before .loop .q) _ (omega arith) (c .word-at .ensures) .node, omega arith)
 
 paint-fork-paint-fork-requires : (t : ℕ) → paint-fork-lts.Need-paint-fork-requires (calls t) (paint-fork-at t) paint-fork.Post paint-fork-Inv-loop paint-fork-μ-loop
 paint-fork-paint-fork-requires t c κs =
     let s = c .before .before .before .before .before .before .before .before in
-    let l = c .before .before .before .before .before .loop in
-    let k = paintable-son (c .before .before .before .before .before .before .before .before .pre .1 .0) (c .before .before .before .before .before .before .before .before .pre .1 .1) (c .before .before .before .before .before .loop .q) _ (2 * c .before .before .before .before .before .before .before .before .args .x + c .before .before .before .before .before .loop .q % 2) (2 * c .before .before .before .before .before .before .before .before .args .y + c .before .before .before .before .before .loop .q / 2) (omega arith) (c .before .before .before .word-at .ensures) (omega arith) (omega arith) in (
+    let l = c .before .before .before .before .before .loop in (
       omega (arith, s .pre .0, fork-above (c .before .before .before .before .before .before .before .before .pre .1 .0 .place) (c .before .before .before .before .before .before .before .before .pre .1 .1)),
       (
-        record { place = k .place; block = k .block; whole = l .inv .1 .size ∙ s .pre .1 .0 .whole },
+        record {
+          place = son-place (c .before .before .before .before .before .before .before .before .pre .1 .0) (c .before .before .before .before .before .before .before .before .pre .1 .1) (c .before .before .before .before .before .loop .q) _ (omega arith) (c .before .before .before .word-at .ensures);
+          block = on-son (c .before .before .before .before .before .before .before .before .pre .1 .0 .block) (fork-above (c .before .before .before .before .before .before .before .before .pre .1 .0 .place) (c .before .before .before .before .before .before .before .before .pre .1 .1)) _ _ (omega arith) (omega arith);
+          whole = l .inv .1 .size ∙ s .pre .1 .0 .whole;
+        },
         told-fork (s .args .table .now) (c .before .before .before .word-at .result) _ (c .before .before .word-at2 .ensures) (c .before .if1 .taken),
       ),
     )
@@ -91,15 +94,14 @@ paint-fork-loop-again t c =
 paint-fork-cast-fill-leaf : (t : ℕ) → paint-fork-lts.Need-cast-fill-leaf (calls t) (paint-fork-at t) paint-fork.Post paint-fork-Inv-loop paint-fork-μ-loop
 paint-fork-cast-fill-leaf t c =
     let s = c .before .before .before .before .before .before .before .before in
-    let k = paintable-son (c .before .before .before .before .before .before .before .before .pre .1 .0) (c .before .before .before .before .before .before .before .before .pre .1 .1) (c .before .before .before .before .before .loop .q) _ (2 * c .before .before .before .before .before .before .before .before .args .x + c .before .before .before .before .before .loop .q % 2) (2 * c .before .before .before .before .before .before .before .before .args .y + c .before .before .before .before .before .loop .q / 2) (omega arith) (c .before .before .before .word-at .ensures) (omega arith) (omega arith) in
-    omega (arith, c .before .before .word-at2 .ensures, type-byte (s .args .n) (s .args .table .now) (k .place .accepted) (c .before .before .before .word-at .result) (k .place .node))
+    let k = son-place (c .before .before .before .before .before .before .before .before .pre .1 .0) (c .before .before .before .before .before .before .before .before .pre .1 .1) (c .before .before .before .before .before .loop .q) _ (omega arith) (c .before .before .before .word-at .ensures) in
+    omega (arith, c .before .before .word-at2 .ensures, type-byte (s .args .n) (s .args .table .now) (k .accepted) (c .before .before .before .word-at .result) (k .node))
 
 paint-fork-fill-leaf-requires : (t : ℕ) → paint-fork-lts.Need-fill-leaf-requires (calls t) (paint-fork-at t) paint-fork.Post paint-fork-Inv-loop paint-fork-μ-loop
 paint-fork-fill-leaf-requires t c κs =
     let s = c .before .before .before .before .before .before .before .before in
     let l = c .before .before .before .before .before .loop in
-    let k = paintable-son (c .before .before .before .before .before .before .before .before .pre .1 .0) (c .before .before .before .before .before .before .before .before .pre .1 .1) (c .before .before .before .before .before .loop .q) _ (2 * c .before .before .before .before .before .before .before .before .args .x + c .before .before .before .before .before .loop .q % 2) (2 * c .before .before .before .before .before .before .before .before .args .y + c .before .before .before .before .before .loop .q / 2) (omega arith) (c .before .before .before .word-at .ensures) (omega arith) (omega arith) in
-    (k .place .accepted .sized .level, k .block, l .inv .1 .size ∙ s .pre .1 .0 .whole)
+    (s .pre .1 .0 .place .accepted .sized .level, on-son (c .before .before .before .before .before .before .before .before .pre .1 .0 .block) (fork-above (c .before .before .before .before .before .before .before .before .pre .1 .0 .place) (c .before .before .before .before .before .before .before .before .pre .1 .1)) _ _ (omega arith) (omega arith), l .inv .1 .size ∙ s .pre .1 .0 .whole)
 
 paint-fork-loop-less-2 : (t : ℕ) → paint-fork-lts.Need-loop-less-2 (calls t) (paint-fork-at t) paint-fork.Post paint-fork-Inv-loop paint-fork-μ-loop
 paint-fork-loop-less-2 t c = omega arith
