@@ -1,19 +1,13 @@
 /*
- * How much stack each call uses on the largest sheets: less than 16 KiB. A call is
- * run on a painted stack of its own, and the paint that is gone is counted.
+ * How much stack each call uses on the largest sheets: less than 16 KiB.
  */
-#define _XOPEN_SOURCE 600
 #include <stdio.h>
-#include <string.h>
-#include <ucontext.h>
 
 #include "sheet.h"
 #include "support/report.h"
+#include "support/stack.h"
 
-enum { STACK = 1 << 20, LIMIT = 16 * 1024, PAINT = 0xA5, N = SHEET_HIGHEST_LEVEL, SIDE = 1 << N };
-
-static unsigned char stack[STACK];
-static ucontext_t here, there;
+enum { LIMIT = 16 * 1024, N = SHEET_HIGHEST_LEVEL, SIDE = 1 << N };
 
 static uint8_t raster[SIDE * SIDE], decoded[SIDE * SIDE];
 static uint32_t table[SHEET_LONGEST_TABLE], distances[SHEET_LONGEST_TABLE / SHEET_NODE_WORDS];
@@ -78,26 +72,10 @@ static void call_centre(void)
     answer = sheet_centre(N, table, length, (uint32_t)(length / SHEET_NODE_WORDS - 1), 0, 0, 1, place, 2);
 }
 
-/* The bytes of the stack that a call painted over. */
-static size_t stack_of(void (*call)(void))
-{
-    size_t clean = 0;
-    memset(stack, PAINT, sizeof stack);
-    getcontext(&there);
-    there.uc_stack.ss_sp = stack;
-    there.uc_stack.ss_size = sizeof stack;
-    there.uc_link = &here;
-    makecontext(&there, call, 0);
-    swapcontext(&here, &there);
-    while (clean < sizeof stack && stack[clean] == PAINT)
-        clean++;
-    return sizeof stack - clean;
-}
-
 static void stays_small(const char *name, void (*call)(void))
 {
     char line[80];
-    size_t used = stack_of(call);
+    size_t used = stack_used(call);
     sprintf(line, "%s uses %lu bytes of stack", name, (unsigned long)used);
     report_check(line, sheet_code(answer) == SHEET_OK && used < LIMIT);
 }

@@ -28,23 +28,28 @@ const struct call_form call_form[CALLS] = {
     {"centre", 9, {TABLE_CODES, 6, 9, 11}, 2, {TABLE_SLICE, "place"}, {4, 8}},
 };
 
-static uint64_t ask_library(const struct question *q, void *const *s)
+const struct calls library_calls = {
+    sheet_check,    sheet_build, sheet_decode, sheet_neighbour, sheet_corner_leaf, sheet_diagonal_leaf,
+    sheet_distance, sheet_ponds, sheet_read,   sheet_write,     sheet_centre,
+};
+
+uint64_t question_put(const struct question *q, const struct calls *to, void *const *s)
 {
     const size_t *l = q->lengths;
     const uint32_t *numbers = q->numbers;
     struct ground g = q->ground;
     switch (q->call) {
-    case CALL_CHECK: return sheet_check(q->level, s[0], l[0]);
-    case CALL_BUILD: return sheet_build(q->level, s[0], l[0], s[1], l[1]);
-    case CALL_DECODE: return sheet_decode(q->level, s[0], l[0], s[1], l[1]);
-    case CALL_NEIGHBOUR: return sheet_neighbour(q->level, s[0], l[0], q->node, numbers[0]);
-    case CALL_CORNER_LEAF: return sheet_corner_leaf(q->level, s[0], l[0], q->node, numbers[0], numbers[1]);
-    case CALL_DIAGONAL_LEAF: return sheet_diagonal_leaf(q->level, s[0], l[0], q->node, numbers[0]);
-    case CALL_DISTANCE: return sheet_distance(q->level, s[0], l[0], s[1], l[1]);
-    case CALL_PONDS: return sheet_ponds(q->level, s[0], l[0], s[1], l[1], s[2], l[2]);
-    case CALL_READ: return sheet_read(s[0], l[0], s[1], l[1]);
-    case CALL_WRITE: return sheet_write(q->level, s[0], l[0], s[1], l[1]);
-    default: return sheet_centre(q->level, s[0], l[0], q->node, g.east, g.north, g.step, s[1], l[1]);
+    case CALL_CHECK: return to->check(q->level, s[0], l[0]);
+    case CALL_BUILD: return to->build(q->level, s[0], l[0], s[1], l[1]);
+    case CALL_DECODE: return to->decode(q->level, s[0], l[0], s[1], l[1]);
+    case CALL_NEIGHBOUR: return to->neighbour(q->level, s[0], l[0], q->node, numbers[0]);
+    case CALL_CORNER_LEAF: return to->corner_leaf(q->level, s[0], l[0], q->node, numbers[0], numbers[1]);
+    case CALL_DIAGONAL_LEAF: return to->diagonal_leaf(q->level, s[0], l[0], q->node, numbers[0]);
+    case CALL_DISTANCE: return to->distance(q->level, s[0], l[0], s[1], l[1]);
+    case CALL_PONDS: return to->ponds(q->level, s[0], l[0], s[1], l[1], s[2], l[2]);
+    case CALL_READ: return to->read(s[0], l[0], s[1], l[1]);
+    case CALL_WRITE: return to->write(q->level, s[0], l[0], s[1], l[1]);
+    default: return to->centre(q->level, s[0], l[0], q->node, g.east, g.north, g.step, s[1], l[1]);
     }
 }
 
@@ -113,7 +118,7 @@ static void lend_to_write(const struct question *q, size_t slice)
     memcpy(wanted[slice], lender[slice].lent, bytes);
 }
 
-struct outcome question_ask(const struct question *q)
+struct outcome question_ask_of(const struct question *q, const struct calls *asked)
 {
     struct outcome o = {0, 0, 1};
     size_t slices = call_form[q->call].slices;
@@ -125,11 +130,16 @@ struct outcome question_ask(const struct question *q)
     for (size_t i = 0; i < slices; i++)
         lent[i] = q->lengths[i] == 0 && q->null_where_empty ? NULL : lender[i].lent;
     o.wanted = ask_second(q, wanted);
-    o.given = ask_library(q, lent);
+    o.given = question_put(q, asked, lent);
     o.buffers_right = lent_unchanged(&lender[0]);
     for (size_t i = 1; i < slices; i++)
         o.buffers_right &= lent_holds(&lender[i], wanted[i]);
     return o;
+}
+
+struct outcome question_ask(const struct question *q)
+{
+    return question_ask_of(q, &library_calls);
 }
 
 int outcome_is_right(const struct outcome *o)

@@ -43,6 +43,23 @@ struct call_form {
 
 extern const struct call_form call_form[CALLS];
 
+/* The calls as the library has them, or as others of the same form. */
+struct calls {
+    uint64_t (*check)(uint32_t, const uint32_t *, size_t);
+    uint64_t (*build)(uint32_t, const uint8_t *, size_t, uint32_t *, size_t);
+    uint64_t (*decode)(uint32_t, const uint32_t *, size_t, uint8_t *, size_t);
+    uint64_t (*neighbour)(uint32_t, const uint32_t *, size_t, uint32_t, uint32_t);
+    uint64_t (*corner_leaf)(uint32_t, const uint32_t *, size_t, uint32_t, uint32_t, uint32_t);
+    uint64_t (*diagonal_leaf)(uint32_t, const uint32_t *, size_t, uint32_t, uint32_t);
+    uint64_t (*distance)(uint32_t, const uint32_t *, size_t, uint32_t *, size_t);
+    uint64_t (*ponds)(uint32_t, const uint32_t *, size_t, uint32_t *, size_t, uint32_t *, size_t);
+    uint64_t (*read)(const uint8_t *, size_t, uint32_t *, size_t);
+    uint64_t (*write)(uint32_t, const uint32_t *, size_t, uint8_t *, size_t);
+    uint64_t (*centre)(uint32_t, const uint32_t *, size_t, uint32_t, double, double, double, double *, size_t);
+};
+
+extern const struct calls library_calls;
+
 /* What the slices that a call may write are full of when they are lent. */
 enum filling { FILL_PATTERN, FILL_ZEROS, FILL_ONES, FILLINGS };
 
@@ -62,7 +79,13 @@ struct outcome {
     int buffers_right; /* every byte lent, and the guards */
 };
 
-/* Asks both. A slice may be as long as a struct table's words. */
+/* Puts the question to one of these calls, with these slices, and gives back its
+ * answer. */
+uint64_t question_put(const struct question *q, const struct calls *to, void *const *slices);
+
+/* Asks these calls and the second implementation; question_ask asks the library
+ * so. A slice may be as long as a struct table's words. */
+struct outcome question_ask_of(const struct question *q, const struct calls *asked);
 struct outcome question_ask(const struct question *q);
 
 int outcome_is_right(const struct outcome *o);
