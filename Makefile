@@ -9,7 +9,7 @@
 # make compare    build/tests/compare: every call against the second implementation,
 #                 for hours by 'build/tests/compare --seed $(date +%s) --minutes 240'
 # make fuzz       the coverage-guided fuzzers, each for MINUTES (fuzz/run)
-# make bench      each call against plain C written for speed
+# make bench      each call against plain C written for speed; CALL=ponds for one alone
 # make clean      removes what was made
 #
 # shared, install, test-c and bench take another archive by LIB=path.
@@ -18,8 +18,8 @@
 # compiler and run under an emulator (tests/on-x86), and a time says nothing.
 #
 # A new call needs no line here: its files are tests/NAME_test.c,
-# tests/second/NAME.c, bench/NAME_bench.c and bench/plain/NAME.c. Nor does a new
-# example: its file is examples/NAME.c, and tests/examples.sh runs it.
+# tests/second/NAME.c and bench/plain/NAME.c. Nor does a new example: its file is
+# examples/NAME.c, and tests/examples.sh runs it.
 
 LIB = target/staticlib/libsheet.a
 ON_X86 := $(filter x86_64,$(shell uname -m))
@@ -39,7 +39,8 @@ INCLUDE = -Iinclude -Itests -Ibench
 WARN = -Wall -Wextra -Werror
 NOT_FUSED = -ffp-contract=off
 CFLAGS = -std=c99 -O2 $(NOT_FUSED) $(WARN)
-PLAIN_CFLAGS = -std=c99 -O3 $(NOT_FUSED) $(WARN)
+# Plain C's time must not hang on where its loops happen to be linked.
+PLAIN_CFLAGS = -std=c99 -O3 -falign-functions=64 -falign-loops=32 $(NOT_FUSED) $(WARN)
 SANITIZE = -fsanitize=address,undefined -fno-sanitize-recover=all
 
 FUZZ_CC = clang
@@ -54,8 +55,7 @@ HEADERS = $(wildcard include/*.h tests/*/*.h bench/*.h bench/*/*.h fuzz/*.h)
 SHARED = $(wildcard tests/support/*.c tests/second/*.c)
 SHARED_OBJECTS = $(SHARED:%.c=build/%.o)
 FUZZ_OBJECTS = $(patsubst %.c,build/fuzz/%.o,$(SHARED) fuzz/held.c)
-BENCH_SHARED = $(filter-out %_bench.c,$(wildcard bench/*.c bench/plain/*.c))
-BENCH_OBJECTS = $(BENCH_SHARED:%.c=build/%.o)
+BENCH_OBJECTS = $(patsubst %.c,build/%.o,$(wildcard bench/*.c bench/plain/*.c))
 
 works = $(shell mkdir -p build && echo 'int main(void) { return 0; }' >build/works.c && \
 	$(1) build/works.c -o build/works 2>/dev/null && $(RUN) build/works && echo yes)
@@ -77,7 +77,6 @@ HAS_FUZZ = $(if $(ON_X86),$(shell mkdir -p build && \
 	$(FUZZ_CC) $(SANITIZE) -fsanitize=fuzzer build/fuzzes.c -o build/fuzzes 2>/dev/null && echo yes))
 EXAMPLES = $(patsubst %.c,build/%,$(wildcard examples/*.c))
 VIEWER_TESTS = $(if $(HAS_PNG),build/tests/viewer/png) $(if $(HAS_SANITIZE),build/sanitized/viewer)
-BENCHES = $(patsubst bench/%.c,build/bench/%,$(wildcard bench/*_bench.c))
 
 # The one place of the version is the header. Whatever moves an answer moves its first two numbers, and
 # the shared object's symbols carry them: a program made with other answers' header does not start with it.
@@ -180,8 +179,8 @@ fuzz:
 	fuzz/run read $(MINUTES)m
 	fuzz/run table $(MINUTES)m
 
-bench: $(BENCHES)
-	@for program in $(BENCHES); do $(RUN) $$program || exit 1; done
+bench: build/bench/bench
+	@$(RUN) build/bench/bench $(CALL)
 
 clean:
 	rm -rf build target
@@ -224,7 +223,7 @@ build/sanitized/%: tests/%.c $(SHARED) $(HEADERS) $(ARCHIVE)
 	@mkdir -p $(@D)
 	$(CC) $(CFLAGS) $(SANITIZE) $(INCLUDE) -o $@ $< $(SHARED) $(LIB)
 
-build/bench/%_bench: build/bench/%_bench.o $(BENCH_OBJECTS) $(SHARED_OBJECTS) $(ARCHIVE)
+build/bench/bench: $(BENCH_OBJECTS) $(SHARED_OBJECTS) $(ARCHIVE)
 	$(CC) -o $@ $(LINKED)
 
 # The fuzzers follow the branches of the library and of the second implementation,

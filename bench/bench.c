@@ -1,78 +1,332 @@
-#define _POSIX_C_SOURCE 199309L
-#include "bench.h"
-
+/*
+ * Every call beside plain C written for speed, and beside a floor: a sum over the
+ * table's words, or a copy of the raster or the file.
+ *
+ *   bench [CALL]
+ *
+ * For each kind of sheet and each level a line says how many nanoseconds a node
+ * takes, a pixel where a call goes between table and raster, or a call where it
+ * searches, and how many times the others' time the library takes; after a kind's
+ * levels, how a unit's time grows from n = 4 to n = 7, and what a table numbered
+ * at random takes. A call that searches is also held against the check alone, and
+ * on the sparse sheets of n = 7, where the check is short, what is left of it when
+ * the check is taken away against what is left of plain C. In the end a table has
+ * each call's worst at n = 7, its bound, and its stack.
+ *
+ * A call is not timed, and the status is 1, where the library or plain C does not
+ * give the second implementation's answer. A bound that is not kept leaves the
+ * status 0, as a machine may be busy with other things.
+ */
 #include <stdio.h>
-#include <stdlib.h>
-#include <time.h>
+#include <string.h>
 
-enum { TURNS = 301 };
+#include "input.h"
+#include "plain/plain.h"
+#include "race.h"
+#include "sheet.h"
+#include "support/dice.h"
+#include "support/draw.h"
+#include "support/question.h"
+#include "support/stack.h"
 
-static const double TURN_NANOSECONDS = 100000;
+enum { LOWEST = 3, EARLY = 4, HIGHEST = SHEET_HIGHEST_LEVEL, SAMPLES_OF_A_CALL = 3000 };
 
-/* Where the answers go, so that no run can be left out. */
-static volatile uint64_t sink;
+enum { PROVED, PLAIN, FLOOR, CHECK, PLAIN_CHECK };
 
-static double now(void)
+static const struct calls plain_calls = {
+    plain_check,    plain_build, plain_decode, plain_neighbour, plain_corner_leaf, plain_diagonal_leaf,
+    plain_distance, plain_ponds, plain_read,   plain_write,     plain_centre,
+};
+
+static const struct kind {
+    const char *name;
+    enum picture_kind pictures;
+} kinds[] = {{"noise", PICTURE_NOISE},
+             {"blobs", PICTURE_BLOBS},
+             {"coastline", PICTURE_COASTLINE},
+             {"chequered", PICTURE_CHESSBOARD},
+             {"sparse", PICTURE_LONE_PIXEL}};
+
+/* What is remembered of a call's lines at n = 7. */
+struct summary {
+    double to_plain, to_floor;
+    char where[40]; /* to_plain was met */
+    size_t stack, plain_stack;
+};
+
+static struct input input;
+
+/* ---- the rivals */
+
+/* The slices that the calls write, and what the floor copies where no call has it
+ * as input. */
+static double written[2][SHEET_LONGEST_TABLE / 2 + 1];
+static uint8_t to_copy[SHEET_LONGEST_FILE];
+
+static uint64_t put_all(const struct input *in, const struct calls *to)
 {
-    struct timespec t;
-    clock_gettime(CLOCK_MONOTONIC, &t);
-    return (double)t.tv_sec * 1e9 + (double)t.tv_nsec;
+    void *slices[MOST_SLICES] = {NULL, written[0], written[1]};
+    uint64_t answers = 0;
+    for (size_t i = 0; i < in->questions; i++) {
+        slices[0] = (void *)in->question[i].contents;
+        answers += question_put(&in->question[i], to, slices);
+    }
+    return answers;
 }
 
-static double time_of(const struct rival *rival, const void *input, size_t repeats)
+static uint64_t run_proved(const void *in)
 {
-    double start = now();
-    for (size_t i = 0; i < repeats; i++)
-        sink += rival->run(input);
-    return (now() - start) / (double)repeats;
+    return put_all(in, &library_calls);
 }
 
-/* How often a rival must run to fill a turn. */
-static size_t repeats_for(const struct rival *rival, const void *input)
+static uint64_t run_plain(const void *in)
 {
-    double once = time_of(rival, input, 10);
-    return once >= TURN_NANOSECONDS ? 1 : (size_t)(TURN_NANOSECONDS / (once + 1)) + 1;
+    return put_all(in, &plain_calls);
 }
 
-static int by_size(const void *a, const void *b)
+static uint64_t least_work(const struct question *q)
 {
-    double x = *(const double *)a, y = *(const double *)b;
-    return (x > y) - (x < y);
+    switch (q->call) {
+    case CALL_BUILD:
+    case CALL_READ: memcpy(written[0], q->contents, q->lengths[0]); return 0;
+    case CALL_DECODE:
+    case CALL_WRITE: memcpy(written[0], to_copy, q->lengths[1]); return 0;
+    default: return plain_sum(q->contents, q->lengths[0]);
+    }
 }
 
-static double median(double *times)
+static uint64_t run_floor(const void *of)
 {
-    qsort(times, TURNS, sizeof *times, by_size);
-    return times[TURNS / 2];
+    const struct input *in = of;
+    uint64_t answers = 0;
+    for (size_t i = 0; i < in->questions; i++)
+        answers += least_work(&in->question[i]);
+    return answers;
 }
 
-void bench_times(const void *input, const struct rival *rivals, size_t count, double *taken)
+static uint64_t check_all(const struct input *in, const struct calls *to)
 {
-    static double times[MOST_RIVALS][TURNS];
-    size_t repeats[MOST_RIVALS];
-    for (size_t r = 0; r < count; r++)
-        repeats[r] = repeats_for(&rivals[r], input);
-    for (size_t turn = 0; turn < TURNS; turn++)
-        for (size_t r = 0; r < count; r++)
-            times[r][turn] = time_of(&rivals[r], input, repeats[r]);
-    for (size_t r = 0; r < count; r++)
-        taken[r] = median(times[r]);
+    uint64_t answers = 0;
+    for (size_t i = 0; i < in->questions; i++)
+        answers += to->check(in->question[i].level, in->question[i].contents, in->question[i].lengths[0]);
+    return answers;
 }
 
-void bench_line(const char *input_name, size_t units, const struct rival *rivals, size_t count, const double *taken)
+static uint64_t run_check(const void *in)
 {
-    printf("%-28s %6zu:", input_name, units);
-    for (size_t r = 0; r < count; r++)
-        printf("  %s %.2f", rivals[r].name, taken[r] / (double)units);
-    for (size_t r = 1; r < count; r++)
-        printf("  %s/%s %.2f", rivals[0].name, rivals[r].name, taken[0] / taken[r]);
+    return check_all(in, &library_calls);
+}
+
+static uint64_t run_plain_check(const void *in)
+{
+    return check_all(in, &plain_calls);
+}
+
+static rival *const rivals[MOST_RIVALS] = {run_proved, run_plain, run_floor, run_check, run_plain_check};
+
+/* ---- the answers */
+
+static int agree(const struct question *q)
+{
+    struct outcome proved = question_ask(q), plain = question_ask_of(q, &plain_calls);
+    if (outcome_is_right(&proved) && outcome_is_right(&plain))
+        return 1;
+    printf("the answers differ:\n");
+    question_print(stdout, q, outcome_is_right(&proved) ? &plain : &proved);
+    return 0;
+}
+
+static int agree_on_samples(enum call call)
+{
+    struct dice d = dice_from(5);
+    struct question q;
+    for (int i = 0; i < SAMPLES_OF_A_CALL; i++) {
+        draw_question(&q, call, &d);
+        if (!agree(&q))
+            return 0;
+    }
+    return 1;
+}
+
+static int agree_on_input(void)
+{
+    for (size_t i = 0; i < input.questions; i++)
+        if (!agree(&input.question[i]))
+            return 0;
+    return 1;
+}
+
+/* ---- the lines */
+
+static int counts_pixels(enum call call)
+{
+    return call == CALL_BUILD || call == CALL_DECODE;
+}
+
+static const char *unit_of(enum call call)
+{
+    return call_searches(call) ? "call" : counts_pixels(call) ? "pixel" : "node";
+}
+
+static size_t units_of_input(enum call call)
+{
+    return call_searches(call) ? input.questions : counts_pixels(call) ? input.pixels : input.nodes;
+}
+
+static void print_head(enum call call)
+{
+    printf("sheet_%s: nanoseconds a %s\n%-24s %5ss %8s %8s %8s %8s %8s", call_form[call].name, unit_of(call), "",
+           unit_of(call), "proved", "plain", "floor", "/plain", "/floor");
+    printf(call_searches(call) ? " %8s %8s\n" : "\n", "check", "/check");
+}
+
+static void print_line(enum call call, const char *where, uint32_t level, const double *taken)
+{
+    double unit = (double)units_of_input(call), proved = taken[PROVED];
+    printf("%-18s n %-3u %6.0f %8.2f %8.2f %8.3f %8.2f %8.2f", where, (unsigned)level, unit, proved / unit, taken[PLAIN] / unit,
+           taken[FLOOR] / unit, proved / taken[PLAIN], proved / taken[FLOOR]);
+    if (call_searches(call))
+        printf(" %8.2f %8.2f", taken[CHECK] / unit, proved / taken[CHECK]);
     printf("\n");
     fflush(stdout);
 }
 
-void bench_race(const char *input_name, const void *input, size_t units, const struct rival *rivals, size_t count)
+static void print_growth(const char *where, const double *a_unit, const double *early)
 {
-    double taken[MOST_RIVALS];
-    bench_times(input, rivals, count, taken);
-    bench_line(input_name, units, rivals, count, taken);
+    printf("%-18s n 7/4 %6s %8.2f %8.2f %8.2f\n", where, "", a_unit[PROVED] / early[PROVED], a_unit[PLAIN] / early[PLAIN],
+           a_unit[FLOOR] / early[FLOOR]);
+}
+
+/* What is left of a call that searches, beyond the check. */
+static void print_search(const char *where, const double *a_unit)
+{
+    double proved = a_unit[PROVED] - a_unit[CHECK], plain = a_unit[PLAIN] - a_unit[PLAIN_CHECK];
+    printf("%-18s n 7   %6s %8.2f %8.2f %8s %8.2f\n", where, "", proved, plain, "", proved / plain);
+}
+
+/* ---- a call */
+
+static void proved_once(void)
+{
+    run_proved(&input);
+}
+
+static void plain_once(void)
+{
+    run_plain(&input);
+}
+
+static double larger(double a, double b)
+{
+    return a > b ? a : b;
+}
+
+static size_t more(size_t a, size_t b)
+{
+    return a > b ? a : b;
+}
+
+static void remember(struct summary *s, const char *where, const double *taken)
+{
+    if (taken[PROVED] / taken[PLAIN] > s->to_plain)
+        strcpy(s->where, where);
+    s->to_plain = larger(s->to_plain, taken[PROVED] / taken[PLAIN]);
+    s->to_floor = larger(s->to_floor, taken[PROVED] / taken[FLOOR]);
+    s->stack = more(s->stack, stack_used(proved_once));
+    s->plain_stack = more(s->plain_stack, stack_used(plain_once));
+}
+
+/* Draws an input, times it and prints its line; what a unit takes. Gives 0, and
+ * times nothing, where an answer is not right. */
+static int time_line(enum call call, const struct kind *kind, uint32_t level, int at_random, struct summary *s,
+                     double *a_unit)
+{
+    char where[sizeof s->where];
+    double taken[MOST_RIVALS] = {0};
+    snprintf(where, sizeof where, "%s%s", kind->name, at_random ? ", random" : "");
+    input_draw(&input, call, kind->pictures, level, at_random);
+    if (!agree_on_input())
+        return 0;
+    race(&input, rivals, call_searches(call) ? MOST_RIVALS : FLOOR + 1, taken);
+    print_line(call, where, level, taken);
+    if (level == HIGHEST)
+        remember(s, where, taken);
+    for (int r = 0; r < MOST_RIVALS; r++)
+        a_unit[r] = taken[r] / (double)units_of_input(call);
+    return 1;
+}
+
+static int time_kind(enum call call, const struct kind *kind, struct summary *s)
+{
+    double a_unit[HIGHEST + 1][MOST_RIVALS], at_random[MOST_RIVALS];
+    for (uint32_t level = LOWEST; level <= HIGHEST; level++)
+        if (!time_line(call, kind, level, 0, s, a_unit[level]))
+            return 0;
+    print_growth(kind->name, a_unit[HIGHEST], a_unit[EARLY]);
+    if (call_searches(call) && kind->pictures == PICTURE_LONE_PIXEL)
+        print_search("the search alone", a_unit[HIGHEST]);
+    return call == CALL_BUILD || call == CALL_READ || time_line(call, kind, HIGHEST, 1, s, at_random);
+}
+
+static int time_call(enum call call, struct summary *s)
+{
+    print_head(call);
+    if (!agree_on_samples(call))
+        return 0;
+    for (size_t i = 0; i < sizeof kinds / sizeof *kinds; i++)
+        if (!time_kind(call, &kinds[i], s))
+            return 0;
+    printf("stack at n 7: %zu bytes, plain %zu; worst at n 7: %.2f times plain, on %s\n\n", s->stack, s->plain_stack,
+           s->to_plain, s->where);
+    return 1;
+}
+
+/* ---- all calls */
+
+/* How many times the others' time a call may take at n = 7; no floor where it is 0. */
+static const struct bound {
+    double plain, floor;
+} usual = {1.15, 0}, of_check = {1.15, 8}, of_long_calls = {1.3, 0};
+
+static const struct bound *bound_of(enum call call)
+{
+    return call == CALL_CHECK ? &of_check : call == CALL_DISTANCE || call == CALL_PONDS ? &of_long_calls : &usual;
+}
+
+static void print_summary(enum call call, const struct summary *s)
+{
+    const struct bound *b = bound_of(call);
+    int kept = s->to_plain <= b->plain && (b->floor == 0 || s->to_floor <= b->floor);
+    printf("%-14s %6.2f %6.2f  %-8s %8.2f %6zu  %s\n", call_form[call].name, s->to_plain, b->plain,
+           kept ? "kept" : "not kept", s->to_floor, s->stack, s->where);
+}
+
+static void print_table(const struct summary *summaries, int first, int last)
+{
+    printf("%-14s %6s %6s  %-8s %8s %6s  %s\n", "worst at n 7", "/plain", "bound", "", "/floor", "stack", "on");
+    for (int call = first; call <= last; call++)
+        print_summary((enum call)call, &summaries[call]);
+}
+
+static int call_named(const char *name)
+{
+    int call = 0;
+    while (call < CALLS && strcmp(call_form[call].name, name) != 0)
+        call++;
+    return call;
+}
+
+int main(int argc, char **argv)
+{
+    static struct summary summaries[CALLS];
+    int first = argc > 1 ? call_named(argv[1]) : 0, last = argc > 1 ? first : CALLS - 1;
+    if (argc > 2 || first == CALLS) {
+        fprintf(stderr, "usage: bench [CALL], a call's name without sheet_\n");
+        return 2;
+    }
+    for (int call = first; call <= last; call++)
+        if (!time_call((enum call)call, &summaries[call]))
+            return 1;
+    print_table(summaries, first, last);
+    return 0;
 }

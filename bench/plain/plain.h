@@ -13,7 +13,7 @@ uint64_t plain_read(const uint8_t *file, size_t file_len, uint32_t *table, size_
 uint64_t plain_write(uint32_t n, const uint32_t *table, size_t table_len, uint8_t *file, size_t file_len);
 
 /* The floor: the least that a look at every word of a table can cost. */
-uint64_t plain_sum(uint32_t n, const uint32_t *table, size_t table_len);
+uint64_t plain_sum(const uint32_t *table, size_t table_len);
 
 /* A neighbour, and its search alone, in a table that is known to be accepted,
  * for a node and a direction that are there. */

@@ -1,0 +1,37 @@
+/*
+ * What one line is timed on: questions to one call about sheets of one kind and
+ * level. A call over whole sheets is asked once about each of many sheets; one
+ * that searches is asked about one node of each, or about several.
+ */
+#ifndef BENCH_INPUT_H
+#define BENCH_INPUT_H
+
+#include <stddef.h>
+#include <stdint.h>
+
+#include "sheet.h"
+#include "support/picture.h"
+#include "support/question.h"
+
+/* Every line has about as many nodes, however small its sheets, so that what the
+ * machine keeps of them from one turn to the next is the same; where that would
+ * be too many pixels, so many. */
+enum { LEAST_NODES = 5000, MOST_NODES = SHEET_LONGEST_TABLE / SHEET_NODE_WORDS, ENOUGH_PIXELS = 8 * 128 * 128 };
+
+/* A line has so many questions about nodes at least. */
+enum { LEAST_QUESTIONS = 16, MOST_QUESTIONS = LEAST_NODES / 5 + LEAST_QUESTIONS };
+
+struct input {
+    size_t questions, nodes, pixels;
+    struct question question[MOST_QUESTIONS];
+    uint32_t contents[(LEAST_NODES + MOST_NODES) * SHEET_NODE_WORDS]; /* of all sheets: tables, rasters or files */
+};
+
+/* Is this a call that asks about a node? */
+int call_searches(enum call call);
+
+/* Draws an input. Sheets of one leaf are left out; tables are in preorder, or
+ * numbered at random. */
+void input_draw(struct input *in, enum call call, enum picture_kind kind, uint32_t level, int at_random);
+
+#endif
