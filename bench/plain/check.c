@@ -4,6 +4,8 @@
  * at most once, and all N must be seen. Only if that fails does the ordered
  * loop run, to name the first fault.
  */
+#include <string.h>
+
 #include "plain/plain.h"
 
 #define NONE UINT32_MAX
@@ -18,25 +20,26 @@ static const uint32_t *node(const struct nodes *t, uint32_t p)
     return t->words + (size_t)p * 6;
 }
 
+/* Are all four son words None? They are taken two at a time. */
 static int has_no_sons(const uint32_t *w)
 {
-    return (w[1] & w[2] & w[3] & w[4]) == NONE;
+    uint64_t upper, lower;
+    memcpy(&upper, w + 1, sizeof upper);
+    memcpy(&lower, w + 3, sizeof lower);
+    return (upper & lower) == UINT64_MAX;
 }
 
-/* Are these sons four different nodes above p whose father is p? */
-static int are_sons(const struct nodes *t, uint32_t p, const uint32_t *sons)
+static inline int have_father(const struct nodes *t, uint32_t p, const uint32_t *s)
 {
-    uint32_t nw = sons[0], ne = sons[1], sw = sons[2], se = sons[3];
-    if (nw <= p || ne <= p || sw <= p || se <= p)
-        return 0;
-    if (nw >= t->count || ne >= t->count || sw >= t->count || se >= t->count)
-        return 0;
-    return ((node(t, nw)[0] ^ p) | (node(t, ne)[0] ^ p) | (node(t, sw)[0] ^ p) | (node(t, se)[0] ^ p)) == 0;
+    return ((node(t, s[0])[0] ^ p) | (node(t, s[1])[0] ^ p) | (node(t, s[2])[0] ^ p) | (node(t, s[3])[0] ^ p)) == 0;
 }
 
-static int are_different(const uint32_t *s)
+/* Are these sons nodes above p whose father is p? */
+static int are_sons(const struct nodes *t, uint32_t p, const uint32_t *s)
 {
-    return (s[0] != s[1]) & (s[0] != s[2]) & (s[0] != s[3]) & (s[1] != s[2]) & (s[1] != s[3]) & (s[2] != s[3]);
+    uint32_t count = t->count;
+    return s[0] > p && s[1] > p && s[2] > p && s[3] > p && s[0] < count && s[1] < count && s[2] < count &&
+           s[3] < count && have_father(t, p, s);
 }
 
 static int are_like_leaves(const struct nodes *t, const uint32_t *s)
@@ -45,17 +48,30 @@ static int are_like_leaves(const struct nodes *t, const uint32_t *s)
     return type < 2 && node(t, s[1])[5] == type && node(t, s[2])[5] == type && node(t, s[3])[5] == type;
 }
 
-/* The nodes below and with fork p, at this level, or 0 if something is wrong. */
-static uint32_t seen_below(const struct nodes *t, uint32_t p, uint32_t level)
+/* Are these four different nodes above p? Those that stand in order need fewer
+ * comparisons. */
+static inline int are_above(const struct nodes *t, uint32_t p, const uint32_t *s, int in_order)
+{
+    uint32_t nw = s[0], ne = s[1], sw = s[2], se = s[3], count = t->count;
+    if (in_order)
+        return p < nw && nw < ne && ne < sw && sw < se && se < count;
+    return nw > p && ne > p && sw > p && se > p && nw < count && ne < count && sw < count && se < count &&
+           ((nw != ne) & (nw != sw) & (nw != se) & (ne != sw) & (ne != se) & (sw != se));
+}
+
+/* The nodes below and with fork p, at this level, or 0 if something is wrong or,
+ * where order is asked for, sons do not stand in the order NW, NE, SW, SE. */
+static uint32_t seen_below(const struct nodes *t, uint32_t p, uint32_t level, int in_order)
 {
     const uint32_t *sons = node(t, p) + 1;
-    uint32_t seen = 1;
-    if (level == 0 || !are_sons(t, p, sons) || !are_different(sons) || are_like_leaves(t, sons))
+    uint32_t seen = 1, types = 0;
+    if (level == 0 || !are_above(t, p, sons, in_order) || !have_father(t, p, sons))
         return 0;
     for (int quadrant = 0; quadrant < 4; quadrant++) {
         const uint32_t *son = node(t, sons[quadrant]);
+        types |= son[5] + 1;
         if (son[5] == 2) {
-            uint32_t below = seen_below(t, sons[quadrant], level - 1);
+            uint32_t below = seen_below(t, sons[quadrant], level - 1, in_order);
             if (below == 0)
                 return 0;
             seen += below;
@@ -65,7 +81,7 @@ static uint32_t seen_below(const struct nodes *t, uint32_t p, uint32_t level)
             seen++;
         }
     }
-    return seen;
+    return types == 3 ? seen : 0;
 }
 
 static int is_sound(const struct nodes *t, uint32_t n)
@@ -74,7 +90,7 @@ static int is_sound(const struct nodes *t, uint32_t n)
     if (root[0] != NONE)
         return 0;
     if (root[5] == 2)
-        return seen_below(t, 0, n) == t->count;
+        return seen_below(t, 0, n, 1) == t->count || seen_below(t, 0, n, 0) == t->count;
     return root[5] < 2 && t->count == 1 && has_no_sons(root);
 }
 

@@ -27,17 +27,35 @@ static void paint_leaf(uint8_t *at, uint32_t n, uint32_t level, uint8_t colour)
         }
 }
 
+static uint8_t type_of(const struct painting *p, uint32_t node)
+{
+    return (uint8_t)p->table[(size_t)node * 6 + 5];
+}
+
+/* A fork of four pixels. */
+static void paint_pixels(const struct painting *p, const uint32_t *sons, uint8_t *at)
+{
+    uint8_t *below = at + ((size_t)1 << p->n);
+    at[0] = type_of(p, sons[0]);
+    at[1] = type_of(p, sons[1]);
+    below[0] = type_of(p, sons[2]);
+    below[1] = type_of(p, sons[3]);
+}
+
 static void paint_fork(const struct painting *p, uint32_t fork, uint32_t level, uint8_t *at)
 {
     const uint32_t *sons = p->table + (size_t)fork * 6 + 1;
     size_t half = (size_t)1 << (level - 1);
+    if (level == 1) {
+        paint_pixels(p, sons, at);
+        return;
+    }
     for (size_t quadrant = 0; quadrant < 4; quadrant++) {
-        uint8_t *quarter = at + (quadrant % 2) * half + ((quadrant / 2 * half) << p->n);
-        uint32_t type = p->table[(size_t)sons[quadrant] * 6 + 5];
+        uint8_t *quarter = at + (quadrant % 2) * half + ((quadrant / 2 * half) << p->n), type = type_of(p, sons[quadrant]);
         if (type == 2)
             paint_fork(p, sons[quadrant], level - 1, quarter);
         else
-            paint_leaf(quarter, p->n, level - 1, (uint8_t)type);
+            paint_leaf(quarter, p->n, level - 1, type);
     }
 }
 

@@ -1,5 +1,8 @@
-/* Writing for speed: the check, then the records, going down from the root. */
+/* Writing for speed: the check, then the records, going down from the root, fork
+ * by fork. */
 #include "plain/plain.h"
+
+#define FORK 2
 
 static uint8_t *write_record(uint8_t *file, uint32_t type)
 {
@@ -9,14 +12,16 @@ static uint8_t *write_record(uint8_t *file, uint32_t type)
     return file + 3;
 }
 
-/* Writes the block of this node and gives back where the next one begins. */
-static uint8_t *write_block(const uint32_t *table, uint32_t node, uint8_t *file)
+/* Writes the four blocks of this fork and gives back where the next one begins. */
+static uint8_t *write_four(const uint32_t *table, uint32_t fork, uint8_t *file)
 {
-    const uint32_t *words = table + (size_t)node * 6;
-    file = write_record(file, words[5]);
-    if (words[5] == 2)
-        for (int quadrant = 0; quadrant < 4; quadrant++)
-            file = write_block(table, words[1 + quadrant], file);
+    const uint32_t *sons = table + (size_t)fork * 6 + 1;
+    for (int quadrant = 0; quadrant < 4; quadrant++) {
+        uint32_t type = table[(size_t)sons[quadrant] * 6 + 5];
+        file = write_record(file, type);
+        if (type == FORK)
+            file = write_four(table, sons[quadrant], file);
+    }
     return file;
 }
 
@@ -33,6 +38,8 @@ uint64_t plain_write(uint32_t n, const uint32_t *table, size_t table_len, uint8_
     file[2] = (uint8_t)n;
     file[3] = (uint8_t)count;
     file[4] = (uint8_t)(count >> 8);
-    write_block(table, 0, file + 5);
+    write_record(file + 5, table[5]);
+    if (table[5] == FORK)
+        write_four(table, 0, file + 8);
     return 256 * length;
 }
