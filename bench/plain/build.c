@@ -1,8 +1,9 @@
 /*
  * Building for speed. Eight rows of eight pixels are gathered into one word of 64
  * bits, so that all that is smaller than such a block is found by shifts. The
- * first pass counts the forks and keeps the type of each block of eight pixels'
- * side and above; the second writes the nodes from the top.
+ * first pass looks for bad pixels, counts the forks and keeps each gathered block,
+ * and the type of each block of eight pixels' side and above; the second writes
+ * the nodes from the top, fork by fork.
  */
 #include <string.h>
 
@@ -13,13 +14,16 @@
 
 enum { GATHERED = 3, LEVELS = 8 };
 
-/* The corners of the blocks of two and of four pixels' side in a gathered one. */
+/* A row of eight black pixels; the corners of the blocks of two and of four
+ * pixels' side in a gathered one. */
+static const uint64_t BLACK_ROW = UINT64_C(0x0101010101010101);
 static const uint64_t PAIRS = UINT64_C(0x0055005500550055), FOURS = UINT64_C(0x0000001100000011);
 
 struct building {
     const uint8_t *raster;
     uint32_t n, number;
     uint32_t *table;
+    uint64_t gathered[256];
     uint8_t type[256 + 64 + 16 + 4 + 1];
 };
 
@@ -29,19 +33,6 @@ static const uint32_t type_start[LEVELS + 1] = {0, 0, 0, 0, 256, 320, 336, 340, 
 static uint8_t *type_at(struct building *b, uint32_t level, uint32_t i, uint32_t j)
 {
     return &b->type[type_start[level] + (j << (b->n - level)) + i];
-}
-
-/* Bit 8y + x is the pixel (x, y) of the block. */
-static uint64_t gathered(const struct building *b, uint32_t i, uint32_t j)
-{
-    const uint8_t *from = b->raster + ((size_t)j << (GATHERED + b->n)) + (i << GATHERED);
-    uint64_t bits = 0;
-    for (int y = 0; y < 8; y++) {
-        uint64_t row;
-        memcpy(&row, from + ((size_t)y << b->n), sizeof row);
-        bits |= (row * UINT64_C(0x0102040810204080) >> 56) << (8 * y);
-    }
-    return bits;
 }
 
 /* At the corner of each block of two pixels' side: are its pixels unlike? */
@@ -57,20 +48,34 @@ static uint64_t unlike_fours(uint64_t bits, uint64_t pairs)
     return (within | (bits ^ bits >> 2) | (bits ^ bits >> 16) | (bits ^ bits >> 18)) & FOURS;
 }
 
-static uint32_t bits_set(uint64_t word)
+/* How many bits are set; no processor of x86-64 need have an instruction for it. */
+static inline uint32_t bits_set(uint64_t word)
 {
-    return (uint32_t)__builtin_popcountll(word);
+    word -= word >> 1 & UINT64_C(0x5555555555555555);
+    word = (word & UINT64_C(0x3333333333333333)) + (word >> 2 & UINT64_C(0x3333333333333333));
+    return (uint32_t)(((word + (word >> 4)) & UINT64_C(0x0f0f0f0f0f0f0f0f)) * BLACK_ROW >> 56);
 }
 
-/* The forks in and with a gathered block; its type is kept. */
-static uint32_t forks_of_gathered(struct building *b, uint32_t i, uint32_t j)
+/* Gathers a block and keeps its type; gives its forks, and puts the bits of all
+ * its bytes into 'seen'. Bit 8y + x is the pixel (x, y) of the block. */
+static uint32_t gather(struct building *b, uint32_t i, uint32_t j, uint64_t *seen)
 {
-    uint64_t bits = gathered(b, i, j);
-    *type_at(b, GATHERED, i, j) = bits == 0 ? 0 : ~bits == 0 ? 1 : FORK;
-    if (bits == 0 || ~bits == 0)
+    const uint8_t *from = b->raster + ((size_t)j << (GATHERED + b->n)) + (i << GATHERED);
+    uint64_t row[8], any = 0, all = UINT64_MAX, bits = 0;
+    for (int y = 0; y < 8; y++) {
+        memcpy(&row[y], from + ((size_t)y << b->n), sizeof row[y]);
+        any |= row[y];
+        all &= row[y];
+    }
+    *seen |= any;
+    *type_at(b, GATHERED, i, j) = any == 0 ? 0 : all == BLACK_ROW ? 1 : FORK;
+    if (any == 0 || all == BLACK_ROW)
         return 0;
+    for (int y = 0; y < 8; y++)
+        bits |= (row[y] * UINT64_C(0x0102040810204080) >> 56) << (8 * y);
+    b->gathered[(j << (b->n - GATHERED)) + i] = bits;
     uint64_t pairs = unlike_pairs(bits);
-    return 1 + bits_set(pairs) + bits_set(unlike_fours(bits, pairs));
+    return 1 + bits_set(pairs | unlike_fours(bits, pairs) << 1);
 }
 
 /* The type of a block from those of its quarters. */
@@ -80,12 +85,12 @@ static uint32_t joined_type(struct building *b, uint32_t level, uint32_t i, uint
     return upper[0] == upper[1] && upper[0] == lower[0] && upper[0] == lower[1] ? upper[0] : FORK;
 }
 
-static uint32_t count_forks(struct building *b)
+static uint32_t count_forks(struct building *b, uint64_t *seen)
 {
     uint32_t forks = 0, across = UINT32_C(1) << (b->n - GATHERED);
     for (uint32_t j = 0; j < across; j++)
         for (uint32_t i = 0; i < across; i++)
-            forks += forks_of_gathered(b, i, j);
+            forks += gather(b, i, j, seen);
     for (uint32_t level = GATHERED + 1; level <= b->n; level++) {
         across /= 2;
         for (uint32_t j = 0; j < across; j++)
@@ -95,33 +100,55 @@ static uint32_t count_forks(struct building *b)
     return forks;
 }
 
-static uint32_t *next_node(struct building *b, uint32_t father, uint32_t type)
+/* The words of a fork of four pixels and of those, less the numbers: each word is
+ * this one, and the fork's number where the other says so. A fork's father is
+ * another's to write. */
+#define PIXEL(black) 0, NONE, NONE, NONE, NONE, black
+#define PIXELS(k) {0, 1, 2, 3, 4, FORK, PIXEL(k & 1), PIXEL(k >> 1 & 1), PIXEL(k >> 2 & 1), PIXEL(k >> 3)}
+static const uint32_t four_pixels[16][30] = {
+    PIXELS(0), PIXELS(1), PIXELS(2),  PIXELS(3),  PIXELS(4),  PIXELS(5),  PIXELS(6),  PIXELS(7),
+    PIXELS(8), PIXELS(9), PIXELS(10), PIXELS(11), PIXELS(12), PIXELS(13), PIXELS(14), PIXELS(15)};
+#define NUMBERED NONE, 0, 0, 0, 0, 0
+static const uint32_t numbered[30] = {0, NONE, NONE, NONE, NONE, 0, NUMBERED, NUMBERED, NUMBERED, NUMBERED};
+
+static inline void write_node(uint32_t *words, uint32_t father, uint32_t type)
 {
-    uint32_t *words = b->table + (size_t)b->number++ * 6;
     words[0] = father;
     words[1] = words[2] = words[3] = words[4] = NONE;
     words[5] = type;
-    return words;
 }
 
-static void write_pair(struct building *b, uint32_t father, uint64_t bits, uint64_t unlike)
+static inline void write_leaf(struct building *b, uint32_t father, uint32_t type)
 {
-    uint32_t me = b->number;
-    uint32_t *words = next_node(b, father, (unlike & 1) != 0 ? FORK : bits & 1);
-    if ((unlike & 1) == 0)
-        return;
-    for (uint32_t q = 0; q < 4; q++) {
-        words[1 + q] = b->number;
-        next_node(b, me, bits >> (q / 2 * 8 + q % 2) & 1);
-    }
+    write_node(b->table + (size_t)b->number++ * 6, father, type);
 }
 
+/* Writes a block of two pixels' side. */
+static inline void write_pair(struct building *b, uint32_t father, uint64_t bits, uint64_t unlike)
+{
+    uint32_t *restrict words = b->table + (size_t)b->number * 6, me = b->number;
+    if ((unlike & 1) == 0) {
+        write_leaf(b, father, bits & 1);
+        return;
+    }
+    const uint32_t *pixels = four_pixels[(bits & 3) | (bits >> 6 & 12)];
+    for (int i = 0; i < 30; i++)
+        words[i] = pixels[i] + (numbered[i] & me);
+    words[0] = father;
+    b->number += 5;
+}
+
+/* Writes a block of four pixels' side. */
 static void write_four(struct building *b, uint32_t father, uint64_t bits, uint64_t pairs, uint64_t unlike)
 {
-    uint32_t me = b->number;
-    uint32_t *words = next_node(b, father, (unlike & 1) != 0 ? FORK : bits & 1);
-    if ((unlike & 1) == 0)
+    uint32_t me = b->number, *words = b->table + (size_t)me * 6;
+    if ((unlike & 1) == 0) {
+        write_leaf(b, father, bits & 1);
         return;
+    }
+    b->number++;
+    words[0] = father;
+    words[5] = FORK;
     for (uint32_t q = 0; q < 4; q++) {
         uint32_t shift = q / 2 * 16 + q % 2 * 2;
         words[1 + q] = b->number;
@@ -139,19 +166,22 @@ static void write_gathered(struct building *b, uint32_t me, uint32_t *words, uin
     }
 }
 
-static void write_block(struct building *b, uint32_t father, uint32_t level, uint32_t i, uint32_t j)
+static void write_fork(struct building *b, uint32_t father, uint32_t level, uint32_t i, uint32_t j)
 {
-    uint32_t me = b->number, type = *type_at(b, level, i, j);
-    uint32_t *words = next_node(b, father, type);
-    if (type != FORK)
-        return;
+    uint32_t me = b->number++, *words = b->table + (size_t)me * 6;
+    words[0] = father;
+    words[5] = FORK;
     if (level == GATHERED) {
-        write_gathered(b, me, words, gathered(b, i, j));
+        write_gathered(b, me, words, b->gathered[(j << (b->n - GATHERED)) + i]);
         return;
     }
     for (uint32_t q = 0; q < 4; q++) {
+        uint32_t son_i = 2 * i + q % 2, son_j = 2 * j + q / 2, type = *type_at(b, level - 1, son_i, son_j);
         words[1 + q] = b->number;
-        write_block(b, me, level - 1, 2 * i + q % 2, 2 * j + q / 2);
+        if (type == FORK)
+            write_fork(b, me, level - 1, son_i, son_j);
+        else
+            write_leaf(b, me, type);
     }
 }
 
@@ -162,30 +192,6 @@ static uint64_t gathered_small(const uint8_t *raster, uint32_t n)
     for (uint32_t i = 0; i < UINT32_C(1) << (2 * n); i++)
         bits |= (uint64_t)raster[i] << ((i >> n) * 8 + i % (UINT32_C(1) << n));
     return bits;
-}
-
-static uint64_t build_small(struct building *b, size_t table_len)
-{
-    uint64_t bits = gathered_small(b->raster, b->n), pairs = unlike_pairs(bits);
-    uint64_t fours = unlike_fours(bits, pairs);
-    uint32_t forks = b->n == 0 ? 0 : b->n == 1 ? pairs & 1 : bits_set(pairs) + (fours & 1);
-    uint64_t needed = 6 * (1 + 4 * (uint64_t)forks);
-    if (table_len < needed)
-        return 9 + 256 * needed;
-    if (b->n == 2)
-        write_four(b, NONE, bits, pairs, fours);
-    else
-        write_pair(b, NONE, bits, b->n == 0 ? 0 : pairs);
-    return 256 * (needed / 6);
-}
-
-static uint64_t build_large(struct building *b, size_t table_len)
-{
-    uint64_t needed = 6 * (1 + 4 * (uint64_t)count_forks(b));
-    if (table_len < needed)
-        return 9 + 256 * needed;
-    write_block(b, NONE, b->n, 0, 0);
-    return 256 * (needed / 6);
 }
 
 static int all_are_pixels(const uint8_t *raster, size_t raster_len)
@@ -204,6 +210,37 @@ static uint64_t first_bad_pixel(const uint8_t *raster)
     return 8 + 256 * i;
 }
 
+static uint64_t build_small(struct building *b, size_t raster_len, size_t table_len)
+{
+    if (!all_are_pixels(b->raster, raster_len))
+        return first_bad_pixel(b->raster);
+    uint64_t bits = gathered_small(b->raster, b->n), pairs = unlike_pairs(bits);
+    uint64_t fours = unlike_fours(bits, pairs);
+    uint32_t forks = b->n == 0 ? 0 : b->n == 1 ? pairs & 1 : bits_set(pairs) + (fours & 1);
+    uint64_t needed = 6 * (1 + 4 * (uint64_t)forks);
+    if (table_len < needed)
+        return 9 + 256 * needed;
+    if (b->n == 2)
+        write_four(b, NONE, bits, pairs, fours);
+    else
+        write_pair(b, NONE, bits, b->n == 0 ? 0 : pairs);
+    return 256 * (needed / 6);
+}
+
+static uint64_t build_large(struct building *b, size_t table_len)
+{
+    uint64_t seen = 0, needed = 6 * (1 + 4 * (uint64_t)count_forks(b, &seen));
+    if ((seen & ~BLACK_ROW) != 0)
+        return first_bad_pixel(b->raster);
+    if (table_len < needed)
+        return 9 + 256 * needed;
+    if (b->type[type_start[b->n]] == FORK)
+        write_fork(b, NONE, b->n, 0, 0);
+    else
+        write_leaf(b, NONE, b->type[type_start[b->n]]);
+    return 256 * (needed / 6);
+}
+
 uint64_t plain_build(uint32_t n, const uint8_t *raster, size_t raster_len, uint32_t *table, size_t table_len)
 {
     struct building b;
@@ -211,11 +248,9 @@ uint64_t plain_build(uint32_t n, const uint8_t *raster, size_t raster_len, uint3
         return 1;
     if (raster_len != (size_t)1 << (2 * n))
         return 2 + 256;
-    if (!all_are_pixels(raster, raster_len))
-        return first_bad_pixel(raster);
     b.raster = raster;
     b.n = n;
     b.number = 0;
     b.table = table;
-    return n < GATHERED ? build_small(&b, table_len) : build_large(&b, table_len);
+    return n < GATHERED ? build_small(&b, raster_len, table_len) : build_large(&b, table_len);
 }
