@@ -29,14 +29,7 @@ uint64_t plain_corner_leaf_unchecked(uint32_t n, const uint32_t *table, uint32_t
 uint64_t plain_diagonal_leaf(uint32_t n, const uint32_t *table, size_t table_len, uint32_t node, uint32_t corner);
 uint64_t plain_diagonal_leaf_unchecked(uint32_t n, const uint32_t *table, uint32_t node, uint32_t corner);
 
-/* The distances by document 001's method. */
 uint64_t plain_distance(uint32_t n, const uint32_t *table, size_t table_len, uint32_t *distances, size_t distances_len);
-
-/* The distances by two passes over the raster, pixel by pixel as the books have
- * it, and with whole rows taken at once. */
-uint64_t plain_two_pass(uint32_t n, const uint32_t *table, size_t table_len, uint32_t *distances, size_t distances_len);
-uint64_t plain_two_pass_rows(uint32_t n, const uint32_t *table, size_t table_len, uint32_t *distances,
-                             size_t distances_len);
 
 /* The ponds' numbers and the register, by joining black leaves in the tree, and
  * by joining runs of black pixels from row to row. */
