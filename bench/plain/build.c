@@ -7,6 +7,7 @@
  */
 #include <string.h>
 
+#include "plain/bits.h"
 #include "plain/plain.h"
 
 #define NONE UINT32_MAX
@@ -48,14 +49,6 @@ static uint64_t unlike_fours(uint64_t bits, uint64_t pairs)
     return (within | (bits ^ bits >> 2) | (bits ^ bits >> 16) | (bits ^ bits >> 18)) & FOURS;
 }
 
-/* How many bits are set; no processor of x86-64 need have an instruction for it. */
-static inline uint32_t bits_set(uint64_t word)
-{
-    word -= word >> 1 & UINT64_C(0x5555555555555555);
-    word = (word & UINT64_C(0x3333333333333333)) + (word >> 2 & UINT64_C(0x3333333333333333));
-    return (uint32_t)(((word + (word >> 4)) & UINT64_C(0x0f0f0f0f0f0f0f0f)) * BLACK_ROW >> 56);
-}
-
 /* Gathers a block and keeps its type; gives its forks, and puts the bits of all
  * its bytes into 'seen'. Bit 8y + x is the pixel (x, y) of the block. */
 static uint32_t gather(struct building *b, uint32_t i, uint32_t j, uint64_t *seen)
@@ -75,7 +68,7 @@ static uint32_t gather(struct building *b, uint32_t i, uint32_t j, uint64_t *see
         bits |= (row[y] * UINT64_C(0x0102040810204080) >> 56) << (8 * y);
     b->gathered[(j << (b->n - GATHERED)) + i] = bits;
     uint64_t pairs = unlike_pairs(bits);
-    return 1 + bits_set(pairs | unlike_fours(bits, pairs) << 1);
+    return 1 + plain_bits_set(pairs | unlike_fours(bits, pairs) << 1);
 }
 
 /* The type of a block from those of its quarters. */
@@ -216,7 +209,7 @@ static uint64_t build_small(struct building *b, size_t raster_len, size_t table_
         return first_bad_pixel(b->raster);
     uint64_t bits = gathered_small(b->raster, b->n), pairs = unlike_pairs(bits);
     uint64_t fours = unlike_fours(bits, pairs);
-    uint32_t forks = b->n == 0 ? 0 : b->n == 1 ? pairs & 1 : bits_set(pairs) + (fours & 1);
+    uint32_t forks = b->n == 0 ? 0 : b->n == 1 ? pairs & 1 : plain_bits_set(pairs) + (fours & 1);
     uint64_t needed = 6 * (1 + 4 * (uint64_t)forks);
     if (table_len < needed)
         return 9 + 256 * needed;

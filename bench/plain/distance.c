@@ -4,20 +4,16 @@
  * black leaf until it meets one. A leaf of one pixel needs no frame: one of its
  * brothers is white, so the distance is 1.
  */
+#include "plain/bits.h"
 #include "plain/plain.h"
 #include "plain/search.h"
 
 enum { WHITE = 0, BLACK = 1, FORK = 2, MOST_SIDE = 128 };
 
-/* A row or a column, pixel by pixel. */
-struct line {
-    uint64_t bits[2];
-};
-
 struct sheet {
     const uint32_t *table;
     uint32_t side, *distances;
-    struct line row[MOST_SIDE], column[MOST_SIDE];
+    struct plain_line row[MOST_SIDE], column[MOST_SIDE];
 };
 
 static inline uint32_t type_of(const struct sheet *s, uint32_t p)
@@ -25,17 +21,11 @@ static inline uint32_t type_of(const struct sheet *s, uint32_t p)
     return plain_node(s->table, p)[5];
 }
 
-/* So many bits from this one on, all in one word: 64 at most. */
-static inline uint64_t span(uint32_t from, uint32_t count)
-{
-    return UINT64_MAX >> (64 - count) << from % 64;
-}
-
 /* ---- the white pixels */
 
 static void mark(struct sheet *s, uint32_t left, uint32_t top, uint32_t side)
 {
-    uint64_t across = span(left, side), down = span(top, side);
+    uint64_t across = plain_span(left, side), down = plain_span(top, side);
     for (uint32_t i = 0; i < side; i++) {
         s->row[top + i].bits[left / 64] |= across;
         s->column[left + i].bits[top / 64] |= down;
@@ -78,7 +68,7 @@ static void mark_below(struct sheet *s, uint32_t p, uint32_t left, uint32_t top,
 
 /* ---- the frames */
 
-static inline struct line widened(struct line l)
+static inline struct plain_line widened(struct plain_line l)
 {
     uint64_t first = l.bits[0], last = l.bits[1];
     l.bits[0] |= first << 1 | first >> 1 | last << 63;
@@ -86,7 +76,7 @@ static inline struct line widened(struct line l)
     return l;
 }
 
-static inline uint64_t common(struct line a, struct line b)
+static inline uint64_t common(struct plain_line a, struct plain_line b)
 {
     return (a.bits[0] & b.bits[0]) | (a.bits[1] & b.bits[1]);
 }
@@ -94,9 +84,9 @@ static inline uint64_t common(struct line a, struct line b)
 /* How many frames of one pixel's width round this leaf have no white in them. */
 static uint32_t gap_of(const struct sheet *s, uint32_t left, uint32_t top, uint32_t side)
 {
-    struct line across = {{0, 0}}, down = {{0, 0}};
-    across.bits[left / 64] = span(left, side);
-    down.bits[top / 64] = span(top, side);
+    struct plain_line across = {{0, 0}}, down = {{0, 0}};
+    across.bits[left / 64] = plain_span(left, side);
+    down.bits[top / 64] = plain_span(top, side);
     for (uint32_t gap = 0;; gap++) {
         uint32_t right = left + side + gap, bottom = top + side + gap;
         uint64_t met = 0;
@@ -147,7 +137,7 @@ uint64_t plain_distance(uint32_t n, const uint32_t *table, size_t table_len, uin
         return 0;
     }
     for (uint32_t i = 0; i < s.side; i++)
-        s.row[i] = s.column[i] = (struct line){{0, 0}};
+        s.row[i] = s.column[i] = (struct plain_line){{0, 0}};
     mark_below(&s, 0, 0, 0, s.side / 2);
     measure_below(&s, 0, 0, 0, s.side / 2);
     return 0;

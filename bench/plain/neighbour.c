@@ -1,12 +1,6 @@
 #include "plain/plain.h"
 #include "plain/search.h"
 
-uint64_t plain_neighbour_unchecked(uint32_t n, const uint32_t *table, uint32_t node, uint32_t direction)
-{
-    struct plain_block found = plain_search(table, plain_block(n, table, node), direction);
-    return found.node == PLAIN_NONE ? 20 : plain_found(found);
-}
-
 uint64_t plain_neighbour(uint32_t n, const uint32_t *table, size_t table_len, uint32_t node, uint32_t direction)
 {
     uint64_t check = plain_check(n, table, table_len);
@@ -16,5 +10,6 @@ uint64_t plain_neighbour(uint32_t n, const uint32_t *table, size_t table_len, ui
         return 6 + 256 * (uint64_t)node;
     if (direction > 7)
         return 7 + 256 * (uint64_t)direction;
-    return plain_neighbour_unchecked(n, table, node, direction);
+    struct plain_block found = plain_search(n, table, node, direction);
+    return found.node == PLAIN_NONE ? 20 : plain_found(found);
 }

@@ -1,5 +1,5 @@
-/* Each call once more, in plain C written for speed: what the library is
- * timed against. */
+/* Each call once more, in plain C written for speed: what the library is timed
+ * against. The answers are the library's, and no memory grows with N. */
 #ifndef PLAIN_H
 #define PLAIN_H
 
@@ -9,37 +9,19 @@
 uint64_t plain_check(uint32_t n, const uint32_t *table, size_t table_len);
 uint64_t plain_build(uint32_t n, const uint8_t *raster, size_t raster_len, uint32_t *table, size_t table_len);
 uint64_t plain_decode(uint32_t n, const uint32_t *table, size_t table_len, uint8_t *raster, size_t raster_len);
+uint64_t plain_neighbour(uint32_t n, const uint32_t *table, size_t table_len, uint32_t node, uint32_t direction);
+uint64_t plain_corner_leaf(uint32_t n, const uint32_t *table, size_t table_len, uint32_t node, uint32_t side,
+                           uint32_t corner);
+uint64_t plain_diagonal_leaf(uint32_t n, const uint32_t *table, size_t table_len, uint32_t node, uint32_t corner);
+uint64_t plain_distance(uint32_t n, const uint32_t *table, size_t table_len, uint32_t *distances, size_t distances_len);
+uint64_t plain_ponds(uint32_t n, const uint32_t *table, size_t table_len, uint32_t *numbers, size_t numbers_len,
+                     uint32_t *reg, size_t reg_len);
 uint64_t plain_read(const uint8_t *file, size_t file_len, uint32_t *table, size_t table_len);
 uint64_t plain_write(uint32_t n, const uint32_t *table, size_t table_len, uint8_t *file, size_t file_len);
+uint64_t plain_centre(uint32_t n, const uint32_t *table, size_t table_len, uint32_t node, double east, double north,
+                      double step, double *place, size_t place_len);
 
 /* The floor: the least that a look at every word of a table can cost. */
 uint64_t plain_sum(const uint32_t *table, size_t table_len);
-
-/* A neighbour, and its search alone, in a table that is known to be accepted,
- * for a node and a direction that are there. */
-uint64_t plain_neighbour(uint32_t n, const uint32_t *table, size_t table_len, uint32_t node, uint32_t direction);
-uint64_t plain_neighbour_unchecked(uint32_t n, const uint32_t *table, uint32_t node, uint32_t direction);
-
-/* The leaf at a corner, and its search alone. */
-uint64_t plain_corner_leaf(uint32_t n, const uint32_t *table, size_t table_len, uint32_t node, uint32_t side,
-                           uint32_t corner);
-uint64_t plain_corner_leaf_unchecked(uint32_t n, const uint32_t *table, uint32_t node, uint32_t side, uint32_t corner);
-
-/* The leaf diagonally beyond a corner, and its search alone. */
-uint64_t plain_diagonal_leaf(uint32_t n, const uint32_t *table, size_t table_len, uint32_t node, uint32_t corner);
-uint64_t plain_diagonal_leaf_unchecked(uint32_t n, const uint32_t *table, uint32_t node, uint32_t corner);
-
-uint64_t plain_distance(uint32_t n, const uint32_t *table, size_t table_len, uint32_t *distances, size_t distances_len);
-
-/* The ponds' numbers and the register, by joining black leaves in the tree, and
- * by joining runs of black pixels from row to row. */
-uint64_t plain_ponds(uint32_t n, const uint32_t *table, size_t table_len, uint32_t *numbers, size_t numbers_len,
-                     uint32_t *reg, size_t reg_len);
-uint64_t plain_ponds_by_runs(uint32_t n, const uint32_t *table, size_t table_len, uint32_t *numbers, size_t numbers_len,
-                             uint32_t *reg, size_t reg_len);
-
-/* A node's centre on the ground. */
-uint64_t plain_centre(uint32_t n, const uint32_t *table, size_t table_len, uint32_t node, double east, double north,
-                      double step, double *place, size_t place_len);
 
 #endif

@@ -1,239 +1,240 @@
 /*
- * Pond numbers for speed, as disjoint sets that stand in the numbers themselves.
- * One way down the tree gives each black leaf its first pixel and joins the
- * leaves on both sides of the borders between sons; a pond's leader keeps the
- * pond's first pixel. A bit for each of those puts the ponds in order, and a
- * second way down fills numbers and register.
+ * Ponds for speed, on bits: the black leaves are painted as rows of bits, like
+ * rows one below the other are one band, and the runs of black pixels in each
+ * band are joined with those of the band above. A black leaf has the number of
+ * the run that holds its first pixel. Runs count by rows, and the first run of a
+ * pond leads it, so ponds come in order.
  */
+#include "plain/bits.h"
 #include "plain/plain.h"
 #include "plain/search.h"
 
-enum { WHITE = 0, BLACK = 1, FORK = 2, EAST = 1, SOUTH = 2, MOST_PIXELS = 128 * 128 };
+enum { BLACK = 1, FORK = 2, MOST_SIDE = 128, MOST_RUNS = MOST_SIDE * MOST_SIDE / 2 };
 
-/* A leader's word is LEADS with the pond's first pixel, and later with the
- * pond's number; the word of any other black leaf is one of its pond. */
-#define LEADS UINT32_C(0x80000000)
-
-/* The first pixels of ponds, and how many come before each 64 pixels. */
-struct firsts {
-    uint64_t bits[MOST_PIXELS / 64];
-    uint32_t before[MOST_PIXELS / 64];
-};
-
-struct sheet {
+struct water {
     const uint32_t *table;
-    uint32_t n, count, *numbers, *reg;
+    uint32_t side, *numbers, *reg;
+    struct plain_line row[MOST_SIDE];
+    uint32_t bands;
+    uint8_t band_of[MOST_SIDE], top[MOST_SIDE]; /* of a row, of a band             */
+    struct plain_line starts[MOST_SIDE];              /* the first pixels of a band's runs */
+    uint16_t before[MOST_SIDE + 1];             /* the runs of the bands above     */
+    uint16_t pond[1 + MOST_RUNS]; /* run r's, from 1 on: a run of its pond no later than r; then the pond's number */
 };
 
-static inline uint32_t type_of(const struct sheet *s, uint32_t p)
+static inline uint32_t type_of(const struct water *w, uint32_t p)
 {
-    return plain_node(s->table, p)[5];
+    return plain_node(w->table, p)[5];
 }
 
-/* A leaf's word, while each black leaf is a pond of its own. */
-static inline uint32_t leaf_word(const struct sheet *s, uint32_t p, uint32_t pixel)
+/* ---- bits */
+
+/* How many bits are set up to this one. */
+static inline uint32_t rank(const struct plain_line *l, uint32_t x)
 {
-    return type_of(s, p) == BLACK ? LEADS | pixel : 0;
+    uint64_t up_to = (UINT64_C(2) << x % 64) - 1;
+    return x < 64 ? plain_bits_set(l->bits[0] & up_to) : plain_bits_set(l->bits[0]) + plain_bits_set(l->bits[1] & up_to);
 }
 
-static uint32_t leader(uint32_t *numbers, uint32_t p)
+/* The bits that are set where the one before is not, and where the next is not. */
+static inline struct plain_line starts_of(struct plain_line l)
 {
-    while ((numbers[p] & LEADS) == 0) {
-        uint32_t next = numbers[numbers[p]];
-        if (next & LEADS)
-            return numbers[p];
-        p = numbers[p] = next;
+    return (struct plain_line){{l.bits[0] & ~(l.bits[0] << 1), l.bits[1] & ~(l.bits[1] << 1 | l.bits[0] >> 63)}};
+}
+
+static inline struct plain_line ends_of(struct plain_line l)
+{
+    return (struct plain_line){{l.bits[0] & ~(l.bits[0] >> 1 | l.bits[1] << 63), l.bits[1] & ~(l.bits[1] >> 1)}};
+}
+
+/* Writes the places of all set bits, and gives back how many there are. */
+static inline uint32_t places(struct plain_line l, uint8_t *place)
+{
+    uint32_t count = 0;
+    for (uint64_t bits = l.bits[0]; bits != 0; bits &= bits - 1)
+        place[count++] = (uint8_t)__builtin_ctzll(bits);
+    for (uint64_t bits = l.bits[1]; bits != 0; bits &= bits - 1)
+        place[count++] = (uint8_t)(64 + __builtin_ctzll(bits));
+    return count;
+}
+
+/* ---- rows and bands */
+
+static inline void paint_leaf(struct water *w, uint32_t left, uint32_t top, uint32_t side)
+{
+    uint64_t bits = plain_span(left, side);
+    for (uint32_t y = top; y < top + side; y++)
+        w->row[y].bits[left / 64] |= bits;
+}
+
+/* Paints what is black below fork p, whose sons have this side, and gives back how
+ * many leaves are. */
+static uint32_t paint_below(struct water *w, uint32_t p, uint32_t left, uint32_t top, uint32_t side)
+{
+    const uint32_t *sons = plain_node(w->table, p) + 1;
+    uint32_t black = 0;
+    if (side == 1) {
+        uint64_t nw = type_of(w, sons[0]), ne = type_of(w, sons[1]), sw = type_of(w, sons[2]), se = type_of(w, sons[3]);
+        w->row[top].bits[left / 64] |= (nw | ne << 1) << left % 64;
+        w->row[top + 1].bits[left / 64] |= (sw | se << 1) << left % 64;
+        return (uint32_t)(nw + ne + sw + se);
     }
-    return p;
-}
-
-static void join(uint32_t *numbers, uint32_t p, uint32_t q)
-{
-    p = leader(numbers, p);
-    q = leader(numbers, q);
-    if (numbers[p] < numbers[q])
-        numbers[q] = p;
-    else if (p != q)
-        numbers[p] = q;
-}
-
-/* ---- joining: 'way' is the border that is crossed, and a constant in each use */
-
-static void join_east(const struct sheet *s, uint32_t a, uint32_t b);
-static void join_south(const struct sheet *s, uint32_t a, uint32_t b);
-
-/* Joins the black leaves in a and b that touch across the border between them;
- * b lies east or south of a. */
-static inline void join_across(const struct sheet *s, uint32_t a, uint32_t b, uint32_t way)
-{
-    uint32_t first = type_of(s, a), second = type_of(s, b);
-    if (first == WHITE || second == WHITE)
-        return;
-    if (first == BLACK && second == BLACK)
-        join(s->numbers, a, b);
-    else if (way == EAST)
-        join_east(s, a, b);
-    else
-        join_south(s, a, b);
-}
-
-/* The same where one of the two is a fork at least. */
-static inline void join_halves(const struct sheet *s, uint32_t a, uint32_t b, uint32_t way)
-{
-    uint32_t a_near = a, a_far = a, b_near = b, b_far = b;
-    if (type_of(s, a) == FORK) {
-        a_near = plain_son(s->table, a, way);
-        a_far = plain_son(s->table, a, EAST | SOUTH);
-    }
-    if (type_of(s, b) == FORK) {
-        b_near = plain_son(s->table, b, 0);
-        b_far = plain_son(s->table, b, way ^ (EAST | SOUTH));
-    }
-    join_across(s, a_near, b_near, way);
-    join_across(s, a_far, b_far, way);
-}
-
-static void join_east(const struct sheet *s, uint32_t a, uint32_t b)
-{
-    join_halves(s, a, b, EAST);
-}
-
-static void join_south(const struct sheet *s, uint32_t a, uint32_t b)
-{
-    join_halves(s, a, b, SOUTH);
-}
-
-/* Gives each black leaf below fork p its word, and joins those that touch;
- * 'pixel' is p's first, and half its side is 'half'. */
-static void join_below(const struct sheet *s, uint32_t p, uint32_t pixel, uint32_t half)
-{
-    const uint32_t *sons = plain_node(s->table, p) + 1;
-    s->numbers[p] = 0;
     for (uint32_t quadrant = 0; quadrant < 4; quadrant++) {
-        uint32_t son = sons[quadrant], first = pixel + (quadrant & 1) * half + ((quadrant >> 1) * half << s->n);
-        if (type_of(s, son) == FORK)
-            join_below(s, son, first, half / 2);
-        else
-            s->numbers[son] = leaf_word(s, son, first);
-    }
-    join_across(s, sons[0], sons[1], EAST);
-    join_across(s, sons[2], sons[3], EAST);
-    join_across(s, sons[0], sons[2], SOUTH);
-    join_across(s, sons[1], sons[3], SOUTH);
-}
-
-/* ---- the ponds in order */
-
-static uint32_t bits_of(uint64_t word)
-{
-    return (uint32_t)__builtin_popcountll(word);
-}
-
-/* Finds the first pixels, and gives back how many there are. */
-static uint32_t find_firsts(const struct sheet *s, struct firsts *f)
-{
-    uint32_t words = ((UINT32_C(1) << 2 * s->n) + 63) / 64, ponds = 0;
-    for (uint32_t i = 0; i < words; i++)
-        f->bits[i] = 0;
-    for (uint32_t p = 0; p < s->count; p++)
-        if (s->numbers[p] & LEADS) {
-            uint32_t pixel = s->numbers[p] ^ LEADS;
-            f->bits[pixel / 64] |= UINT64_C(1) << pixel % 64;
+        uint32_t son_left = left + (quadrant & 1) * side, son_top = top + (quadrant >> 1) * side;
+        uint32_t type = type_of(w, sons[quadrant]);
+        if (type == FORK) {
+            black += paint_below(w, sons[quadrant], son_left, son_top, side / 2);
+        } else if (type == BLACK) {
+            paint_leaf(w, son_left, son_top, side);
+            black++;
         }
-    for (uint32_t i = 0; i < words; i++) {
-        f->before[i] = ponds;
-        if (f->bits[i] != 0)
-            ponds += bits_of(f->bits[i]);
+    }
+    return black;
+}
+
+static inline int are_alike(const struct plain_line *a, const struct plain_line *b)
+{
+    return a->bits[0] == b->bits[0] && a->bits[1] == b->bits[1];
+}
+
+/* Finds the bands, and counts their runs, each a pond of its own. */
+static void find_bands(struct water *w)
+{
+    uint32_t runs = 0;
+    w->bands = 0;
+    for (uint32_t y = 0; y < w->side; y++) {
+        if (y == 0 || !are_alike(&w->row[y], &w->row[y - 1])) {
+            w->top[w->bands] = (uint8_t)y;
+            w->starts[w->bands] = starts_of(w->row[y]);
+            w->before[w->bands] = (uint16_t)runs;
+            runs += rank(&w->starts[w->bands], MOST_SIDE - 1);
+            w->bands++;
+        }
+        w->band_of[y] = (uint8_t)(w->bands - 1);
+    }
+    w->before[w->bands] = (uint16_t)runs;
+    for (uint32_t r = 0; r <= runs; r++)
+        w->pond[r] = (uint16_t)r;
+}
+
+/* ---- the ponds */
+
+static inline uint32_t leader(struct water *w, uint32_t run)
+{
+    while (w->pond[run] != run)
+        run = w->pond[run] = w->pond[w->pond[run]];
+    return run;
+}
+
+static inline void join(struct water *w, uint32_t a, uint32_t b)
+{
+    a = leader(w, a);
+    b = leader(w, b);
+    if (a < b)
+        w->pond[b] = (uint16_t)a;
+    else
+        w->pond[a] = (uint16_t)b;
+}
+
+/* Two runs touch where both have a pixel, and then in one stretch. */
+static void join_bands(struct water *w)
+{
+    uint8_t place[MOST_SIDE];
+    for (uint32_t k = 1; k < w->bands; k++) {
+        const struct plain_line *above = &w->row[w->top[k - 1]], *here = &w->row[w->top[k]];
+        struct plain_line both = {{above->bits[0] & here->bits[0], above->bits[1] & here->bits[1]}};
+        uint32_t touching = places(starts_of(both), place);
+        for (uint32_t i = 0; i < touching; i++)
+            join(w, w->before[k - 1] + rank(&w->starts[k - 1], place[i]), w->before[k] + rank(&w->starts[k], place[i]));
+    }
+}
+
+static inline void enter(uint32_t *entry, uint32_t first, uint32_t last, uint32_t top, uint32_t bottom)
+{
+    entry[0] += (last - first + 1) * (bottom - top);
+    entry[2] = bottom - 1;
+    entry[3] = first < entry[3] ? first : entry[3];
+    entry[4] = last > entry[4] ? last : entry[4];
+}
+
+/* Gives each run its pond's number and enters it; how many ponds there are. */
+static uint32_t number_runs(struct water *w)
+{
+    uint8_t first[MOST_SIDE], last[MOST_SIDE];
+    uint32_t ponds = 0, run = 1;
+    for (uint32_t k = 0; k < w->bands; k++) {
+        uint32_t top = w->top[k], bottom = k + 1 < w->bands ? w->top[k + 1] : w->side;
+        uint32_t runs = places(w->starts[k], first);
+        places(ends_of(w->row[top]), last);
+        for (uint32_t i = 0; i < runs; i++, run++) {
+            uint32_t *entry = w->reg + 5 * ponds;
+            if (w->pond[run] == run) {
+                entry[0] = entry[4] = 0;
+                entry[1] = top;
+                entry[3] = PLAIN_NONE;
+                w->pond[run] = (uint16_t)++ponds;
+            } else {
+                w->pond[run] = w->pond[w->pond[run]];
+                entry = w->reg + 5 * (w->pond[run] - UINT32_C(1));
+            }
+            enter(entry, first[i], last[i], top, bottom);
+        }
     }
     return ponds;
 }
 
-/* Gives each leader its pond's number, and the pond an entry without pixels. */
-static void number_leaders(const struct sheet *s, const struct firsts *f)
+/* The last run that begins at this pixel or before it, counted from 1. */
+static inline uint32_t run_at(const struct water *w, uint32_t x, uint32_t y)
 {
-    for (uint32_t p = 0; p < s->count; p++)
-        if (s->numbers[p] & LEADS) {
-            uint32_t pixel = s->numbers[p] ^ LEADS;
-            uint64_t lower = f->bits[pixel / 64] & ((UINT64_C(1) << pixel % 64) - 1);
-            uint32_t earlier = f->before[pixel / 64] + bits_of(lower), *entry = s->reg + 5 * earlier;
-            s->numbers[p] = LEADS | (earlier + 1);
-            entry[0] = entry[2] = entry[4] = 0;
-            entry[1] = entry[3] = PLAIN_NONE;
-        }
+    return w->before[w->band_of[y]] + rank(&w->starts[w->band_of[y]], x);
 }
 
-static uint32_t lower_of(uint32_t a, uint32_t b)
+/* The numbers of two pixels side by side, the first in an even column. */
+static inline void number_two(const struct water *w, uint32_t p, uint32_t q, uint32_t x, uint32_t y)
 {
-    return a < b ? a : b;
+    uint32_t run = run_at(w, x, y), begins = w->starts[w->band_of[y]].bits[x / 64] >> (x % 64 + 1) & 1;
+    w->numbers[p] = w->pond[run] & -type_of(w, p);
+    w->numbers[q] = w->pond[run + begins] & -type_of(w, q);
 }
 
-static uint32_t higher_of(uint32_t a, uint32_t b)
+static void number_below(const struct water *w, uint32_t p, uint32_t left, uint32_t top, uint32_t side)
 {
-    return a > b ? a : b;
-}
-
-static void enter(uint32_t *entry, uint32_t left, uint32_t top, uint32_t side)
-{
-    entry[0] += side * side;
-    entry[1] = lower_of(entry[1], top);
-    entry[2] = higher_of(entry[2], top + side - 1);
-    entry[3] = lower_of(entry[3], left);
-    entry[4] = higher_of(entry[4], left + side - 1);
-}
-
-/* Gives a black leaf its pond's number, still with LEADS, and puts its pixels
- * into the pond's entry. */
-static inline void enter_leaf(const struct sheet *s, uint32_t p, uint32_t left, uint32_t top, uint32_t side)
-{
-    uint32_t word = s->numbers[leader(s->numbers, p)];
-    s->numbers[p] = word;
-    enter(s->reg + 5 * ((word ^ LEADS) - 1), left, top, side);
-}
-
-static void enter_below(const struct sheet *s, uint32_t p, uint32_t left, uint32_t top, uint32_t half)
-{
-    const uint32_t *sons = plain_node(s->table, p) + 1;
+    const uint32_t *sons = plain_node(w->table, p) + 1;
+    w->numbers[p] = 0;
+    if (side == 1) {
+        number_two(w, sons[0], sons[1], left, top);
+        number_two(w, sons[2], sons[3], left, top + 1);
+        return;
+    }
     for (uint32_t quadrant = 0; quadrant < 4; quadrant++) {
-        uint32_t son = sons[quadrant], type = type_of(s, son);
-        uint32_t son_left = left + (quadrant & 1) * half, son_top = top + (quadrant >> 1) * half;
+        uint32_t son = sons[quadrant], type = type_of(w, son);
+        uint32_t son_left = left + (quadrant & 1) * side, son_top = top + (quadrant >> 1) * side;
         if (type == FORK)
-            enter_below(s, son, son_left, son_top, half / 2);
-        else if (type == BLACK)
-            enter_leaf(s, son, son_left, son_top, half);
+            number_below(w, son, son_left, son_top, side / 2);
+        else
+            w->numbers[son] = type == BLACK ? w->pond[run_at(w, son_left, son_top)] : 0;
     }
 }
 
-static uint64_t number_ponds(const struct sheet *s)
+/* The ponds of a sheet of one leaf. */
+static uint64_t one_leaf(const struct water *w, size_t reg_len)
 {
-    struct firsts f;
-    uint32_t side = UINT32_C(1) << s->n, is_fork = type_of(s, 0) == FORK;
-    if (is_fork)
-        join_below(s, 0, 0, side / 2);
-    else
-        s->numbers[0] = leaf_word(s, 0, 0);
-    uint32_t ponds = find_firsts(s, &f);
-    number_leaders(s, &f);
-    if (is_fork)
-        enter_below(s, 0, 0, 0, side / 2);
-    else if (ponds > 0)
-        enter_leaf(s, 0, 0, 0, side);
-    for (uint32_t p = 0; p < s->count; p++)
-        s->numbers[p] &= ~LEADS;
-    return 256 * (uint64_t)ponds;
-}
-
-static uint32_t count_black(const struct sheet *s)
-{
-    uint32_t black = 0;
-    for (uint32_t p = 0; p < s->count; p++)
-        black += plain_node(s->table, p)[5] == BLACK;
-    return black;
+    uint32_t black = type_of(w, 0);
+    if (reg_len < 5 * black)
+        return 9 + 256 * 5;
+    w->numbers[0] = black;
+    if (black) {
+        w->reg[0] = w->side * w->side;
+        w->reg[1] = w->reg[3] = 0;
+        w->reg[2] = w->reg[4] = w->side - 1;
+    }
+    return 256 * black;
 }
 
 uint64_t plain_ponds(uint32_t n, const uint32_t *table, size_t table_len, uint32_t *numbers, size_t numbers_len,
                      uint32_t *reg, size_t reg_len)
 {
-    struct sheet s = {table, n, (uint32_t)(table_len / 6), numbers, reg};
+    struct water w;
     uint64_t check = plain_check(n, table, table_len);
     if (check % 256 == 1 || check % 256 == 2)
         return check;
@@ -241,8 +242,20 @@ uint64_t plain_ponds(uint32_t n, const uint32_t *table, size_t table_len, uint32
         return 2 + 256 * 1;
     if (check % 256 != 0)
         return check;
-    uint64_t need = 5 * (uint64_t)count_black(&s);
+    w.table = table;
+    w.side = UINT32_C(1) << n;
+    w.numbers = numbers;
+    w.reg = reg;
+    if (type_of(&w, 0) != FORK)
+        return one_leaf(&w, reg_len);
+    for (uint32_t y = 0; y < w.side; y++)
+        w.row[y] = (struct plain_line){{0, 0}};
+    uint64_t need = 5 * (uint64_t)paint_below(&w, 0, 0, 0, w.side / 2);
     if (reg_len < need)
         return 9 + 256 * need;
-    return number_ponds(&s);
+    find_bands(&w);
+    join_bands(&w);
+    uint32_t ponds = number_runs(&w);
+    number_below(&w, 0, 0, 0, w.side / 2);
+    return 256 * (uint64_t)ponds;
 }

@@ -50,21 +50,11 @@ static inline uint32_t plain_leaving(uint32_t direction)
     return leaving[direction];
 }
 
-/* A node of a sheet of level n with its level, by a climb to the root. */
-static inline struct plain_block plain_block(uint32_t n, const uint32_t *table, uint32_t p)
+/* The neighbour, or PLAIN_NONE off the sheet. The level is counted from the root:
+ * the links up from where the way turns, and those back down. */
+static inline struct plain_block plain_search(uint32_t n, const uint32_t *table, uint32_t p, uint32_t direction)
 {
-    struct plain_block b = {p, n};
-    while ((p = plain_node(table, p)[0]) != PLAIN_NONE)
-        b.level--;
-    return b;
-}
-
-/* The neighbour, or PLAIN_NONE off the sheet. Its level is the node's own and one
- * more for each link up that is not followed back down. */
-static inline struct plain_block plain_search(const uint32_t *table, struct plain_block b, uint32_t direction)
-{
-    uint32_t open = plain_crossed(direction), leaving = plain_leaving(direction);
-    uint32_t p = b.node, way = 0, links = 0;
+    uint32_t open = plain_crossed(direction), leaving = plain_leaving(direction), way = 0, links = 0;
     for (; open != 0; links++) {
         uint32_t father = plain_node(table, p)[0];
         if (father == PLAIN_NONE)
@@ -74,9 +64,12 @@ static inline struct plain_block plain_search(const uint32_t *table, struct plai
         open &= ~(quadrant ^ leaving);
         p = father;
     }
-    for (; links > 0 && plain_is_fork(table, p); links--, way >>= 2)
-        p = plain_son(table, p, way & 3);
-    return (struct plain_block){p, b.level + links};
+    struct plain_block b = {p, n};
+    while ((p = plain_node(table, p)[0]) != PLAIN_NONE)
+        b.level--;
+    for (; links > 0 && plain_is_fork(table, b.node); links--, way >>= 2, b.level--)
+        b.node = plain_son(table, b.node, way & 3);
+    return b;
 }
 
 /* From a block down to its leaf in one corner. */
