@@ -8,6 +8,7 @@
 #include <string.h>
 
 #include "plain/bits.h"
+#include "plain/pixels.h"
 #include "plain/plain.h"
 
 #define NONE UINT32_MAX
@@ -93,41 +94,22 @@ static uint32_t count_forks(struct building *b, uint64_t *seen)
     return forks;
 }
 
-/* The words of a fork of four pixels and of those, less the numbers: each word is
- * this one, and the fork's number where the other says so. A fork's father is
- * another's to write. */
-#define PIXEL(black) 0, NONE, NONE, NONE, NONE, black
-#define PIXELS(k) {0, 1, 2, 3, 4, FORK, PIXEL(k & 1), PIXEL(k >> 1 & 1), PIXEL(k >> 2 & 1), PIXEL(k >> 3)}
-static const uint32_t four_pixels[16][30] = {
-    PIXELS(0), PIXELS(1), PIXELS(2),  PIXELS(3),  PIXELS(4),  PIXELS(5),  PIXELS(6),  PIXELS(7),
-    PIXELS(8), PIXELS(9), PIXELS(10), PIXELS(11), PIXELS(12), PIXELS(13), PIXELS(14), PIXELS(15)};
-#define NUMBERED NONE, 0, 0, 0, 0, 0
-static const uint32_t numbered[30] = {0, NONE, NONE, NONE, NONE, 0, NUMBERED, NUMBERED, NUMBERED, NUMBERED};
-
-static inline void write_node(uint32_t *words, uint32_t father, uint32_t type)
+static inline void write_leaf(struct building *b, uint32_t father, uint32_t type)
 {
+    uint32_t *words = b->table + (size_t)b->number++ * 6;
     words[0] = father;
     words[1] = words[2] = words[3] = words[4] = NONE;
     words[5] = type;
 }
 
-static inline void write_leaf(struct building *b, uint32_t father, uint32_t type)
-{
-    write_node(b->table + (size_t)b->number++ * 6, father, type);
-}
-
 /* Writes a block of two pixels' side. */
 static inline void write_pair(struct building *b, uint32_t father, uint64_t bits, uint64_t unlike)
 {
-    uint32_t *restrict words = b->table + (size_t)b->number * 6, me = b->number;
     if ((unlike & 1) == 0) {
         write_leaf(b, father, bits & 1);
         return;
     }
-    const uint32_t *pixels = four_pixels[(bits & 3) | (bits >> 6 & 12)];
-    for (int i = 0; i < 30; i++)
-        words[i] = pixels[i] + (numbered[i] & me);
-    words[0] = father;
+    plain_write_pixels(b->table, b->number, father, (bits & 3) | (bits >> 6 & 12));
     b->number += 5;
 }
 

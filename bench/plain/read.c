@@ -1,9 +1,13 @@
 /*
  * Reading for speed: one pass over the records, fork by fork, accepts a sound
- * file and counts, a second one writes the nodes. Only if the first fails does an
- * ordered pass run, to name the first fault: of each open fork it keeps the sons
- * still to come, and which types have come, as bits.
+ * file and counts, a second one writes the nodes; four pixels are taken at once.
+ * Only if the first fails does an ordered pass run, to name the first fault: of
+ * each open fork it keeps the sons still to come, and which types have come, as
+ * bits.
  */
+#include <string.h>
+
+#include "plain/pixels.h"
 #include "plain/plain.h"
 
 #define NONE UINT32_MAX
@@ -69,17 +73,52 @@ static uint64_t block_fault(const uint8_t *file, size_t len)
     }
 }
 
+/* The records of four pixels; the low byte of a number comes first. */
+struct four {
+    uint64_t first;
+    uint32_t last;
+};
+
+static inline struct four four_at(const uint8_t *file, size_t at)
+{
+    struct four f;
+    memcpy(&f.first, file + at, sizeof f.first);
+    memcpy(&f.last, file + at + sizeof f.first, sizeof f.last);
+    return f;
+}
+
+/* Which of them are black, as bits. */
+static inline uint32_t colours_of(struct four f)
+{
+    return (f.first >> 16 & 1) | (f.first >> 39 & 2) | (f.last & 1) << 2 | (f.last >> 21 & 8);
+}
+
+/* The place after the records of four pixels that are not all alike, or 0. */
+static inline size_t end_of_pixels(const uint8_t *file, size_t len, size_t at)
+{
+    if (len - at < 4 * RECORD_SIZE)
+        return 0;
+    struct four f = four_at(file, at);
+    if ((f.first & ~UINT64_C(0x0000010000010000)) != UINT64_C(0x4e51004e51004e51) ||
+        (f.last & ~UINT32_C(0x01000001)) != UINT32_C(0x004e5100))
+        return 0;
+    uint32_t colours = colours_of(f);
+    return colours == 0 || colours == 15 ? 0 : at + 4 * RECORD_SIZE;
+}
+
 /* The place after four sound blocks of this level, or 0. */
 static size_t end_of_four(const uint8_t *file, size_t len, uint32_t level, size_t at)
 {
     uint32_t seen = 0;
+    if (level == 0)
+        return end_of_pixels(file, len, at);
     for (int quadrant = 0; quadrant < 4; quadrant++) {
         if (!is_record(file, len, at))
             return 0;
         uint32_t type = file[at + 2];
         at += RECORD_SIZE;
         seen |= 1u << type;
-        if (type == FORK && (level == 0 || (at = end_of_four(file, len, level - 1, at)) == 0))
+        if (type == FORK && (at = end_of_four(file, len, level - 1, at)) == 0)
             return 0;
     }
     return seen == 1 || seen == 2 ? 0 : at;
@@ -95,9 +134,14 @@ static size_t end_of_block(const uint8_t *file, size_t len)
     return file[2] == 0 ? 0 : end_of_four(file, len, file[2] - 1u, HEADER_SIZE + RECORD_SIZE);
 }
 
+static size_t place_of(uint32_t node)
+{
+    return HEADER_SIZE + (size_t)node * RECORD_SIZE;
+}
+
 static uint32_t type_of(const uint8_t *file, uint32_t node)
 {
-    return file[HEADER_SIZE + (size_t)node * RECORD_SIZE + 2];
+    return file[place_of(node) + 2];
 }
 
 static void write_leaf(uint32_t *words, uint32_t father, uint32_t type)
@@ -107,17 +151,21 @@ static void write_leaf(uint32_t *words, uint32_t father, uint32_t type)
     words[5] = type;
 }
 
-/* Writes a fork and all below it, and gives back the next node. */
-static uint32_t write_fork(const uint8_t *file, uint32_t *table, uint32_t fork, uint32_t father)
+/* Writes a fork of this level and all below it, and gives back the next node. */
+static uint32_t write_fork(const uint8_t *file, uint32_t *table, uint32_t level, uint32_t fork, uint32_t father)
 {
     uint32_t *words = table + (size_t)fork * 6, next = fork + 1;
+    if (level == 1) {
+        plain_write_pixels(table, fork, father, colours_of(four_at(file, place_of(next))));
+        return next + 4;
+    }
     words[0] = father;
     words[5] = FORK;
     for (int quadrant = 0; quadrant < 4; quadrant++) {
         uint32_t type = type_of(file, next);
         words[1 + quadrant] = next;
         if (type == FORK)
-            next = write_fork(file, table, next, fork);
+            next = write_fork(file, table, level - 1, next, fork);
         else
             write_leaf(table + (size_t)next++ * 6, fork, type);
     }
@@ -128,7 +176,7 @@ static void write_nodes(const uint8_t *file, uint32_t *table)
 {
     uint32_t type = type_of(file, 0);
     if (type == FORK)
-        write_fork(file, table, 0, NONE);
+        write_fork(file, table, file[2], 0, NONE);
     else
         write_leaf(table, NONE, type);
 }
