@@ -51,7 +51,8 @@ static void paint_fork(const struct painting *p, uint32_t fork, uint32_t level, 
         return;
     }
     for (size_t quadrant = 0; quadrant < 4; quadrant++) {
-        uint8_t *quarter = at + (quadrant % 2) * half + ((quadrant / 2 * half) << p->n), type = type_of(p, sons[quadrant]);
+        uint8_t *quarter = at + (quadrant % 2) * half + ((quadrant / 2 * half) << p->n);
+        uint8_t type = type_of(p, sons[quadrant]);
         if (type == 2)
             paint_fork(p, sons[quadrant], level - 1, quarter);
         else

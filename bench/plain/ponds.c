@@ -33,7 +33,9 @@ static inline uint32_t type_of(const struct water *w, uint32_t p)
 static inline uint32_t rank(const struct plain_line *l, uint32_t x)
 {
     uint64_t up_to = (UINT64_C(2) << x % 64) - 1;
-    return x < 64 ? plain_bits_set(l->bits[0] & up_to) : plain_bits_set(l->bits[0]) + plain_bits_set(l->bits[1] & up_to);
+    if (x < 64)
+        return plain_bits_set(l->bits[0] & up_to);
+    return plain_bits_set(l->bits[0]) + plain_bits_set(l->bits[1] & up_to);
 }
 
 /* The bits that are set where the one before is not, and where the next is not. */
