@@ -29,7 +29,7 @@
 #include "support/question.h"
 #include "support/stack.h"
 
-enum { LOWEST = 3, EARLY = 4, HIGHEST = SHEET_HIGHEST_LEVEL, SAMPLES_OF_A_CALL = 3000 };
+enum { LOWEST = 3, EARLY = 4, HIGHEST = SHEET_HIGHEST_LEVEL, SAMPLES_OF_A_CALL = 10000 };
 
 enum { PROVED, PLAIN, FLOOR, CHECK, PLAIN_CHECK };
 
@@ -52,6 +52,12 @@ struct summary {
     double to_plain, to_floor;
     char where[40]; /* to_plain was met */
     size_t stack, plain_stack;
+};
+
+/* A line's times, its units, and the nodes or pixels that were gone through. */
+struct line {
+    struct times times;
+    double units, work;
 };
 
 static struct input input;
@@ -168,11 +174,6 @@ static const char *unit_of(enum call call)
     return call_searches(call) ? "call" : counts_pixels(call) ? "pixel" : "node";
 }
 
-static size_t units_of_input(enum call call)
-{
-    return call_searches(call) ? input.questions : counts_pixels(call) ? input.pixels : input.nodes;
-}
-
 static void print_head(enum call call)
 {
     printf("sheet_%s: nanoseconds a %s\n%-24s %5ss %8s %8s %8s %8s %8s", call_form[call].name, unit_of(call), "",
@@ -180,28 +181,36 @@ static void print_head(enum call call)
     printf(call_searches(call) ? " %8s %8s\n" : "\n", "check", "/check");
 }
 
-static void print_line(enum call call, const char *where, uint32_t level, const double *taken)
+static void print_line(enum call call, const char *where, uint32_t level, const struct line *l)
 {
-    double unit = (double)units_of_input(call), proved = taken[PROVED];
-    printf("%-18s n %-3u %6.0f %8.2f %8.2f %8.3f %8.2f %8.2f", where, (unsigned)level, unit, proved / unit, taken[PLAIN] / unit,
-           taken[FLOOR] / unit, proved / taken[PLAIN], proved / taken[FLOOR]);
+    const double *taken = l->times.taken, *to = l->times.first_to;
+    printf("%-18s n %-3u %6.0f %8.2f %8.2f %8.3f %8.2f %8.2f", where, (unsigned)level, l->units,
+           taken[PROVED] / l->units, taken[PLAIN] / l->units, taken[FLOOR] / l->units, to[PLAIN], to[FLOOR]);
     if (call_searches(call))
-        printf(" %8.2f %8.2f", taken[CHECK] / unit, proved / taken[CHECK]);
+        printf(" %8.2f %8.2f", taken[CHECK] / l->units, to[CHECK]);
     printf("\n");
     fflush(stdout);
 }
 
-static void print_growth(const char *where, const double *a_unit, const double *early)
+static double growth(const struct line *late, const struct line *early, int rival)
 {
-    printf("%-18s n 7/4 %6s %8.2f %8.2f %8.2f\n", where, "", a_unit[PROVED] / early[PROVED], a_unit[PLAIN] / early[PLAIN],
-           a_unit[FLOOR] / early[FLOOR]);
+    return late->times.taken[rival] / late->work / (early->times.taken[rival] / early->work);
+}
+
+/* How much longer a node or a pixel takes at n = 7 than at n = 4. */
+static void print_growth(const char *where, const struct line *late, const struct line *early)
+{
+    printf("%-18s n 7/4 %6s %8.2f %8.2f %8.2f\n", where, "", growth(late, early, PROVED), growth(late, early, PLAIN),
+           growth(late, early, FLOOR));
 }
 
 /* What is left of a call that searches, beyond the check. */
-static void print_search(const char *where, const double *a_unit)
+static void print_search(const struct line *l)
 {
-    double proved = a_unit[PROVED] - a_unit[CHECK], plain = a_unit[PLAIN] - a_unit[PLAIN_CHECK];
-    printf("%-18s n 7   %6s %8.2f %8.2f %8s %8.2f\n", where, "", proved, plain, "", proved / plain);
+    const double *taken = l->times.taken;
+    double proved = taken[PROVED] - taken[CHECK], plain = taken[PLAIN] - taken[PLAIN_CHECK];
+    printf("%-18s n 7   %6s %8.2f %8.2f %8s %8.2f\n", "the search alone", "", proved / l->units, plain / l->units, "",
+           proved / plain);
 }
 
 /* ---- a call */
@@ -226,46 +235,45 @@ static size_t more(size_t a, size_t b)
     return a > b ? a : b;
 }
 
-static void remember(struct summary *s, const char *where, const double *taken)
+static void remember(struct summary *s, const char *where, const struct times *t)
 {
-    if (taken[PROVED] / taken[PLAIN] > s->to_plain)
+    if (t->first_to[PLAIN] > s->to_plain)
         strcpy(s->where, where);
-    s->to_plain = larger(s->to_plain, taken[PROVED] / taken[PLAIN]);
-    s->to_floor = larger(s->to_floor, taken[PROVED] / taken[FLOOR]);
+    s->to_plain = larger(s->to_plain, t->first_to[PLAIN]);
+    s->to_floor = larger(s->to_floor, t->first_to[FLOOR]);
     s->stack = more(s->stack, stack_used(proved_once));
     s->plain_stack = more(s->plain_stack, stack_used(plain_once));
 }
 
-/* Draws an input, times it and prints its line; what a unit takes. Gives 0, and
- * times nothing, where an answer is not right. */
+/* Draws an input, times it and prints its line. Gives 0, and times nothing, where
+ * an answer is not right. */
 static int time_line(enum call call, const struct kind *kind, uint32_t level, int at_random, struct summary *s,
-                     double *a_unit)
+                     struct line *l)
 {
     char where[sizeof s->where];
-    double taken[MOST_RIVALS] = {0};
     snprintf(where, sizeof where, "%s%s", kind->name, at_random ? ", random" : "");
     input_draw(&input, call, kind->pictures, level, at_random);
     if (!agree_on_input())
         return 0;
-    race(&input, rivals, call_searches(call) ? MOST_RIVALS : FLOOR + 1, taken);
-    print_line(call, where, level, taken);
+    l->times = race(&input, rivals, call_searches(call) ? MOST_RIVALS : FLOOR + 1);
+    l->work = (double)(counts_pixels(call) ? input.pixels : input.nodes);
+    l->units = call_searches(call) ? (double)input.questions : l->work;
+    print_line(call, where, level, l);
     if (level == HIGHEST)
-        remember(s, where, taken);
-    for (int r = 0; r < MOST_RIVALS; r++)
-        a_unit[r] = taken[r] / (double)units_of_input(call);
+        remember(s, where, &l->times);
     return 1;
 }
 
 static int time_kind(enum call call, const struct kind *kind, struct summary *s)
 {
-    double a_unit[HIGHEST + 1][MOST_RIVALS], at_random[MOST_RIVALS];
+    struct line line[HIGHEST + 1], at_random;
     for (uint32_t level = LOWEST; level <= HIGHEST; level++)
-        if (!time_line(call, kind, level, 0, s, a_unit[level]))
+        if (!time_line(call, kind, level, 0, s, &line[level]))
             return 0;
-    print_growth(kind->name, a_unit[HIGHEST], a_unit[EARLY]);
+    print_growth(kind->name, &line[HIGHEST], &line[EARLY]);
     if (call_searches(call) && kind->pictures == PICTURE_LONE_PIXEL)
-        print_search("the search alone", a_unit[HIGHEST]);
-    return call == CALL_BUILD || call == CALL_READ || time_line(call, kind, HIGHEST, 1, s, at_random);
+        print_search(&line[HIGHEST]);
+    return call == CALL_BUILD || call == CALL_READ || time_line(call, kind, HIGHEST, 1, s, &at_random);
 }
 
 static int time_call(enum call call, struct summary *s)
@@ -283,27 +291,30 @@ static int time_call(enum call call, struct summary *s)
 
 /* ---- all calls */
 
-/* How many times the others' time a call may take at n = 7; no floor where it is 0. */
-static const struct bound {
-    double plain, floor;
-} usual = {1.15, 0}, of_check = {1.15, 8}, of_long_calls = {1.3, 0};
-
-static const struct bound *bound_of(enum call call)
+/* How many times plain C's time and the floor's a call may take at n = 7; only the
+ * check has a bound for the floor. */
+static double bound_of(enum call call)
 {
-    return call == CALL_CHECK ? &of_check : call == CALL_DISTANCE || call == CALL_PONDS ? &of_long_calls : &usual;
+    return call == CALL_DISTANCE || call == CALL_PONDS ? 1.3 : 1.15;
 }
+
+static const double CHECK_TO_FLOOR = 8;
 
 static void print_summary(enum call call, const struct summary *s)
 {
-    const struct bound *b = bound_of(call);
-    int kept = s->to_plain <= b->plain && (b->floor == 0 || s->to_floor <= b->floor);
-    printf("%-14s %6.2f %6.2f  %-8s %8.2f %6zu  %s\n", call_form[call].name, s->to_plain, b->plain,
-           kept ? "kept" : "not kept", s->to_floor, s->stack, s->where);
+    int kept = s->to_plain <= bound_of(call) && (call != CALL_CHECK || s->to_floor <= CHECK_TO_FLOOR);
+    printf("%-14s %6.2f %6.2f %8.2f ", call_form[call].name, s->to_plain, bound_of(call), s->to_floor);
+    if (call == CALL_CHECK)
+        printf("%6.2f", CHECK_TO_FLOOR);
+    else
+        printf("%6s", "");
+    printf("  %-8s %6zu  %s\n", kept ? "kept" : "not kept", s->stack, s->where);
 }
 
 static void print_table(const struct summary *summaries, int first, int last)
 {
-    printf("%-14s %6s %6s  %-8s %8s %6s  %s\n", "worst at n 7", "/plain", "bound", "", "/floor", "stack", "on");
+    printf("%-14s %6s %6s %8s %6s  %-8s %6s  %s\n", "worst at n 7", "/plain", "bound", "/floor", "bound", "", "stack",
+           "/plain is worst on");
     for (int call = first; call <= last; call++)
         print_summary((enum call)call, &summaries[call]);
 }

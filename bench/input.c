@@ -83,8 +83,10 @@ static void draw_sheet(enum picture_kind kind, uint32_t level, int at_random, st
 /* Each sheet is asked about once, and again until there are questions enough. */
 static void draw_nodes(struct input *in, struct dice *d)
 {
-    for (size_t sheets = in->questions; in->questions < LEAST_QUESTIONS; in->questions++)
+    for (size_t sheets = in->questions; in->questions < LEAST_QUESTIONS; in->questions++) {
         in->question[in->questions] = in->question[in->questions - sheets];
+        in->nodes += in->question[in->questions].lengths[0] / SHEET_NODE_WORDS;
+    }
     for (size_t i = 0; i < in->questions; i++)
         draw_node(&in->question[i], d);
 }

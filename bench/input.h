@@ -22,7 +22,7 @@ enum { LEAST_NODES = 5000, MOST_NODES = SHEET_LONGEST_TABLE / SHEET_NODE_WORDS, 
 enum { LEAST_QUESTIONS = 16, MOST_QUESTIONS = LEAST_NODES / 5 + LEAST_QUESTIONS };
 
 struct input {
-    size_t questions, nodes, pixels;
+    size_t questions, nodes, pixels; /* those of a sheet each time that it is asked about */
     struct question question[MOST_QUESTIONS];
     uint32_t contents[(LEAST_NODES + MOST_NODES) * SHEET_NODE_WORDS]; /* of all sheets: tables, rasters or files */
 };

@@ -4,7 +4,7 @@
 #include <stdlib.h>
 #include <time.h>
 
-enum { TURNS = 151 };
+enum { TURNS = 201 };
 
 static const double TURN_NANOSECONDS = 100000;
 
@@ -39,21 +39,27 @@ static int by_size(const void *a, const void *b)
     return (x > y) - (x < y);
 }
 
-static double median(double *times)
+static double median(double *numbers)
 {
-    qsort(times, TURNS, sizeof *times, by_size);
-    return times[TURNS / 2];
+    qsort(numbers, TURNS, sizeof *numbers, by_size);
+    return numbers[TURNS / 2];
 }
 
-void race(const void *input, rival *const *rivals, size_t count, double *taken)
+struct times race(const void *input, rival *const *rivals, size_t count)
 {
-    static double times[MOST_RIVALS][TURNS];
+    static double taken[MOST_RIVALS][TURNS], first_to[MOST_RIVALS][TURNS];
+    struct times t = {{0}, {0}};
     size_t repeats[MOST_RIVALS];
     for (size_t r = 0; r < count; r++)
         repeats[r] = repeats_for(rivals[r], input);
     for (size_t turn = 0; turn < TURNS; turn++)
-        for (size_t r = 0; r < count; r++)
-            times[r][turn] = time_of(rivals[r], input, repeats[r]);
-    for (size_t r = 0; r < count; r++)
-        taken[r] = median(times[r]);
+        for (size_t r = 0; r < count; r++) {
+            taken[r][turn] = time_of(rivals[r], input, repeats[r]);
+            first_to[r][turn] = taken[0][turn] / taken[r][turn];
+        }
+    for (size_t r = 0; r < count; r++) {
+        t.taken[r] = median(taken[r]);
+        t.first_to[r] = median(first_to[r]);
+    }
+    return t;
 }

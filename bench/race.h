@@ -9,8 +9,14 @@ enum { MOST_RIVALS = 5 };
 
 typedef uint64_t rival(const void *input);
 
-/* Runs the rivals by turns; for each the nanoseconds that one run takes, as the
- * median over many turns. */
-void race(const void *input, rival *const *rivals, size_t count, double *taken);
+/* For each rival the nanoseconds that one run takes, and how many times that the
+ * first one takes: medians over many turns, each of one turn, so that a machine
+ * that becomes slower on the way does no harm. */
+struct times {
+    double taken[MOST_RIVALS], first_to[MOST_RIVALS];
+};
+
+/* Runs the rivals by turns. */
+struct times race(const void *input, rival *const *rivals, size_t count);
 
 #endif
