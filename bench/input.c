@@ -19,7 +19,7 @@ static size_t pixels(void)
     return (size_t)1 << (2 * pic.level);
 }
 
-/* Where the question's sheet goes: the next words that are free. */
+/* Puts a sheet into the next words that are free, and says where. */
 static const void *keep(struct input *in, size_t *used, const void *contents, size_t size)
 {
     uint32_t *to = in->contents + *used;

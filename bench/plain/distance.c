@@ -32,7 +32,7 @@ static void mark(struct sheet *s, uint32_t left, uint32_t top, uint32_t side)
     }
 }
 
-/* Four pixels, the sons of fork p: their types are their distances too. */
+/* Marks four pixels; their types are their distances too. */
 static inline void mark_pixels(struct sheet *s, const uint32_t *sons, uint32_t left, uint32_t top)
 {
     uint64_t type[4];
