@@ -8,7 +8,8 @@
  * takes, a pixel where a call goes between table and raster, or a call where it
  * searches, and how many times the others' time the library takes; after a kind's
  * levels, how a unit's time grows from n = 4 to n = 7, and what a table numbered
- * at random takes. A call that searches is also held against the check alone, and
+ * at random takes. The distance is also held against plain C of the same method, in
+ * the tree, and against two passes over the raster. A call that searches is also held against the check alone, and
  * on the sparse sheets of n = 7, where the check is short, what is left of it when
  * the check is taken away against what is left of plain C. In the end a table has
  * each call's worst at n = 7, its bound, and its stack.
@@ -33,10 +34,17 @@ enum { LOWEST = 3, EARLY = 4, HIGHEST = SHEET_HIGHEST_LEVEL, SAMPLES_OF_A_CALL =
 
 enum { PROVED, PLAIN, FLOOR, CHECK, PLAIN_CHECK };
 
-static const struct calls plain_calls = {
-    plain_check,    plain_build, plain_decode, plain_neighbour, plain_corner_leaf, plain_diagonal_leaf,
-    plain_distance, plain_ponds, plain_read,   plain_write,     plain_centre,
-};
+/* Plain C, with one way or another to the distances. */
+#define PLAIN_CALLS(distance)                                                                             \
+    {                                                                                                     \
+        plain_check, plain_build, plain_decode, plain_neighbour, plain_corner_leaf, plain_diagonal_leaf,  \
+            distance, plain_ponds, plain_read, plain_write, plain_centre                                  \
+    }
+
+static const struct calls plain_calls = PLAIN_CALLS(plain_distance);
+static const struct calls in_tree_calls = PLAIN_CALLS(plain_distance_in_tree);
+static const struct calls two_pass_calls = PLAIN_CALLS(plain_two_pass);
+static const struct calls by_rows_calls = PLAIN_CALLS(plain_two_pass_rows);
 
 static const struct kind {
     const char *name;
@@ -128,18 +136,56 @@ static uint64_t run_plain_check(const void *in)
     return check_all(in, &plain_calls);
 }
 
-static rival *const rivals[MOST_RIVALS] = {run_proved, run_plain, run_floor, run_check, run_plain_check};
+static uint64_t run_in_tree(const void *in)
+{
+    return put_all(in, &in_tree_calls);
+}
+
+static uint64_t run_two_pass(const void *in)
+{
+    return put_all(in, &two_pass_calls);
+}
+
+static uint64_t run_by_rows(const void *in)
+{
+    return put_all(in, &by_rows_calls);
+}
+
+/* The rivals of a call, and which of them stand in its lines beside plain C and the
+ * floor. */
+static const struct field {
+    rival *rivals[MOST_RIVALS];
+    size_t count, also;
+    const char *name[MOST_RIVALS];
+} most_calls = {{run_proved, run_plain, run_floor}, 3, 0, {NULL}},
+  searching = {{run_proved, run_plain, run_floor, run_check, run_plain_check}, 5, 1, {"check"}},
+  distance = {{run_proved, run_plain, run_floor, run_in_tree, run_two_pass, run_by_rows},
+              6,
+              3,
+              {"in tree", "2 passes", "by rows"}};
+
+static const struct field *field_of(enum call call)
+{
+    return call_searches(call) ? &searching : call == CALL_DISTANCE ? &distance : &most_calls;
+}
 
 /* ---- the answers */
 
-static int agree(const struct question *q)
+static int is_answered_by(const struct question *q, const struct calls *to)
 {
-    struct outcome proved = question_ask(q), plain = question_ask_of(q, &plain_calls);
-    if (outcome_is_right(&proved) && outcome_is_right(&plain))
+    struct outcome o = question_ask_of(q, to);
+    if (outcome_is_right(&o))
         return 1;
     printf("the answers differ:\n");
-    question_print(stdout, q, outcome_is_right(&proved) ? &plain : &proved);
+    question_print(stdout, q, &o);
     return 0;
+}
+
+static int agree(const struct question *q)
+{
+    return is_answered_by(q, &library_calls) && is_answered_by(q, &plain_calls) &&
+           (q->call != CALL_DISTANCE || (is_answered_by(q, &in_tree_calls) && is_answered_by(q, &two_pass_calls) &&
+                                         is_answered_by(q, &by_rows_calls)));
 }
 
 static int agree_on_samples(enum call call)
@@ -178,7 +224,9 @@ static void print_head(enum call call)
 {
     printf("sheet_%s: nanoseconds a %s\n%-24s %5ss %8s %8s %8s %8s %8s", call_form[call].name, unit_of(call), "",
            unit_of(call), "proved", "plain", "floor", "/plain", "/floor");
-    printf(call_searches(call) ? " %8s %8s\n" : "\n", "check", "/check");
+    for (size_t i = 0; i < field_of(call)->also; i++)
+        printf(" %8s %8s", field_of(call)->name[i], "/it");
+    printf("\n");
 }
 
 static void print_line(enum call call, const char *where, uint32_t level, const struct line *l)
@@ -186,8 +234,8 @@ static void print_line(enum call call, const char *where, uint32_t level, const 
     const double *taken = l->times.taken, *to = l->times.first_to;
     printf("%-18s n %-3u %6.0f %8.2f %8.2f %8.3f %8.2f %8.2f", where, (unsigned)level, l->units,
            taken[PROVED] / l->units, taken[PLAIN] / l->units, taken[FLOOR] / l->units, to[PLAIN], to[FLOOR]);
-    if (call_searches(call))
-        printf(" %8.2f %8.2f", taken[CHECK] / l->units, to[CHECK]);
+    for (size_t i = 0; i < field_of(call)->also; i++)
+        printf(" %8.2f %8.2f", taken[FLOOR + 1 + i] / l->units, to[FLOOR + 1 + i]);
     printf("\n");
     fflush(stdout);
 }
@@ -198,10 +246,14 @@ static double growth(const struct line *late, const struct line *early, int riva
 }
 
 /* How much longer a node or a pixel takes at n = 7 than at n = 4. */
-static void print_growth(const char *where, const struct line *late, const struct line *early)
+static void print_growth(enum call call, const char *where, const struct line *late, const struct line *early)
 {
-    printf("%-18s n 7/4 %6s %8.2f %8.2f %8.2f\n", where, "", growth(late, early, PROVED), growth(late, early, PLAIN),
+    printf("%-18s n 7/4 %6s %8.2f %8.2f %8.2f", where, "", growth(late, early, PROVED), growth(late, early, PLAIN),
            growth(late, early, FLOOR));
+    if (call == CALL_DISTANCE)
+        printf(" %17s %8.2f %8s %8.2f %8s %8.2f", "", growth(late, early, FLOOR + 1), "", growth(late, early, FLOOR + 2), "",
+               growth(late, early, FLOOR + 3));
+    printf("\n");
 }
 
 /* What is left of a call that searches, beyond the check; taken from the ratios, since
@@ -256,7 +308,7 @@ static int time_line(enum call call, const struct kind *kind, uint32_t level, in
     input_draw(&input, call, kind->pictures, level, at_random);
     if (!agree_on_input())
         return 0;
-    l->times = race(&input, rivals, call_searches(call) ? MOST_RIVALS : FLOOR + 1);
+    l->times = race(&input, field_of(call)->rivals, field_of(call)->count);
     l->work = (double)(counts_pixels(call) ? input.pixels : input.nodes);
     l->units = call_searches(call) ? (double)input.questions : l->work;
     print_line(call, where, level, l);
@@ -271,7 +323,7 @@ static int time_kind(enum call call, const struct kind *kind, struct summary *s)
     for (uint32_t level = LOWEST; level <= HIGHEST; level++)
         if (!time_line(call, kind, level, 0, s, &line[level]))
             return 0;
-    print_growth(kind->name, &line[HIGHEST], &line[EARLY]);
+    print_growth(call, kind->name, &line[HIGHEST], &line[EARLY]);
     if (call_searches(call) && kind->pictures == PICTURE_LONE_PIXEL)
         print_search(&line[HIGHEST]);
     return call == CALL_BUILD || call == CALL_READ || time_line(call, kind, HIGHEST, 1, s, &at_random);

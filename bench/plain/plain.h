@@ -14,6 +14,14 @@ uint64_t plain_corner_leaf(uint32_t n, const uint32_t *table, size_t table_len, 
                            uint32_t corner);
 uint64_t plain_diagonal_leaf(uint32_t n, const uint32_t *table, size_t table_len, uint32_t node, uint32_t corner);
 uint64_t plain_distance(uint32_t n, const uint32_t *table, size_t table_len, uint32_t *distances, size_t distances_len);
+/* The distances by document 001's method, and by two passes over the raster, pixel
+ * by pixel as the books have it, and with whole rows taken at once. */
+uint64_t plain_distance_in_tree(uint32_t n, const uint32_t *table, size_t table_len, uint32_t *distances,
+                                size_t distances_len);
+uint64_t plain_two_pass(uint32_t n, const uint32_t *table, size_t table_len, uint32_t *distances, size_t distances_len);
+uint64_t plain_two_pass_rows(uint32_t n, const uint32_t *table, size_t table_len, uint32_t *distances,
+                             size_t distances_len);
+
 uint64_t plain_ponds(uint32_t n, const uint32_t *table, size_t table_len, uint32_t *numbers, size_t numbers_len,
                      uint32_t *reg, size_t reg_len);
 uint64_t plain_read(const uint8_t *file, size_t file_len, uint32_t *table, size_t table_len);
