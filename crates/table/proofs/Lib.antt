@@ -7,6 +7,7 @@ pub mod PictureLaws
 pub mod FamilyLaws
 pub mod SizeLaws
 pub mod SeenLaws
+pub mod OrderLaws
 pub mod SoundLaws
 pub mod SoundExactly
 pub mod PreorderLaws

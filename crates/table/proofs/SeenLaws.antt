@@ -1,12 +1,12 @@
 -- The fast check, function by function: what each return says of the definitions, what a fork is whose sons fit, and that no count passes a word.
 use mathlib.Core.Bool.{Bool, true, false, not, cond}
 use mathlib.Core.List.{List}
-use mathlib.Core.Path.{_≡_, ap, sym, _∙_}
+use mathlib.Core.Path.{_≡_, refl, ap, sym, _∙_}
 use Prim.Native.Nat.{ℕ, zero, suc, _+_, _-_, _*_, _^_, _≤_, _<_}
 use native.Mathlib.Nat.{pow-le-pow-right, pow-succ'}
 use native.Mathlib.Omega.{arith}
 use lib.Dec.{leb, eqb}
-use borrow.Author.Tests.{leb-false, ltb-true, le-ltb, lt-ltb, eq-eqb, ne-eqb, eqb-true, not-true}
+use borrow.Author.Tests.{leb-false, ltb-true, le-ltb, lt-ltb, lt-leb, eq-eqb, ne-eqb, eqb-true, not-true}
 use Rattle.base.proofs.BoolLaws.{on, off}
 use Rattle.base.proofs.CaseLaws.{cond-case, past, through}
 use Rattle.quad.specs.Numbers.{topLevel, topColour, forkType, none}
@@ -153,6 +153,26 @@ all-are k a b c d e =
     let z = through (eqb c k) _ (y .1) in
     (eqb-true a k (x .0), eqb-true b k (y .0), eqb-true c k (z .0), eqb-true d k (z .1))
 
+-- and the other way round: what makes each test true
+between-true : (p N a b c d : ℕ) → p < a → p < b → p < c → p < d → Four N a b c d → between p N a b c d ≡ true
+unfolding between
+between-true p N a b c d pa pb pc pd f =
+    rw (lt-leb a p pa, lt-leb b p pb, lt-leb c p pc, lt-leb d p pd, lt-leb N a (f .nw), lt-leb N b (f .ne), lt-leb N c (f .sw), lt-ltb d N (f .se))
+
+different-true : (a b c d : ℕ) → Apart a b c d → different a b c d ≡ true
+unfolding different
+different-true a b c d h = rw (h .ab, h .ac, h .ad, h .bc, h .bd, h .cd)
+
+pub all-are-true : (k a b c d : ℕ) → a ≡ k → b ≡ k → c ≡ k → d ≡ k → allAre k a b c d ≡ true
+unfolding allAre
+all-are-true k a b c d ea eb ec ed = rw (eq-eqb a k ea, eq-eqb b k eb, eq-eqb c k ec, eq-eqb d k ed)
+
+pub added-all : (g : ℕ → ℕ) → ((q : ℕ) → q < 4 → 0 < g q) → added g 4 0 1 ≡ 1 + (g 0 + g 1 + g 2 + g 3)
+unfolding added
+added-all g h =
+    let z : (q : ℕ) → q < 4 → eqb (g q) 0 ≡ false = λ q q4. ne-eqb (g q) 0 (λ e. omega (arith, h q q4)) in
+    rw (z 0 (omega arith), z 1 (omega arith), z 2 (omega arith), z 3 (omega arith)) (omega arith)
+
 -- what the sons of a fork are that fit
 pub record SonsFit (T : List ℕ) (p : ℕ) : Type 0 where
   pub sons : SonsIn T p
@@ -176,6 +196,18 @@ sons-fit T p e =
       apart = different-apart _ _ _ _ (y .0);
       unlike = not-true _ (z .1);
     }
+
+pub fit-sons : (T : List ℕ) (p : ℕ) → SonsFit T p → forkOk T p ≡ true
+unfolding forkOk fits fatherOf
+fit-sons T p s =
+    let a = s .sons 0 (omega arith) in
+    let b = s .sons 1 (omega arith) in
+    let c = s .sons 2 (omega arith) in
+    let d = s .sons 3 (omega arith) in
+    let x = between-true p (nodes T) _ _ _ _ (a .above) (b .above) (c .above) (d .above) (record { nw = a .below; ne = b .below; sw = c .below; se = d .below }) in
+    let y = different-true _ _ _ _ (s .apart) in
+    let z = all-are-true p _ _ _ _ (a .up) (b .up) (c .up) (d .up) in
+    rw (x, y, z, s .unlike)
 
 pub son-node : (T : List ℕ) (p q : ℕ) → forkOk T p ≡ true → q < 4 → son T p q < nodes T
 son-node T p q e q4 = sons-fit T p e .sons q q4 .below
@@ -229,6 +261,9 @@ module _ (n : ℕ) (T : List ℕ) (f : ℕ) (e : f ≡ father T 0) where
   pub sound-count : (N x : ℕ) → f ≡ none → N ≡ nodes T → x ≡ seenOf T n 0 → eqb N x ≡ soundOf n T
   unfolding soundOf
   sound-count N x h d g = rw (← e, eq-eqb f none h, d, g)
+
+  pub sound-seen : (r : Bool) → f ≡ none → r ≡ eqb (nodes T) (seenOf T n 0) → r ≡ soundOf n T
+  sound-seen r h g = g ∙ sound-count (nodes T) (seenOf T n 0) h refl refl
 
   pub sound-leaf : (N k : ℕ) (u : Bool) → f ≡ none → N ≡ nodes T → k ≡ type T 0 → (k ≡ forkType → ⊥) → u ≡ leafOk T 0 → not u ≡ false → eqb N 1 ≡ soundOf n T
   sound-leaf N k u h d t z v w = sound-count N 1 h d (sym (seen-leaf T n 0 (told-leaf T 0 k t z) (on u _ v w)))

@@ -7,7 +7,7 @@ use mathlib.Core.Path.{_≡_, refl, ap, sym, _∙_}
 use Prim.Native.Nat.{ℕ, zero, suc, _+_, _-_, _<_}
 use native.Mathlib.Omega.{arith}
 use lib.Dec.{eqb}
-use borrow.Author.Tests.{eq-eqb, ne-eqb, eqb-true, lt-ltb, le-ltb, lt-leb}
+use borrow.Author.Tests.{eq-eqb, ne-eqb, eqb-true, le-ltb}
 use Rattle.base.proofs.BoolLaws.{by-bool}
 use Rattle.base.proofs.CaseLaws.{past, through}
 use Rattle.quad.specs.Numbers.{topColour, forkType, none}
@@ -16,31 +16,12 @@ use Rattle.quad.proofs.TreeLaws.{by-quadrant, size-pos}
 use Rattle.table.specs.Table.{nodes, father, son, type, isFork}
 use Rattle.table.specs.Rules.{depthTo, Sized, Accepted}
 use Rattle.table.specs.Nodes.{treeAt}
-use Rattle.table.specs.Seen.{Four, between, different, allAre, fatherOf, likeLeaves, fits, forkOk, leafOk, added, seenOf, soundOf}
+use Rattle.table.specs.Seen.{likeLeaves, forkOk, leafOk, added, seenOf, soundOf}
 use Rattle.table.proofs.RuleLaws.{depth-root}
 use Rattle.table.proofs.AcceptedLaws.{tree-leaf, tree-fork, root-father, sons-of, leaf-sons, leaf-colour, sonType-only, not-alike, fork-deep, depth-son}
 use Rattle.table.proofs.SizeLaws.{tree-size}
-use Rattle.table.proofs.SeenLaws.{Apart, sonsSeen, seen-leaf, seen-fork}
+use Rattle.table.proofs.SeenLaws.{sonsSeen, seen-leaf, seen-fork, all-are-true, added-all, fit-sons}
 use Rattle.table.proofs.SoundLaws.{sound-faultless}
-
-between-true : (p N a b c d : ℕ) → p < a → p < b → p < c → p < d → Four N a b c d → between p N a b c d ≡ true
-unfolding between
-between-true p N a b c d pa pb pc pd f =
-    rw (lt-leb a p pa, lt-leb b p pb, lt-leb c p pc, lt-leb d p pd, lt-leb N a (f .nw), lt-leb N b (f .ne), lt-leb N c (f .sw), lt-ltb d N (f .se))
-
-different-true : (a b c d : ℕ) → Apart a b c d → different a b c d ≡ true
-unfolding different
-different-true a b c d h = rw (h .ab, h .ac, h .ad, h .bc, h .bd, h .cd)
-
-all-are-true : (k a b c d : ℕ) → a ≡ k → b ≡ k → c ≡ k → d ≡ k → allAre k a b c d ≡ true
-unfolding allAre
-all-are-true k a b c d ea eb ec ed = rw (eq-eqb a k ea, eq-eqb b k eb, eq-eqb c k ec, eq-eqb d k ed)
-
-added-all : (g : ℕ → ℕ) → ((q : ℕ) → q < 4 → 0 < g q) → added g 4 0 1 ≡ 1 + (g 0 + g 1 + g 2 + g 3)
-unfolding added
-added-all g h =
-    let z : (q : ℕ) → q < 4 → eqb (g q) 0 ≡ false = λ q q4. ne-eqb (g q) 0 (λ e. omega (arith, h q q4)) in
-    rw (z 0 (omega arith), z 1 (omega arith), z 2 (omega arith), z 3 (omega arith)) (omega arith)
 
 module _ (n : ℕ) (T : List ℕ) (acc : Accepted n T) where
   -- no two sons are one node
@@ -67,25 +48,20 @@ module _ (n : ℕ) (T : List ℕ) (acc : Accepted n T) where
           (sym (eqb-true _ _ (y .0))) (sym (eqb-true _ _ (z .0))) (sym (eqb-true _ _ (z .1)))))
 
   fork-fits : (p : ℕ) → p < nodes T → isFork T p ≡ true → forkOk T p ≡ true
-  unfolding forkOk fits fatherOf
   fork-fits p lt f =
-      let s = sons-of n T acc p lt f in
-      let a = s 0 (omega arith) in
-      let b = s 1 (omega arith) in
-      let c = s 2 (omega arith) in
-      let d = s 3 (omega arith) in
       let apart = sons-apart p lt f in
-      let x = between-true p (nodes T) _ _ _ _ (a .above) (b .above) (c .above) (d .above) (record { nw = a .below; ne = b .below; sw = c .below; se = d .below }) in
-      let y = different-true (son T p 0) (son T p 1) (son T p 2) (son T p 3) (record {
-        ab = apart 0 1 (omega arith) (omega arith) (λ e. omega arith);
-        ac = apart 0 2 (omega arith) (omega arith) (λ e. omega arith);
-        ad = apart 0 3 (omega arith) (omega arith) (λ e. omega arith);
-        bc = apart 1 2 (omega arith) (omega arith) (λ e. omega arith);
-        bd = apart 1 3 (omega arith) (omega arith) (λ e. omega arith);
-        cd = apart 2 3 (omega arith) (omega arith) (λ e. omega arith);
-      }) in
-      let z = all-are-true p _ _ _ _ (a .up) (b .up) (c .up) (d .up) in
-      rw (x, y, z, not-like p lt f)
+      fit-sons T p (record {
+        sons = sons-of n T acc p lt f;
+        apart = record {
+          ab = apart 0 1 (omega arith) (omega arith) (λ e. omega arith);
+          ac = apart 0 2 (omega arith) (omega arith) (λ e. omega arith);
+          ad = apart 0 3 (omega arith) (omega arith) (λ e. omega arith);
+          bc = apart 1 2 (omega arith) (omega arith) (λ e. omega arith);
+          bd = apart 1 3 (omega arith) (omega arith) (λ e. omega arith);
+          cd = apart 2 3 (omega arith) (omega arith) (λ e. omega arith);
+        };
+        unlike = not-like p lt f;
+      })
 
   leaf-fits : (p : ℕ) → p < nodes T → isFork T p ≡ false → leafOk T p ≡ true
   unfolding leafOk

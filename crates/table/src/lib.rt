@@ -14,6 +14,7 @@ ghost use Rattle.table.specs.Nodes.{sonType};
 ghost use Rattle.table.specs.Links.{Rising, SonsIn};
 
 pub mod block;
+mod order;
 mod seen;
 
 // The node count.

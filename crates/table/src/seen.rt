@@ -1,9 +1,10 @@
-// Accepting a sound table in one pass from the root down: each fork is seen once, its level in hand, and its four sons are tested there. A node has one father
+// Accepting a sound table, in any numbering, in one pass from the root down: each fork is seen once, its level in hand, and its four sons are tested there. A node has one father
 // word, so it is seen at most once; the table is sound if all its nodes are seen.
 use crate::word_at;
 ghost use mathlib.Core.Path.{_≡_};
 ghost use mathlib.Core.Bool.{true};
 ghost use Prim.Native.Nat.{_<_, _≤_};
+ghost use lib.Dec.{eqb};
 ghost use Rattle.quad.specs.Numbers.{topLevel};
 ghost use Rattle.table.specs.Table.{nodes, isFork};
 ghost use Rattle.table.specs.Rules.{Sized};
@@ -90,7 +91,7 @@ fn is_father(table: &[u32], p: usize, nw: usize, ne: usize, sw: usize, se: usize
 }
 
 // Whether four nodes are like leaves.
-fn are_like(table: &[u32], nw: usize, ne: usize, sw: usize, se: usize) -> bool
+pub fn are_like(table: &[u32], nw: usize, ne: usize, sw: usize, se: usize) -> bool
     requires { ⌜ Four (nodes (now table)) nw ne sw se ⌝ }
     ensures { λ r. ⌜ r ≡ likeLeaves (now (table .entry)) nw ne sw se ⌝ }
 {
@@ -184,6 +185,18 @@ fn seen(table: &[u32], count: usize, level: u32, p: usize) -> usize
     all
 }
 
+// Whether all nodes are seen from a root that is a fork. A table in preorder is gone through in order, and only another one link by link.
+fn all_seen(n: u32, table: &[u32], count: usize) -> bool
+    requires { ⌜ Sized n (now table) × (isFork (now table) 0 ≡ true) × (count ≡ nodes (now table)) ⌝ }
+    ensures { λ r. ⌜ r ≡ eqb (nodes (now (table .entry))) (seenOf (now (table .entry)) n 0) ⌝ }
+{
+    let all = count as u32;
+    if crate::order::in_order(table, all, n, 0) == all {
+        return true;
+    }
+    count == seen(table, count, n, 0)
+}
+
 // Whether the table is sound: the root has no father, and all nodes are seen from it.
 pub fn sound(n: u32, table: &[u32]) -> bool
     requires { ⌜ Sized n (now table) ⌝ }
@@ -194,7 +207,7 @@ pub fn sound(n: u32, table: &[u32]) -> bool
     }
     let count = crate::node_count(table);
     if word_at(table, 0, 5) == quad::FORK {
-        return count == seen(table, count, n, 0);
+        return all_seen(n, table, count);
     }
     if !leaf_ok(table, 0) {
         return false;

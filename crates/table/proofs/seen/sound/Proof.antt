@@ -1,5 +1,5 @@
 -- `table::seen::sound`: the root's father word, and then a fork or a leaf at the root. Assumes nothing.
-use Rattle.table.proofs.SeenLaws.{told-fork, sound-father, sound-count, sound-leaf, sound-no-leaf}
+use Rattle.table.proofs.SeenLaws.{told-fork, sound-father, sound-seen, sound-leaf, sound-no-leaf}
 use borrow.Author.Needs.{needs}
 use Rattle.table.proofs.seen.sound.Statement.{statement}
 use Rattle.table.proofs.seen.sound.Tie as tie
@@ -16,13 +16,13 @@ node-count-requires c κs = search needs
 word-at-requires-2 : tie.Need-word-at-requires-2
 word-at-requires-2 c κs = search needs
 
-seen-requires : tie.Need-seen-requires
-seen-requires c κs =
+all-seen-requires : tie.Need-all-seen-requires
+all-seen-requires c κs =
     let s = c .before .before .before .before .before .before in
-    (s .pre .some, told-fork (s .args .table .now) 0 _ (c .before .word-at2 .ensures) (c .if2 .taken), c .before .before .node-count .ensures, s .pre .level)
+    (s .pre, told-fork (s .args .table .now) 0 _ (c .before .word-at2 .ensures) (c .if2 .taken), c .before .before .node-count .ensures)
 
 returns-2 : tie.Need-returns-2
-returns-2 c = search (sound-count, needs)
+returns-2 c = search (sound-seen, needs)
 
 leaf-ok-requires : tie.Need-leaf-ok-requires
 leaf-ok-requires c κs = search needs
@@ -41,7 +41,7 @@ sound-spec =
     returns
     node-count-requires
     word-at-requires-2
-    seen-requires
+    all-seen-requires
     returns-2
     leaf-ok-requires
     returns-3
