@@ -1,6 +1,6 @@
 -- A table in preorder, as the pass that knows each number beforehand goes through it: the sons passed so far stand one after the other, each behind all that is seen
 -- from its brother (`Passing`). Where all four are passed, they are what a fork's sons must be, and the fork is seen with all below it.
-use mathlib.Core.Bool.{Bool, true, false, not}
+use mathlib.Core.Bool.{Bool, true, false, not, cond, true≢false}
 use mathlib.Core.List.{List}
 use mathlib.Core.Logic.{⊎-elim}
 use mathlib.Core.Path.{_≡_, refl, ap, sym, _∙_}
@@ -14,13 +14,14 @@ use borrow.Author.Tests.{eq-eqb, ne-eqb, eqb-true, eqb-false, ltb-false, le-ltb}
 use Rattle.base.specs.Tab.{sum}
 use Rattle.base.proofs.BoolLaws.{by-bool, on, lt-or-ge}
 use Rattle.base.proofs.CaseLaws.{past, through}
+use Rattle.quad.specs.Tree.{likeTypes}
 use Rattle.quad.proofs.TreeLaws.{by-quadrant}
 use Rattle.quad.specs.Numbers.{topColour, forkType, none}
 use Rattle.table.specs.Table.{word, nodes, father, son, type, isFork}
 use Rattle.table.specs.Links.{SonIn}
-use Rattle.table.specs.Seen.{Four, likeLeaves, leafOk, seenOf}
-use Rattle.table.specs.Order.{twoAre, leafFrom, Counted, Ordered}
-use Rattle.table.proofs.SeenLaws.{sonsSeen, seen-leaf, seen-fork, all-are-true, added-all, fit-sons}
+use Rattle.table.specs.Seen.{likeLeaves, leafOk, seenOf}
+use Rattle.table.specs.Order.{twoAre, leafFrom, Counted, Named, needlessFork, Ordered}
+use Rattle.table.proofs.SeenLaws.{sonsSeen, seen-leaf, seen-no-leaf, seen-fork, all-are-true, added-all, fit-sons}
 
 -- 0 says nothing
 pub no-order : (T : List ℕ) (l p : ℕ) → Ordered T l p 0
@@ -60,6 +61,14 @@ leaf-told T s f e =
       ap (λ (i : ℕ). getD T i 0) {x = 6 * s + 0} {y = 6 * s} (omega arith) ∙ a .0,
     )
 
+-- a leaf is one node, or is not seen
+leaf-most : (T : List ℕ) (l s : ℕ) → isFork T s ≡ false → seenOf T l s ≤ 1
+leaf-most T l s f =
+    ⊎-elim
+    (λ (e : leafOk T s ≡ true). omega (arith, seen-leaf T l s f e))
+    (λ (e : leafOk T s ≡ false). omega (arith, seen-no-leaf T l s f e))
+    (by-bool (leafOk T s))
+
 sum-more : (g : ℕ → ℕ) (q : ℕ) → sum g (q + 1) ≡ g q + sum g q
 unfolding sum
 sum-more g q = rw (add-one q)
@@ -84,31 +93,32 @@ module _ (T : List ℕ) (l p : ℕ) where
   pub record Passing (q next : ℕ) : Type 0 where
     pub few : q ≤ 4
     pub here : next ≡ before q
-    pub within : next ≤ nodes T
+    pub room : next + 4 ≤ nodes T + q
     pub sons : (j : ℕ) → j < q → Stands j
 
-  pub passing-none : p < nodes T → Passing 0 (p + 1)
+  pub passing-none : p + 5 ≤ nodes T → Passing 0 (p + 1)
   unfolding sum
-  passing-none h = record { few = omega arith; here = omega arith; within = omega arith; sons = λ j lt. absurd (omega arith) }
+  passing-none h = record { few = omega arith; here = omega arith; room = omega arith; sons = λ j lt. absurd (omega arith) }
 
   -- one son more
-  module _ (q s : ℕ) (h : Passing q s) (q4 : q < 4) (named : son T p q ≡ s) (node : s < nodes T) (up : father T s ≡ p) where
-    pub passing-more : (r : ℕ) → r ≤ nodes T → s < r → r ≡ s + seenOf T (l - 1) s → Passing (q + 1) r
+  module _ (q s : ℕ) (h : Passing q s) (q4 : q < 4) (named : son T p q ≡ s) (up : father T s ≡ p) where
+    passing-more : (r : ℕ) → r + 4 ≤ nodes T + (q + 1) → s < r → r ≡ s + seenOf T (l - 1) s → Passing (q + 1) r
     passing-more r le lt e =
+        let node : s < nodes T = omega (arith, h .room) in
         let part : sonsSeen T (l - 1) p q ≡ seenOf T (l - 1) s = ap (seenOf T (l - 1)) named in
         let stands : Stands q = record { at = named ∙ h .here; node = rw named node; up = rw named up; some = omega (arith, part) } in
         record {
           few = omega arith;
           here = omega (arith, h .here, part, sum-more (sonsSeen T (l - 1) p) q);
-          within = le;
+          room = le;
           sons = λ j lj. ⊎-elim (λ (d : j ≡ q). rw d stands) (λ (d : j < q). h .sons j d) (eq-or-lt-of-le (le-of-suc-le-suc (omega arith)));
         }
 
-    pub passing-fork : (r : ℕ) → Ordered T (l - 1) s r → (r ≡ 0 → ⊥) → Passing (q + 1) r
-    passing-fork r o z = passing-more r (o .within) (o .seen z .0) (o .seen z .1)
+    pub passing-fork : (r : ℕ) → Ordered T (l - 1) s r → (r ≡ 0 → ⊥) → r + 4 ≤ nodes T + (q + 1) → Passing (q + 1) r
+    passing-fork r o z le = passing-more r le (o .seen z .0) (o .seen z .1)
 
     pub passing-leaf : (r : ℕ) → r ≡ s + 1 → isFork T s ≡ false → leafOk T s ≡ true → Passing (q + 1) r
-    passing-leaf r e f ok = passing-more r (omega arith) (omega arith) (omega (arith, seen-leaf T (l - 1) s f ok))
+    passing-leaf r e f ok = passing-more r (omega (arith, h .room)) (omega arith) (omega (arith, seen-leaf T (l - 1) s f ok))
 
   in-place : (q : ℕ) → Stands q → SonIn T p q
   in-place q s = record { above = omega (arith, s .at); below = s .node; up = s .up }
@@ -141,36 +151,71 @@ module _ (T : List ℕ) (l p : ℕ) where
       let e = seen-fork T l p f (λ z. omega arith) ok in
       let all = added-all g (by-quadrant (λ (q : ℕ). 0 < g q) (a .some) (b .some) (c .some) (d .some)) in
       let is : next ≡ p + seenOf T l p = omega (arith, h .here, s .0, s .1, s .2, s .3, s .4, all, e) in
-      record { within = h .within; seen = λ z. (omega (arith, h .here), is) }
+      record { within = omega (arith, h .room); seen = λ z. (omega (arith, h .here), is) }
 
 -- the loop's turns, in its own values: the word that names the son, and the node after it
-module _ (T : List ℕ) (l p q s count w : ℕ) (h : Passing T l p q s) (q4 : q < 4) (c : Counted T count p) (node : s < count) (named : w ≡ word T p (q + 1)) (is : w ≡ s) where
+module _ (T : List ℕ) (l p q s count w : ℕ) (h : Passing T l p q s) (q4 : q < 4) (c : Counted T count p) (named : w ≡ word T p (q + 1)) (is : w ≡ s) where
   son-is : son T p q ≡ s
   son-is = ap (λ (i : ℕ). getD T i 0) {x = 6 * p + (1 + q)} {y = 6 * p + (q + 1)} (omega arith) ∙ sym named ∙ is
 
-  pub again-fork : (f r : ℕ) → f ≡ father T s → f ≡ p → Ordered T (l - 1) s r → (r ≡ 0 → ⊥) → Passing T l p (q + 1) r
-  again-fork f r e d o z = passing-fork T l p q s h q4 son-is (omega (arith, c .all)) (sym e ∙ d) r o z
+  pub again-fork : (f r : ℕ) → f ≡ father T s → f ≡ p → Ordered T (l - 1) s r → (r ≡ 0 → ⊥) → r + 4 ≤ count + (q + 1) → Passing T l p (q + 1) r
+  again-fork f r e d o z le = passing-fork T l p q s h q4 son-is (sym e ∙ d) r o z (omega (arith, c .all))
 
   pub again-leaf : (u : Bool) → u ≡ leafFrom T (6 * s) p → not u ≡ false → Passing T l p (q + 1) (s + 1)
   again-leaf u e t =
       let x = leaf-told T s p (on u _ e t) in
-      passing-leaf T l p q s h q4 son-is (omega (arith, c .all)) (x .2) (s + 1) refl (x .0) (x .1)
+      passing-leaf T l p q s h q4 son-is (x .2) (s + 1) refl (x .0) (x .1)
 
--- the sons of a fork that is passed are nodes
-pub passed-four : (T : List ℕ) (l p q next a b c d : ℕ) → Passing T l p q next → 4 ≤ q → a ≡ son T p 0 → b ≡ son T p 1 → c ≡ son T p 2 → d ≡ son T p 3 → Four (nodes T) a b c d
-passed-four T l p q next a b c d h q4 ea eb ec ed =
-    record {
-      nw = rw ea (h .sons 0 (omega arith) .node);
-      ne = rw eb (h .sons 1 (omega arith) .node);
-      sw = rw ec (h .sons 2 (omega arith) .node);
-      se = rw ed (h .sons 3 (omega arith) .node);
-    }
+-- a fork all of whose sons are passed
+module _ (T : List ℕ) (l p q next count : ℕ) (h : Passing T l p q next) (q4 : 4 ≤ q) (c : Counted T count p) where
+  pub passed-named : Named T p
+  passed-named = record {
+    node = c .node;
+    sons = record {
+      nw = h .sons 0 (omega arith) .node;
+      ne = h .sons 1 (omega arith) .node;
+      sw = h .sons 2 (omega arith) .node;
+      se = h .sons 3 (omega arith) .node;
+    };
+    few = c .few;
+  }
 
-pub passed-told : (T : List ℕ) (l p q next a b c d : ℕ) (u : Bool) → Passing T l p q next → 4 ≤ q → isFork T p ≡ true → 0 < l → a ≡ son T p 0 → b ≡ son T p 1
-    → c ≡ son T p 2 → d ≡ son T p 3 → u ≡ likeLeaves T a b c d → u ≡ false → Ordered T l p next
-passed-told T l p q next a b c d u h q4 f high ea eb ec ed eu hu =
-    let q≡ : q ≡ 4 = omega (arith, h .few) in
-    passed T l p next (rw q≡ at h) high f (rw (← ea, ← eb, ← ec, ← ed) (sym eu ∙ hu))
+  -- a leaf adds one node
+  leaf-adds : (j : ℕ) → j < 4 → (type T (son T p j) ≡ forkType → ⊥) → sonsSeen T (l - 1) p j ≡ 1
+  leaf-adds j j4 z =
+      omega (arith, h .sons j (omega arith) .some, leaf-most T (l - 1) (son T p j) (ne-eqb _ forkType z))
+
+  -- so like leaves end at the fifth node
+  like-fifth : likeLeaves T (son T p 0) (son T p 1) (son T p 2) (son T p 3) ≡ true → next ≡ p + 5
+  unfolding likeLeaves likeTypes
+  like-fifth e =
+      let x = past (eqb (type T (son T p 0)) forkType) _ e in
+      let y = through (eqb (type T (son T p 0)) (type T (son T p 1))) _ (x .1) in
+      let z = through (eqb (type T (son T p 0)) (type T (son T p 2))) _ (y .1) in
+      let k = eqb-false (type T (son T p 0)) forkType (x .0) in
+      let a = leaf-adds 0 (omega arith) k in
+      let b = leaf-adds 1 (omega arith) (λ f. k (eqb-true _ _ (y .0) ∙ f)) in
+      let c′ = leaf-adds 2 (omega arith) (λ f. k (eqb-true _ _ (z .0) ∙ f)) in
+      let d = leaf-adds 3 (omega arith) (λ f. k (eqb-true _ _ (z .1) ∙ f)) in
+      let s = sum-four (sonsSeen T (l - 1) p) in
+      let four : q ≡ 4 = omega (arith, h .few) in
+      let here : next ≡ p + 1 + sum (sonsSeen T (l - 1) p) 4 = rw four at (h .here) in
+      omega (arith, here, a, b, c′, d, s .0, s .1, s .2, s .3, s .4)
+
+  pub passed-told : (u : Bool) → 0 < l → u ≡ needlessFork T p next → u ≡ false → Ordered T l p next
+  unfolding needlessFork
+  passed-told u high e f =
+      let four : q ≡ 4 = omega (arith, h .few) in
+      passed T l p next (rw four at h) high (c .fork) (go (likeLeaves T (son T p 0) (son T p 1) (son T p 2) (son T p 3)) refl (sym e ∙ f))
+    where
+      go : (b : Bool) → likeLeaves T (son T p 0) (son T p 1) (son T p 2) (son T p 3) ≡ b → needlessFork T p next ≡ false → b ≡ false
+      go false d n = refl
+      go true d n = absurd (true≢false (sym (rw (eq-eqb next (p + 5) (like-fifth d), d) refl) ∙ n))
+
+pub needless-words : (T : List ℕ) (p next a b c d : ℕ) (r : Bool) → next ≡ p + 5 → a ≡ son T p 0 → b ≡ son T p 1 → c ≡ son T p 2 → d ≡ son T p 3
+    → r ≡ likeLeaves T a b c d → r ≡ needlessFork T p next
+unfolding needlessFork
+needless-words T p next a b c d r e ea eb ec ed f = f ∙ rw (eq-eqb next (p + 5) e, ea, eb, ec, ed)
 
 -- a fork of four pixels that stand in order
 pub pixels-passed : (T : List ℕ) (p count : ℕ) → Counted T count p → p + 5 ≤ count
@@ -191,11 +236,11 @@ pixels-passed T p count c room u v w x y z b eu hu ev hv ew hw ex hx ey hy ez hz
     let b′ = told (p + 2) (6 * p + 12) (omega arith) (on x _ ex hx) in
     let c′ = told (p + 3) (6 * p + 18) (omega arith) (on y _ ey hy) in
     let d = told (p + 4) (6 * p + 24) (omega arith) (on z _ ez hz) in
-    let p0 = passing-none T 1 p (c .node) in
-    let p1 = passing-leaf T 1 p 0 (p + 1) p0 (omega arith) n1 (omega (arith, c .all)) (a .2) (p + 2) (omega arith) (a .0) (a .1) in
-    let p2 = passing-leaf T 1 p 1 (p + 2) p1 (omega arith) n2 (omega (arith, c .all)) (b′ .2) (p + 3) (omega arith) (b′ .0) (b′ .1) in
-    let p3 = passing-leaf T 1 p 2 (p + 3) p2 (omega arith) n3 (omega (arith, c .all)) (c′ .2) (p + 4) (omega arith) (c′ .0) (c′ .1) in
-    let p4 = passing-leaf T 1 p 3 (p + 4) p3 (omega arith) n4 (omega (arith, c .all)) (d .2) (p + 5) (omega arith) (d .0) (d .1) in
+    let p0 = passing-none T 1 p (omega (arith, c .all)) in
+    let p1 = passing-leaf T 1 p 0 (p + 1) p0 (omega arith) n1 (a .2) (p + 2) (omega arith) (a .0) (a .1) in
+    let p2 = passing-leaf T 1 p 1 (p + 2) p1 (omega arith) n2 (b′ .2) (p + 3) (omega arith) (b′ .0) (b′ .1) in
+    let p3 = passing-leaf T 1 p 2 (p + 3) p2 (omega arith) n3 (c′ .2) (p + 4) (omega arith) (c′ .0) (c′ .1) in
+    let p4 = passing-leaf T 1 p 3 (p + 4) p3 (omega arith) n4 (d .2) (p + 5) (omega arith) (d .0) (d .1) in
     passed T 1 p (p + 5) p4 (omega arith) (c .fork) (rw (n1, n2, n3, n4) (sym eb ∙ hb))
 
 -- a root from which as many nodes are passed as there are

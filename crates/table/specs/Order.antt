@@ -7,8 +7,8 @@ use Prim.Native.Nat.{ℕ, _+_, _<_, _≤_}
 use lib.Dec.{ltb, eqb}
 use lib.ListN.{length, getD}
 use Rattle.quad.specs.Numbers.{topColour, none, maxWords}
-use Rattle.table.specs.Table.{nodes, isFork}
-use Rattle.table.specs.Seen.{seenOf}
+use Rattle.table.specs.Table.{nodes, son, isFork}
+use Rattle.table.specs.Seen.{Four, likeLeaves, seenOf}
 
 -- the two words from i on are a and b
 unfoldable pub twoAre : List ℕ → ℕ → ℕ → ℕ → Bool
@@ -26,6 +26,16 @@ pub record Counted (T : List ℕ) (count p : ℕ) : Type 0 where
   pub fork : isFork T p ≡ true
   pub all : count ≡ nodes T
   pub few : length T ≤ maxWords
+
+-- a fork whose four sons are nodes
+pub record Named (T : List ℕ) (p : ℕ) : Type 0 where
+  pub node : p < nodes T
+  pub sons : Four (nodes T) (son T p 0) (son T p 1) (son T p 2) (son T p 3)
+  pub few : length T ≤ maxWords
+
+-- its sons are like leaves, and the node after all that is below it the fifth from it
+unfoldable pub needlessFork : List ℕ → ℕ → ℕ → Bool
+needlessFork T p next = cond (eqb next (p + 5)) (likeLeaves T (son T p 0) (son T p 1) (son T p 2) (son T p 3)) false
 
 -- r is 0, or comes after as many nodes from p on as are seen from p
 pub record Ordered (T : List ℕ) (l p r : ℕ) : Type 0 where

@@ -4,7 +4,7 @@ use crate::word_at;
 ghost use mathlib.Core.Path.{_≡_};
 ghost use Prim.Native.Nat.{_+_, _*_, _<_, _≤_};
 ghost use lib.ListN.{length};
-ghost use Rattle.table.specs.Order.{twoAre, leafFrom, Counted, Ordered};
+ghost use Rattle.table.specs.Order.{twoAre, leafFrom, Counted, Named, needlessFork, Ordered};
 
 // Two words as one number, the first below what the second counts.
 fn joined(first: u32, second: u32) -> u64
@@ -89,18 +89,36 @@ pub fn in_order(table: &[u32], count: u32, level: u32, p: u32) -> u32
     sons(table, count, level, p)
 }
 
-// The same for a fork above level 1, son by son. A son that is a leaf is passed here, without a call.
+// Whether the sons of fork p are four like leaves, given the node after all that is below it: where that is not the fifth, one of them is a fork.
+fn needless(table: &[u32], p: u32, next: u32) -> bool
+    requires { ⌜ Named (now table) p ⌝ }
+    ensures { λ r. ⌜ r ≡ needlessFork (now (table .entry)) p next ⌝ }
+{
+    if next != p + 5 {
+        return false;
+    }
+    let fork = p as usize;
+    crate::seen::are_like(
+        table,
+        word_at(table, fork, 1),
+        word_at(table, fork, 2),
+        word_at(table, fork, 3),
+        word_at(table, fork, 4),
+    )
+}
+
+// The same for a fork above level 1, son by son, where there is room for those that are still to come. A son that is a leaf is passed here, without a call.
 fn sons(table: &[u32], count: u32, level: u32, p: u32) -> u32
     requires { ⌜ Counted (now table) count p × (0 < level) ⌝ }
     ensures { λ r. ⌜ Ordered (now (table .entry)) level p r ⌝ }
 {
+    if count < p + 5 {
+        return 0;
+    }
     let fork = p as usize;
     let mut next = p + 1;
     let mut q = 0;
     while q < 4 {
-        if count <= next {
-            return 0;
-        }
         let son = next as usize;
         q += 1;
         if word_at(table, fork, q) != son {
@@ -114,6 +132,9 @@ fn sons(table: &[u32], count: u32, level: u32, p: u32) -> u32
             if next == 0 {
                 return 0;
             }
+            if count + (q as u32) < next + 4 {
+                return 0;
+            }
         } else {
             if !is_leaf_of(table, 6 * son, p) {
                 return 0;
@@ -121,13 +142,7 @@ fn sons(table: &[u32], count: u32, level: u32, p: u32) -> u32
             next += 1;
         }
     }
-    if crate::seen::are_like(
-        table,
-        word_at(table, fork, 1),
-        word_at(table, fork, 2),
-        word_at(table, fork, 3),
-        word_at(table, fork, 4),
-    ) {
+    if needless(table, p, next) {
         return 0;
     }
     next

@@ -1,11 +1,8 @@
 -- `table::order::in_order` and `sons`: a fork of four pixels, or son by son, each behind all that is seen from its brother. The measure is twice the level, and one more
 -- before it is known that sons follow; the loop's, the sons left. Assumes nothing.
-use mathlib.Core.Path.{_≡_, refl, ap, sym, _∙_}
 use native.Mathlib.Omega.{arith}
-use borrow.Author.Needs.{needs}
-use Rattle.base.proofs.BoolLaws.{on, off}
-use Rattle.table.proofs.SeenLaws.{told-fork, told-leaf}
-use Rattle.table.proofs.OrderLaws.{no-order, Passing, passing-none, again-fork, again-leaf, passed-four, passed-told}
+use Rattle.table.proofs.SeenLaws.{told-fork}
+use Rattle.table.proofs.OrderLaws.{no-order, Passing, passing-none, again-fork, again-leaf, passed-named, passed-told}
 use Prim.Native.Nat.{ℕ, _+_, _-_, _*_, _<_}
 use borrow.Fn.Kinds.{In}
 use borrow.Fn.PlainCycle.{Measures, is, falls, and}
@@ -16,8 +13,8 @@ use Rattle.table.proofs.order.sons.Reads as sons
 use Rattle.table.proofs.order.sons.Kinds as sons-kinds
 use Rattle.table.proofs.order.+in_order+sons.Lts-sons as sons-lts
 use Rattle.table.proofs.order.is_leaf_of.Reads as is-leaf-of-reads
+use Rattle.table.proofs.order.needless.Reads as needless-reads
 use Rattle.table.proofs.order.pixels.Reads as pixels-reads
-use Rattle.table.proofs.seen.are_like.Reads as are-like-reads
 use Rattle.table.proofs.word_at.Reads as word-at-reads
 use Rattle.table.proofs.order.+in_order+sons.{statement}
 use Rattle.table.proofs.order.+in_order+sons.Tie.{close}
@@ -45,8 +42,7 @@ abbrev in-order-calls : ℕ → in-order-lts.Claims
 in-order-calls t = (pixels-reads.Asked, pixels-reads.Learnt, sons-below t, sons.Post)
 
 abbrev sons-calls : ℕ → sons-lts.Claims
-sons-calls t =
-    (word-at-reads.Asked, word-at-reads.Learnt, in-order-below t, in-order.Post, is-leaf-of-reads.Asked, is-leaf-of-reads.Learnt, are-like-reads.Asked, are-like-reads.Learnt)
+sons-calls t = (word-at-reads.Asked, word-at-reads.Learnt, in-order-below t, in-order.Post, is-leaf-of-reads.Asked, is-leaf-of-reads.Learnt, needless-reads.Asked, needless-reads.Learnt)
 
 in-order-returns : (t : ℕ) → in-order-lts.Need-returns (in-order-calls t) (in-order-at t) in-order.Post
 in-order-returns t c = no-order _ _ _
@@ -69,14 +65,17 @@ sons-Inv-loop table count level p fork next₀ q₀ next q = Passing table level
 abbrev sons-μ-loop : sons-lts.MeasureT-loop
 sons-μ-loop table count level p fork next₀ q₀ next q = 4 - q
 
+sons-add-if1 : (t : ℕ) → sons-lts.Need-add-if1 (sons-calls t) (sons-at t) sons.Post sons-Inv-loop sons-μ-loop
+sons-add-if1 t c = omega arith
+
+sons-returns : (t : ℕ) → sons-lts.Need-returns (sons-calls t) (sons-at t) sons.Post sons-Inv-loop sons-μ-loop
+sons-returns t c = no-order _ _ _
+
 sons-add-next : (t : ℕ) → sons-lts.Need-add-next (sons-calls t) (sons-at t) sons.Post sons-Inv-loop sons-μ-loop
 sons-add-next t c = omega arith
 
 sons-loop-holds : (t : ℕ) → sons-lts.Need-loop-holds (sons-calls t) (sons-at t) sons.Post sons-Inv-loop sons-μ-loop
-sons-loop-holds t c = passing-none _ _ _ (c .before .pre .1 .0 .node)
-
-sons-returns : (t : ℕ) → sons-lts.Need-returns (sons-calls t) (sons-at t) sons.Post sons-Inv-loop sons-μ-loop
-sons-returns t c = no-order _ _ _
+sons-loop-holds t c = passing-none _ _ _ (omega (arith, c .before .before .pre .1 .0 .all))
 
 sons-cast-son : (t : ℕ) → sons-lts.Need-cast-son (sons-calls t) (sons-at t) sons.Post sons-Inv-loop sons-μ-loop
 sons-cast-son t c = omega arith
@@ -91,10 +90,10 @@ sons-returns-2 : (t : ℕ) → sons-lts.Need-returns-2 (sons-calls t) (sons-at t
 sons-returns-2 t c = no-order _ _ _
 
 sons-word-at-requires-2 : (t : ℕ) → sons-lts.Need-word-at-requires-2 (sons-calls t) (sons-at t) sons.Post sons-Inv-loop sons-μ-loop
-sons-word-at-requires-2 t c κs = (omega (arith, c .before .before .before .before .before .before .pre .1 .0 .all), omega arith)
+sons-word-at-requires-2 t c κs = (omega (arith, c .before .before .before .loop .inv .room), omega arith)
 
 sons-word-at-requires-3 : (t : ℕ) → sons-lts.Need-word-at-requires-3 (sons-calls t) (sons-at t) sons.Post sons-Inv-loop sons-μ-loop
-sons-word-at-requires-3 t c κs = (omega (arith, c .before .before .before .before .before .before .before .before .pre .1 .0 .all), omega arith)
+sons-word-at-requires-3 t c κs = (omega (arith, c .before .before .before .before .before .loop .inv .room), omega arith)
 
 sons-returns-3 : (t : ℕ) → sons-lts.Need-returns-3 (sons-calls t) (sons-at t) sons.Post sons-Inv-loop sons-μ-loop
 sons-returns-3 t c = no-order _ _ _
@@ -107,8 +106,8 @@ sons-in-order-requires t c κs =
     let u = c .before .before .before .before .before .before .before .before .before .before .pre in (
       omega (arith, u .0, u .1 .1),
       record {
-        node = omega (arith, u .1 .0 .all);
-        fork = told-fork (c .before .before .before .before .before .before .before .before .before .before .args .table .now) (c .before .before .before .before .before .before .before .before .loop .next) _ (c .before .before .before .word-at2 .ensures) (c .before .before .if3 .taken);
+        node = omega (arith, c .before .before .before .before .before .before .before .loop .inv .room);
+        fork = told-fork (c .before .before .before .before .before .before .before .before .before .before .args .table .now) (c .before .before .before .before .before .before .before .loop .next) _ (c .before .before .before .word-at2 .ensures) (c .before .before .if3 .taken);
         all = u .1 .0 .all;
         few = u .1 .0 .few;
       },
@@ -117,22 +116,34 @@ sons-in-order-requires t c κs =
 sons-returns-4 : (t : ℕ) → sons-lts.Need-returns-4 (sons-calls t) (sons-at t) sons.Post sons-Inv-loop sons-μ-loop
 sons-returns-4 t c = no-order _ _ _
 
+sons-cast-if6 : (t : ℕ) → sons-lts.Need-cast-if6 (sons-calls t) (sons-at t) sons.Post sons-Inv-loop sons-μ-loop
+sons-cast-if6 t c = omega arith
+
+sons-add-if6 : (t : ℕ) → sons-lts.Need-add-if6 (sons-calls t) (sons-at t) sons.Post sons-Inv-loop sons-μ-loop
+sons-add-if6 t c = omega arith
+
+sons-add-if6-2 : (t : ℕ) → sons-lts.Need-add-if6-2 (sons-calls t) (sons-at t) sons.Post sons-Inv-loop sons-μ-loop
+sons-add-if6-2 t c = omega arith
+
+sons-returns-5 : (t : ℕ) → sons-lts.Need-returns-5 (sons-calls t) (sons-at t) sons.Post sons-Inv-loop sons-μ-loop
+sons-returns-5 t c = no-order _ _ _
+
 sons-loop-less : (t : ℕ) → sons-lts.Need-loop-less (sons-calls t) (sons-at t) sons.Post sons-Inv-loop sons-μ-loop
 sons-loop-less t c = omega arith
 
 sons-loop-again : (t : ℕ) → sons-lts.Need-loop-again (sons-calls t) (sons-at t) sons.Post sons-Inv-loop sons-μ-loop
 sons-loop-again t c =
-    again-fork _ _ _ _ _ _ _ (c .before .before .before .before .before .before .before .before .before .before .loop .inv) (omega arith) (c .before .before .before .before .before .before .before .before .before .before .before .before .pre .1 .0) (omega arith) (c .before .before .before .before .before .before .before .word-at .ensures) (c .before .before .before .before .before .before .if2 .left) _ _
-    (c .before .before .before .word-at3 .ensures) (c .before .before .if4 .left) (c .before .in-order .ensures) (c .if5 .left)
+    again-fork _ _ _ _ _ _ _ (c .before .before .before .before .before .before .before .before .before .before .loop .inv) (omega arith) (c .before .before .before .before .before .before .before .before .before .before .before .before .before .pre .1 .0) (c .before .before .before .before .before .before .before .before .word-at .ensures) (c .before .before .before .before .before .before .before .if2 .left) _ _
+    (c .before .before .before .before .word-at3 .ensures) (c .before .before .before .if4 .left) (c .before .before .in-order .ensures) (c .before .if5 .left) (omega arith)
 
 sons-mul-is-leaf-of : (t : ℕ) → sons-lts.Need-mul-is-leaf-of (sons-calls t) (sons-at t) sons.Post sons-Inv-loop sons-μ-loop
 sons-mul-is-leaf-of t c = omega arith
 
 sons-is-leaf-of-requires : (t : ℕ) → sons-lts.Need-is-leaf-of-requires (sons-calls t) (sons-at t) sons.Post sons-Inv-loop sons-μ-loop
-sons-is-leaf-of-requires t c κs = omega (arith, c .before .before .before .before .before .before .before .before .pre .1 .0 .all)
+sons-is-leaf-of-requires t c κs = omega (arith, c .before .before .before .before .before .loop .inv .room)
 
-sons-returns-5 : (t : ℕ) → sons-lts.Need-returns-5 (sons-calls t) (sons-at t) sons.Post sons-Inv-loop sons-μ-loop
-sons-returns-5 t c = no-order _ _ _
+sons-returns-6 : (t : ℕ) → sons-lts.Need-returns-6 (sons-calls t) (sons-at t) sons.Post sons-Inv-loop sons-μ-loop
+sons-returns-6 t c = no-order _ _ _
 
 sons-add-next-2 : (t : ℕ) → sons-lts.Need-add-next-2 (sons-calls t) (sons-at t) sons.Post sons-Inv-loop sons-μ-loop
 sons-add-next-2 t c = omega arith
@@ -142,33 +153,19 @@ sons-loop-less-2 t c = omega arith
 
 sons-loop-again-2 : (t : ℕ) → sons-lts.Need-loop-again-2 (sons-calls t) (sons-at t) sons.Post sons-Inv-loop sons-μ-loop
 sons-loop-again-2 t c =
-    again-leaf _ _ _ _ _ _ _ (c .before .before .before .before .before .before .before .before .loop .inv) (omega arith) (c .before .before .before .before .before .before .before .before .before .before .pre .1 .0) (omega arith) (c .before .before .before .before .before .word-at .ensures) (c .before .before .before .before .if2 .left) _
-    (c .before .is-leaf-of .ensures) (c .if6 .left)
+    again-leaf _ _ _ _ _ _ _ (c .before .before .before .before .before .before .before .loop .inv) (omega arith) (c .before .before .before .before .before .before .before .before .before .before .pre .1 .0) (c .before .before .before .before .before .word-at .ensures) (c .before .before .before .before .if2 .left) _
+    (c .before .is-leaf-of .ensures) (c .if7 .left)
 
-sons-word-at-requires-4 : (t : ℕ) → sons-lts.Need-word-at-requires-4 (sons-calls t) (sons-at t) sons.Post sons-Inv-loop sons-μ-loop
-sons-word-at-requires-4 t c κs = (c .before .before .before .pre .1 .0 .node, omega arith)
-
-sons-word-at-requires-5 : (t : ℕ) → sons-lts.Need-word-at-requires-5 (sons-calls t) (sons-at t) sons.Post sons-Inv-loop sons-μ-loop
-sons-word-at-requires-5 t c κs = (c .before .before .before .before .pre .1 .0 .node, omega arith)
-
-sons-word-at-requires-6 : (t : ℕ) → sons-lts.Need-word-at-requires-6 (sons-calls t) (sons-at t) sons.Post sons-Inv-loop sons-μ-loop
-sons-word-at-requires-6 t c κs = (c .before .before .before .before .before .pre .1 .0 .node, omega arith)
-
-sons-word-at-requires-7 : (t : ℕ) → sons-lts.Need-word-at-requires-7 (sons-calls t) (sons-at t) sons.Post sons-Inv-loop sons-μ-loop
-sons-word-at-requires-7 t c κs = (c .before .before .before .before .before .before .pre .1 .0 .node, omega arith)
-
-sons-are-like-requires : (t : ℕ) → sons-lts.Need-are-like-requires (sons-calls t) (sons-at t) sons.Post sons-Inv-loop sons-μ-loop
-sons-are-like-requires t c κs =
-    passed-four _ _ _ _ _ _ _ _ _ (c .before .before .before .before .before .loop .inv) (omega arith) (c .before .before .before .word-at4 .ensures) (c .before .before .word-at5 .ensures) (c .before .word-at6 .ensures) (c .word-at7 .ensures)
-
-sons-returns-6 : (t : ℕ) → sons-lts.Need-returns-6 (sons-calls t) (sons-at t) sons.Post sons-Inv-loop sons-μ-loop
-sons-returns-6 t c = no-order _ _ _
+sons-needless-requires : (t : ℕ) → sons-lts.Need-needless-requires (sons-calls t) (sons-at t) sons.Post sons-Inv-loop sons-μ-loop
+sons-needless-requires t c κs = passed-named _ _ _ _ _ _ (c .before .loop .inv) (omega arith) (c .before .before .before .before .pre .1 .0)
 
 sons-returns-7 : (t : ℕ) → sons-lts.Need-returns-7 (sons-calls t) (sons-at t) sons.Post sons-Inv-loop sons-μ-loop
-sons-returns-7 t c =
-    let u = c .before .before .before .before .before .before .before .before .before .pre .1 in
-    passed-told _ _ _ _ _ _ _ _ _ _ (c .before .before .before .before .before .before .before .loop .inv) (omega arith) (u .0 .fork) (u .1) (c .before .before .before .before .before .word-at4 .ensures) (c .before .before .before .before .word-at5 .ensures) (c .before .before .before .word-at6 .ensures)
-    (c .before .before .word-at7 .ensures) (c .before .are-like .ensures) (c .if7 .left)
+sons-returns-7 t c = no-order _ _ _
+
+sons-returns-8 : (t : ℕ) → sons-lts.Need-returns-8 (sons-calls t) (sons-at t) sons.Post sons-Inv-loop sons-μ-loop
+sons-returns-8 t c =
+    let u = c .before .before .before .before .before .before .pre .1 in
+    passed-told _ _ _ _ _ _ (c .before .before .before .loop .inv) (omega arith) (u .0) _ (u .1) (c .before .needless .ensures) (c .if8 .left)
 
 pub +in-order+sons-spec : {M : Type 1} → statement M
 +in-order+sons-spec = close μ-in-order μ-sons (λ t. in-order-lts.spec (in-order-calls t)
@@ -184,9 +181,10 @@ pub +in-order+sons-spec : {M : Type 1} → statement M
     sons.Post
     sons-Inv-loop
     sons-μ-loop
+    (sons-add-if1 t)
+    (sons-returns t)
     (sons-add-next t)
     (sons-loop-holds t)
-    (sons-returns t)
     (sons-cast-son t)
     (sons-add-q t)
     (sons-word-at-requires t)
@@ -197,18 +195,18 @@ pub +in-order+sons-spec : {M : Type 1} → statement M
     (sons-sub-in-order t)
     (sons-in-order-requires t)
     (sons-returns-4 t)
+    (sons-cast-if6 t)
+    (sons-add-if6 t)
+    (sons-add-if6-2 t)
+    (sons-returns-5 t)
     (sons-loop-less t)
     (sons-loop-again t)
     (sons-mul-is-leaf-of t)
     (sons-is-leaf-of-requires t)
-    (sons-returns-5 t)
+    (sons-returns-6 t)
     (sons-add-next-2 t)
     (sons-loop-less-2 t)
     (sons-loop-again-2 t)
-    (sons-word-at-requires-4 t)
-    (sons-word-at-requires-5 t)
-    (sons-word-at-requires-6 t)
-    (sons-word-at-requires-7 t)
-    (sons-are-like-requires t)
-    (sons-returns-6 t)
+    (sons-needless-requires t)
     (sons-returns-7 t)
+    (sons-returns-8 t)
