@@ -1,9 +1,9 @@
 -- A pond's entry over the pixels is what the leaves of its number give it: the count adds up block by block, and a leaf's first and last row and column
 -- are those of the corner pixels of its block.
 use mathlib.Core.Bool.{Bool, true, false, cond}
-use mathlib.Core.List.{List, _∷_}
+use mathlib.Core.List.{List}
 use mathlib.Core.Logic.{⊎-elim}
-use mathlib.Core.Path.{_≡_, refl, ap₂, sym, _∙_}
+use mathlib.Core.Path.{_≡_, refl, sym, _∙_}
 use Prim.Native.Nat.{ℕ, zero, suc, _+_, _-_, _*_, _/_, _%_, _^_, _≤_, _<_}
 use native.Mathlib.Nat.{add-zero, mod-lt, min-comm, max-comm, min-eq-right, add-comm}
 use native.Mathlib.Omega.{arith}
@@ -23,12 +23,13 @@ use Rattle.table.specs.Table.{nodes, isFork}
 use Rattle.table.specs.Nodes.{pathTo, levelOf, sideOf, leftOf, topOf}
 use Rattle.table.specs.Blocks.{blockOf}
 use Rattle.register.specs.declared.Pond.{Pond}
-use Rattle.register.specs.Entries.{leafAt, entryOf, entriesFrom}
-use Rattle.register.specs.Gathered.{grownOf, gathered, gatheringsFrom, Numbers}
+use Rattle.register.specs.Entries.{leafAt, entryOf, entries}
+use Rattle.register.specs.Gathered.{grownOf, gathered, gatherings, Numbers}
+use Rattle.register.proofs.GatheredLaws.{ponds-same, entries-ponds}
 use Rattle.register.proofs.LeafPixels.{pixel-leaf, leaf-sum, Inside, inside}
 
 -- entries are equal word by word
-same-pond : (e f : Pond) → e .pixels ≡ f .pixels → e .top ≡ f .top → e .bottom ≡ f .bottom → e .left ≡ f .left → e .right ≡ f .right → e ≡ f
+pub same-pond : (e f : Pond) → e .pixels ≡ f .pixels → e .top ≡ f .top → e .bottom ≡ f .bottom → e .left ≡ f .left → e .right ≡ f .right → e ≡ f
 same-pond e f p t b l r = rw (p, t, b, l, r)
 
 -- a coordinate lies between the first and the last of its stretch
@@ -44,7 +45,7 @@ module _ (n : ℕ) (T numbers : List ℕ) (k : ℕ) where
   has p = eqb (getD numbers p 0) k
 
   -- the sum, the least and the greatest over the nodes below p that have it
-  overNodes : ℕ → Pond
+  unfoldable pub overNodes : ℕ → Pond
   overNodes p = record {
     pixels = sum (λ q. cond (has q) (sideOf n T q * sideOf n T q) 0) p;
     top = least none (λ q. cond (has q) (topOf n T q) none) p;
@@ -53,7 +54,7 @@ module _ (n : ℕ) (T numbers : List ℕ) (k : ℕ) where
     right = greatest (λ q. cond (has q) (leftOf n T q + (sideOf n T q - 1)) 0) p;
   }
 
-  gathered-over : (p : ℕ) → gathered n T numbers k p ≡ overNodes p
+  pub gathered-over : (p : ℕ) → gathered n T numbers k p ≡ overNodes p
   unfolding gathered overNodes grownOf blockOf sum least greatest
   gathered-over zero = refl
   gathered-over (suc p) =
@@ -138,9 +139,7 @@ module _ (n : ℕ) (T numbers : List ℕ) (k : ℕ) where
         (last-over columns columnOf across on-column))
 
 -- all of them
-pub gatherings-entries : (n : ℕ) (T numbers : List ℕ) (most : ℕ) → Numbers n T numbers most → (count k : ℕ) → 0 < k
-    → gatheringsFrom n T numbers (nodes T) count k ≡ entriesFrom n T numbers count k
-unfolding gatheringsFrom entriesFrom
-gatherings-entries n T numbers most s zero k pos = refl
-gatherings-entries n T numbers most s (suc count) k pos =
-    ap₂ _∷_ (gathered-entry n T numbers k most s pos) (gatherings-entries n T numbers most s count (k + 1) (omega arith))
+pub gatherings-entries : (n : ℕ) (T numbers : List ℕ) (count : ℕ) → Numbers n T numbers count → gatherings n T numbers (nodes T) count ≡ entries n T numbers count
+gatherings-entries n T numbers count s =
+    ponds-same (λ k. gathered n T numbers k (nodes T)) (entryOf n T numbers) count 1 (λ k pos. gathered-entry n T numbers k count s pos)
+    ∙ entries-ponds n T numbers count 1

@@ -1,4 +1,4 @@
--- What the nodes passed give each pond: a node gives its own pond alone, so one more node changes one entry, or none.
+-- The entries of all ponds: a block changes that of its own number alone, or none. So does a node passed.
 use mathlib.Core.List.{List, _∷_}
 use mathlib.Core.Path.{_≡_, refl, ap, ap₂, sym, _∙_}
 use Prim.Native.Nat.{ℕ, zero, suc, _+_, _*_, _^_, _≤_, _<_}
@@ -10,71 +10,88 @@ use lib.ListN.{length, getD, set, replicate}
 use borrow.Author.Tests.{eq-eqb, ne-eqb}
 use Rattle.base.proofs.CaseLaws.{cond-case}
 use Rattle.quad.specs.Numbers.{topLevel}
+use Rattle.table.specs.declared.block.Block.{Block}
 use Rattle.table.specs.Table.{nodes}
 use Rattle.table.specs.Blocks.{blockOf}
 use Rattle.table.proofs.BlockLaws.{on-sheet}
 use Rattle.register.specs.declared.Pond.{Pond}
-use Rattle.register.specs.Gathered.{emptyPond, grownOf, Fitting, gathered, gatheringsFrom, gatherings, Numbers}
+use Rattle.register.specs.Entries.{entryOf, entriesFrom}
+use Rattle.register.specs.Gathered.{emptyPond, grownOf, grownAt, Fitting, gathered, pondsFrom, gatherings, Numbers}
 use Rattle.register.proofs.GrownLaws.{square-small}
 
-module _ (n : ℕ) (T numbers : List ℕ) where
-  -- one more node, for its own pond and for another
-  pub own-node : (k p : ℕ) → getD numbers p 0 ≡ k → gathered n T numbers k (suc p) ≡ grownOf (gathered n T numbers k p) (blockOf n T p)
-  unfolding gathered
-  own-node k p e = rw (eq-eqb (getD numbers p 0) k e)
+module _ (E : ℕ → Pond) where
+  pub ponds-length : (count k : ℕ) → length (pondsFrom E count k) ≡ count
+  unfolding pondsFrom
+  ponds-length zero k = refl
+  ponds-length (suc count) k = ap suc (ponds-length count (k + 1))
 
-  pub other-node : (k p : ℕ) → (getD numbers p 0 ≡ k → ⊥) → gathered n T numbers k (suc p) ≡ gathered n T numbers k p
-  unfolding gathered
-  other-node k p e = rw (ne-eqb (getD numbers p 0) k e)
-
-  pub gatherings-length : (p count k : ℕ) → length (gatheringsFrom n T numbers p count k) ≡ count
-  unfolding gatheringsFrom
-  gatherings-length p zero k = refl
-  gatherings-length p (suc count) k = ap suc (gatherings-length p count (k + 1))
-
-  pub gatherings-at : (p count k i : ℕ) (d : Pond) → i < count → getD (gatheringsFrom n T numbers p count k) i d ≡ gathered n T numbers (k + i) p
-  unfolding gatheringsFrom
-  gatherings-at p zero k i d h = absurd (not-suc-le-zero h)
-  gatherings-at p (suc count) k zero d h = rw add-zero
-  gatherings-at p (suc count) k (suc i) d h =
+  pub ponds-at : (count k i : ℕ) (d : Pond) → i < count → getD (pondsFrom E count k) i d ≡ E (k + i)
+  unfolding pondsFrom
+  ponds-at zero k i d h = absurd (not-suc-le-zero h)
+  ponds-at (suc count) k zero d h = rw add-zero
+  ponds-at (suc count) k (suc i) d h =
       let s : k + suc i ≡ k + 1 + i = omega arith in
-      rw s (gatherings-at p count (k + 1) i d (omega arith))
+      rw s (ponds-at count (k + 1) i d (omega arith))
 
-  -- before the first node
-  pub gatherings-none : (count k : ℕ) → gatheringsFrom n T numbers 0 count k ≡ replicate count emptyPond
-  unfolding gatheringsFrom gathered
-  gatherings-none zero k = refl
-  gatherings-none (suc count) k = ap (λ (es : List Pond). emptyPond ∷ es) (gatherings-none count (k + 1))
+  pub ponds-same : (F : ℕ → Pond) (count k : ℕ) → ((j : ℕ) → k ≤ j → E j ≡ F j) → pondsFrom E count k ≡ pondsFrom F count k
+  unfolding pondsFrom
+  ponds-same F zero k h = refl
+  ponds-same F (suc count) k h = ap₂ _∷_ (h k (omega arith)) (ponds-same F count (k + 1) (λ j l. h j (omega arith)))
 
-  -- a node whose number is below theirs
-  pub below-all : (p count k : ℕ) → getD numbers p 0 < k → gatheringsFrom n T numbers (suc p) count k ≡ gatheringsFrom n T numbers p count k
-  unfolding gatheringsFrom
-  below-all p zero k h = refl
-  below-all p (suc count) k h = ap₂ _∷_ (other-node k p (λ e. omega arith)) (below-all p count (k + 1) (omega arith))
+  -- a block of a number below theirs
+  below-all : (j : ℕ) (b : Block) (count k : ℕ) → j < k → pondsFrom (grownAt j b E) count k ≡ pondsFrom E count k
+  unfolding pondsFrom
+  below-all j b zero k h = refl
+  below-all j b (suc count) k h = ap₂ _∷_ (rw (ne-eqb j k (λ e. omega arith))) (below-all j b count (k + 1) (omega arith))
 
-  -- a node whose number is one of theirs
-  one-of : (p count k i : ℕ) → i < count → getD numbers p 0 ≡ k + i
-      → gatheringsFrom n T numbers (suc p) count k
-      ≡ set (gatheringsFrom n T numbers p count k) i (grownOf (gathered n T numbers (k + i) p) (blockOf n T p))
-  unfolding gatheringsFrom
-  one-of p zero k i h e = absurd (not-suc-le-zero h)
-  one-of p (suc count) k zero h e =
+  -- a block of one of their numbers
+  one-of : (j : ℕ) (b : Block) (count k i : ℕ) → i < count → j ≡ k + i
+      → pondsFrom (grownAt j b E) count k ≡ set (pondsFrom E count k) i (grownOf (E (k + i)) b)
+  unfolding pondsFrom
+  one-of j b zero k i h e = absurd (not-suc-le-zero h)
+  one-of j b (suc count) k zero h e =
       let z : k + 0 ≡ k = add-zero k in
-      rw z (ap₂ _∷_ (own-node k p (e ∙ z)) (below-all p count (k + 1) (omega arith)))
-  one-of p (suc count) k (suc i) h e =
+      rw z (ap₂ _∷_ (rw (eq-eqb j k (e ∙ z))) (below-all j b count (k + 1) (omega arith)))
+  one-of j b (suc count) k (suc i) h e =
       let s : k + suc i ≡ k + 1 + i = omega arith in
-      rw s (ap₂ _∷_ (other-node k p (λ q. omega arith)) (one-of p count (k + 1) i (omega arith) (e ∙ s)))
+      rw s (ap₂ _∷_ (rw (ne-eqb j k (λ q. omega arith))) (one-of j b count (k + 1) i (omega arith) (e ∙ s)))
 
-  -- the node p, for ponds 1 to `count`: 0 is no pond's number
+  -- a block for ponds 1 to `count`: 0 is no pond's number
+  module _ (j : ℕ) (b : Block) (count : ℕ) where
+    pub grown-none : j ≡ 0 → pondsFrom (grownAt j b E) count 1 ≡ pondsFrom E count 1
+    grown-none e = below-all j b count 1 (omega arith)
+
+    pub grown-one : (i : ℕ) → i < count → j ≡ suc i
+        → pondsFrom (grownAt j b E) count 1 ≡ set (pondsFrom E count 1) i (grownOf (getD (pondsFrom E count 1) i emptyPond) b)
+    grown-one i h e =
+        let s : 1 + i ≡ suc i = omega arith in
+        rw (ponds-at count 1 i emptyPond h) (one-of j b count 1 i h (e ∙ sym s))
+
+pub empty-ponds : (count k : ℕ) → pondsFrom (λ j. emptyPond) count k ≡ replicate count emptyPond
+unfolding pondsFrom
+empty-ponds zero k = refl
+empty-ponds (suc count) k = ap (λ (es : List Pond). emptyPond ∷ es) (empty-ponds count (k + 1))
+
+module _ (n : ℕ) (T numbers : List ℕ) where
+  pub entries-ponds : (count k : ℕ) → pondsFrom (entryOf n T numbers) count k ≡ entriesFrom n T numbers count k
+  unfolding pondsFrom entriesFrom
+  entries-ponds zero k = refl
+  entries-ponds (suc count) k = ap (λ (es : List Pond). entryOf n T numbers k ∷ es) (entries-ponds count (k + 1))
+
+  -- before the first node, and with one node more
+  pub gatherings-none : (count : ℕ) → gatherings n T numbers 0 count ≡ replicate count emptyPond
+  unfolding gathered
+  gatherings-none count = empty-ponds count 1
+
   pub gatherings-same : (p count : ℕ) → getD numbers p 0 ≡ 0 → gatherings n T numbers (p + 1) count ≡ gatherings n T numbers p count
-  gatherings-same p count e = rw (add-one p) (below-all p count 1 (omega arith))
+  unfolding gathered
+  gatherings-same p count e = rw (add-one p) (grown-none (λ j. gathered n T numbers j p) (getD numbers p 0) (blockOf n T p) count e)
 
   pub gatherings-more : (p count i : ℕ) → i < count → getD numbers p 0 ≡ suc i
       → gatherings n T numbers (p + 1) count
       ≡ set (gatherings n T numbers p count) i (grownOf (getD (gatherings n T numbers p count) i emptyPond) (blockOf n T p))
-  gatherings-more p count i h e =
-      let s : 1 + i ≡ suc i = omega arith in
-      rw (add-one p, gatherings-at p count 1 i emptyPond h) (one-of p count 1 i h (e ∙ sym s))
+  unfolding gathered
+  gatherings-more p count i h e = rw (add-one p) (grown-one (λ j. gathered n T numbers j p) (getD numbers p 0) (blockOf n T p) count i h e)
 
   module _ (count : ℕ) (s : Numbers n T numbers count) where
     -- a node's block has at most a sheet's pixels

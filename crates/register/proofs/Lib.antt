@@ -4,5 +4,7 @@ pub mod LeafPixels
 pub mod EntryLaws
 pub mod CountsSum
 pub mod WordLaws
+pub mod FoldLaws
+pub mod UnderLaws
 pub mod SliceLaws
 pub mod WalkLaws

@@ -15,8 +15,8 @@ use Rattle.table.specs.Table.{nodes}
 use Rattle.table.specs.Blocks.{blockOf}
 use Rattle.register.specs.declared.Pond.{Pond}
 use Rattle.register.specs.Entries.{entries}
-use Rattle.register.specs.Gathered.{emptyPond, grownOf, gatherings, Fitting, Numbers}
-use Rattle.register.proofs.GatheredLaws.{gatherings-length, gatherings-at, gatherings-none, gatherings-same, gatherings-more, gathered-fits}
+use Rattle.register.specs.Gathered.{emptyPond, grownOf, gathered, gatherings, Fitting, Numbers}
+use Rattle.register.proofs.GatheredLaws.{ponds-length, ponds-at, gatherings-none, gatherings-same, gatherings-more, gathered-fits}
 use Rattle.register.proofs.EntryLaws.{gatherings-entries}
 
 -- what `grown` asks and gives, where the block was computed
@@ -71,16 +71,16 @@ module _ (n : ℕ) (table numbers : List ℕ) (count : ℕ) (before : List Pond)
 
   pub filled-none : cleared before count ≡ filled 0
   unfolding cleared filled
-  filled-none = rw (gatherings-none n table numbers count 1, length-replicate)
+  filled-none = rw (gatherings-none n table numbers count, length-replicate)
 
   pub filled-length : (p : ℕ) → count ≤ length before → length (filled p) ≡ length before
   unfolding filled
-  filled-length p h = simp (length-append, length-drop, gatherings-length) (omega arith)
+  filled-length p h = simp (length-append, length-drop, ponds-length) (omega arith)
 
   -- once the last node is passed
   pub filled-all : Numbers n table numbers count → (p : ℕ) → p ≡ nodes table → filled p ≡ overlay (entries n table numbers count) before
   unfolding filled
-  filled-all s p e = rw (e, gatherings-entries n table numbers count s count 1 (omega arith))
+  filled-all s p e = rw (e, gatherings-entries n table numbers count s)
 
   pub filled-same : (p k : ℕ) → k ≡ getD numbers p 0 → k ≡ 0 → filled p ≡ filled (p + 1)
   unfolding filled
@@ -92,7 +92,7 @@ module _ (n : ℕ) (table numbers : List ℕ) (count : ℕ) (before : List Pond)
     es = gatherings n table numbers p count
 
     long : j < length es
-    long = rw (gatherings-length n table numbers p count 1) h
+    long = rw (ponds-length (λ k. gathered n table numbers k p) count 1) h
 
     pub filled-more : getD numbers p 0 ≡ suc j → set (filled p) j (grownOf (getD (filled p) j emptyPond) (blockOf n table p)) ≡ filled (p + 1)
     unfolding filled
@@ -108,5 +108,5 @@ module _ (n : ℕ) (table numbers : List ℕ) (count : ℕ) (before : List Pond)
     pub filled-fits : Numbers n table numbers count → p < nodes table → Fitting (getD (filled p) j emptyPond) (blockOf n table p)
     unfolding filled
     filled-fits s b =
-        rw (front es (drop (length es) before) j emptyPond long, gatherings-at n table numbers p count 1 j emptyPond h)
+        rw (front es (drop (length es) before) j emptyPond long, ponds-at (λ k. gathered n table numbers k p) count 1 j emptyPond h)
         (gathered-fits n table numbers count s (1 + j) p b)

@@ -1,5 +1,5 @@
 -- A register of words whose first entries are a list's: an entry is read and written as the list's entry, and the next one behind them makes the list longer.
--- So the words follow what the nodes passed give each pond.
+-- So the words follow the entries while blocks are passed.
 use mathlib.Core.List.{List, [], _∷_, _++_}
 use mathlib.Core.Logic.{⊎-elim}
 use mathlib.Core.Path.{_≡_, refl, ap, sym, _∙_}
@@ -10,16 +10,13 @@ use lib.ListN.{length, getD, set, drop, replicate, length-append, length-set, le
 use lib.Seq.{drop-drop}
 use borrow.Author.Tests.{eq-eqb, ne-eqb}
 use Rattle.base.specs.Tab.{overlay}
-use Rattle.base.proofs.SetsLaws.{overlay-length, overlay-over}
+use Rattle.base.proofs.SetsLaws.{overlay-length}
 use Rattle.table.specs.declared.block.Block.{Block}
-use Rattle.table.specs.Table.{nodes}
-use Rattle.table.specs.Blocks.{blockOf}
 use Rattle.register.specs.declared.Pond.{Pond}
-use Rattle.register.specs.Entries.{entries, wordsOf}
-use Rattle.register.specs.Gathered.{emptyPond, grownOf, Fitting, gatherings, Numbers}
-use Rattle.register.specs.Words.{pondAt, putAt, pondWords, passedOf, Passing}
-use Rattle.register.proofs.GatheredLaws.{gatherings-none, gatherings-length, gatherings-at, gatherings-same, gatherings-more, gathered-fits}
-use Rattle.register.proofs.EntryLaws.{gatherings-entries}
+use Rattle.register.specs.Entries.{entryOf, entries, wordsOf}
+use Rattle.register.specs.Gathered.{emptyPond, grownOf, grownAt, Fitting, pondsFrom}
+use Rattle.register.specs.Words.{pondAt, putAt, pondWords, passedOf, Passing, registerOf}
+use Rattle.register.proofs.GatheredLaws.{ponds-length, ponds-at, ponds-same, empty-ponds, entries-ponds, grown-none, grown-one}
 
 words-length : (es : List Pond) → length (wordsOf es) ≡ 5 * length es
 unfolding wordsOf
@@ -98,90 +95,71 @@ pub grown-written : (reg out : List ℕ) (i : ℕ) (e g : Pond) (b : Block) → 
     → out ≡ putAt reg i (grownOf (pondAt reg i) b)
 grown-written reg out i e g b ee eg eo = rw (eo, eg, ee)
 
--- a node passed
-module _ (n : ℕ) (T : List ℕ) (p k : ℕ) (reg : List ℕ) where
-  pub passed-none : k ≡ 0 → reg ≡ passedOf n T p k reg
+-- a block of number k passed
+module _ (b : Block) (k : ℕ) (reg : List ℕ) where
+  pub passed-none : (j : ℕ) → j ≡ k → j ≡ 0 → reg ≡ passedOf b k reg
   unfolding passedOf
-  passed-none e = rw (eq-eqb k 0 e)
+  passed-none j is e = rw (eq-eqb k 0 (sym is ∙ e))
 
-  pub passed-one : (out : List ℕ) (b : Block) → (k ≡ 0 → ⊥) → b ≡ blockOf n T p → out ≡ putAt reg (k - 1) (grownOf (pondAt reg (k - 1)) b)
-      → out ≡ passedOf n T p k reg
+  pub passed-one : (j : ℕ) (out : List ℕ) → j ≡ k → (j ≡ 0 → ⊥) → out ≡ putAt reg (j - 1) (grownOf (pondAt reg (j - 1)) b) → out ≡ passedOf b k reg
   unfolding passedOf
-  passed-one out b h eb eo = rw (ne-eqb k 0 h, ← eb) eo
+  passed-one j out is h eo = rw (ne-eqb k 0 (λ e. h (is ∙ e)), ← is) eo
 
-  module _ (s : Passing n T p k reg) (h : k ≡ 0 → ⊥) where
-    pub passing-stands : 5 * (k - 1) + 5 ≤ length reg
+  module _ (s : Passing b k reg) (j : ℕ) (is : j ≡ k) (h : j ≡ 0 → ⊥) where
+    pub passing-stands : 5 * (j - 1) + 5 ≤ length reg
     passing-stands = let l = s .stands in omega arith
 
-    pub passing-fits : (b : Block) → b ≡ blockOf n T p → Fitting (pondAt reg (k - 1)) b
-    passing-fits b eb = rw eb (s .fits (omega arith))
+    pub passing-fits : Fitting (pondAt reg (j - 1)) b
+    passing-fits = rw is (s .fits (omega arith))
 
--- all nodes
-module _ (n : ℕ) (T numbers : List ℕ) (count : ℕ) (before : List ℕ) where
-  -- the register after the first p nodes
-  abbrev after : ℕ → List ℕ
-  after p = overlay (wordsOf (gatherings n T numbers p count)) before
+-- the register in which ponds 1 to `count` have the entries E
+module _ (count : ℕ) (before : List ℕ) (E : ℕ → Pond) where
+  abbrev es : List Pond
+  es = pondsFrom E count 1
 
-  -- it begins with a cleared one
-  pub after-none : (old : List ℕ) → before ≡ overlay (wordsOf (replicate count emptyPond)) old → before ≡ after 0
-  after-none old e =
-      let w = wordsOf (replicate count emptyPond) in
-      rw (gatherings-none n T numbers count 1) (e ∙ (sym (overlay-over w w old refl) ∙ ap (overlay w) (sym e)))
+  size : length es ≡ count
+  size = ponds-length E count 1
 
-  module _ (s : Numbers n T numbers count) (room : 5 * count ≤ length before) where
-    module _ (p : ℕ) (reg : List ℕ) (lt : p < length numbers) (e : reg ≡ after p) where
-      node : p < nodes T
-      node = omega (arith, s .words)
+  module _ (long : 5 * count ≤ length before) where
+    pub register-long : length (registerOf count before E) ≡ length before
+    register-long = overlay-length (wordsOf es) before (omega (arith, words-length es, size))
 
-      size : length (gatherings n T numbers p count) ≡ count
-      size = gatherings-length n T numbers p count 1
+    -- pond k's entry
+    pub register-at : (k : ℕ) → 0 < k → k ≤ count → pondAt (registerOf count before E) (k - 1) ≡ E k
+    register-at k pos h =
+        let e : 1 + (k - 1) ≡ k = omega arith in
+        overlay-at before es (k - 1) emptyPond (omega (arith, size)) ∙ (ponds-at E count 1 (k - 1) emptyPond (omega arith) ∙ rw e)
 
-      -- pond k's entry
-      stands : (k : ℕ) → k < count → pondAt (after p) k ≡ getD (gatherings n T numbers p count) k emptyPond
-      stands k h = overlay-at before (gatherings n T numbers p count) k emptyPond (omega (arith, size))
+    pub register-passing : (b : Block) (k : ℕ) → k ≤ count → Fitting (E k) b → Passing b k (registerOf count before E)
+    register-passing b k h f = record {
+      stands = omega (arith, register-long);
+      fits = λ pos. rw (register-at k pos h) f;
+    }
 
-      long : length (after p) ≡ length before
-      long = overlay-length (wordsOf (gatherings n T numbers p count)) before (omega (arith, words-length (gatherings n T numbers p count), size))
+    pub register-passed : (b : Block) (k : ℕ) → k ≤ count → passedOf b k (registerOf count before E) ≡ registerOf count before (grownAt k b E)
+    unfolding passedOf
+    register-passed b k h =
+        ⊎-elim
+        (λ (z : k ≡ 0). rw (eq-eqb k 0 z) (ap (λ (fs : List Pond). overlay (wordsOf fs) before) (sym (grown-none E k b count z))))
+        (λ (pos : 0 < k).
+        let i : ℕ = k - 1 in
+        let lt : i < count = omega arith in
+        let there : pondAt (registerOf count before E) i ≡ getD es i emptyPond = overlay-at before es i emptyPond (omega (arith, size)) in
+        let e : k ≡ suc i = omega arith in
+        rw (ne-eqb k 0 (λ z. omega arith))
+        (ap (λ (f : Pond). putAt (registerOf count before E) i (grownOf f b)) there
+        ∙ (overlay-put before es i (grownOf (getD es i emptyPond) b) (omega (arith, size))
+        ∙ ap (λ (fs : List Pond). overlay (wordsOf fs) before) (sym (grown-one E k b count i lt e)))))
+        (eq-zero-or-pos k)
 
-      pub after-passing : Passing n T p (getD numbers p 0) reg
-      after-passing =
-          let few = s .few p node in
-          rw e (record {
-            asked = record { accepted = s .accepted; node = node };
-            stands = omega (arith, long);
-            fits = λ pos.
-                let h : getD numbers p 0 - 1 < count = omega arith in
-                rw (stands (getD numbers p 0 - 1) h, gatherings-at n T numbers p count 1 (getD numbers p 0 - 1) emptyPond h)
-                (gathered-fits n T numbers count s (1 + (getD numbers p 0 - 1)) p node);
-          })
+  -- other entries of the same ponds
+  pub register-same : (F : ℕ → Pond) → ((k : ℕ) → 0 < k → E k ≡ F k) → registerOf count before E ≡ registerOf count before F
+  register-same F h = ap (λ (fs : List Pond). overlay (wordsOf fs) before) (ponds-same E F count 1 h)
 
-      pub after-more : (out : List ℕ) → out ≡ passedOf n T p (getD numbers p 0) reg → out ≡ after (p + 1)
-      unfolding passedOf
-      after-more out eo =
-          ⊎-elim
-          (λ (z : getD numbers p 0 ≡ 0). eo ∙ rw (z, e, gatherings-same n T numbers p count z))
-          (λ (pos : 0 < getD numbers p 0).
-          let few = s .few p node in
-          let k : ℕ = getD numbers p 0 - 1 in
-          let h : getD numbers p 0 - 1 < count = omega arith in
-          let grown = grownOf (getD (gatherings n T numbers p count) k emptyPond) (blockOf n T p) in
-          eo
-          ∙ rw (
-            ne-eqb (getD numbers p 0) 0 (λ z. omega arith),
-            e,
-            stands k h,
-            overlay-put before (gatherings n T numbers p count) k grown (omega (arith, size)),
-          )
-          (ap (λ (es : List Pond). overlay (wordsOf es) before) (sym (gatherings-more n T numbers p count k h (omega arith)))))
-          (eq-zero-or-pos (getD numbers p 0))
+-- it begins with empty ponds, and ends with the ponds' entries
+pub register-empty : (count : ℕ) (before : List ℕ) → overlay (wordsOf (replicate count emptyPond)) before ≡ registerOf count before (λ k. emptyPond)
+register-empty count before = ap (λ (fs : List Pond). overlay (wordsOf fs) before) (sym (empty-ponds count 1))
 
-  pub after-all : (p : ℕ) (reg old : List ℕ) → Numbers n T numbers count → p ≤ length numbers → length numbers ≤ p → reg ≡ after p
-      → before ≡ overlay (wordsOf (replicate count emptyPond)) old → reg ≡ overlay (wordsOf (entries n T numbers count)) old
-  after-all p reg old s le ge e eb =
-      let all : p ≡ nodes T = omega (arith, s .words) in
-      let es = gatherings n T numbers p count in
-      let cleared = replicate count emptyPond in
-      let same : length (wordsOf es) ≡ length (wordsOf cleared) =
-      omega (arith, words-length es, words-length cleared, gatherings-length n T numbers p count 1, length-replicate count emptyPond) in
-      let done : es ≡ entries n T numbers count = rw all (gatherings-entries n T numbers count s count 1 (omega arith)) in
-      e ∙ (ap (overlay (wordsOf es)) eb ∙ (overlay-over (wordsOf es) (wordsOf cleared) old same ∙ ap (λ (fs : List Pond). overlay (wordsOf fs) old) done))
+pub register-entries : (n : ℕ) (T numbers : List ℕ) (count : ℕ) (before : List ℕ)
+    → registerOf count before (entryOf n T numbers) ≡ overlay (wordsOf (entries n T numbers count)) before
+register-entries n T numbers count before = ap (λ (fs : List Pond). overlay (wordsOf fs) before) (entries-ponds n T numbers count 1)

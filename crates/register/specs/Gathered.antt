@@ -35,21 +35,23 @@ pub record Fitting (e : Pond) (b : Block) : Type 0 where
   pub column : b .column < 2 ^ topLevel
   pub row : b .row < 2 ^ topLevel
 
+-- the ponds' entries after a block of number k: pond k's has the block
+abbrev pub grownAt : ℕ → Block → (ℕ → Pond) → ℕ → Pond
+grownAt k b E j = cond (eqb k j) (grownOf (E j) b) (E j)
+
 -- what the first p nodes give pond k
 unfoldable pub gathered : ℕ → List ℕ → List ℕ → ℕ → ℕ → Pond
 gathered n T numbers k zero = emptyPond
-gathered n T numbers k (suc p) =
-    let e = gathered n T numbers k p in
-    cond (eqb (getD numbers p 0) k) (grownOf e (blockOf n T p)) e
+gathered n T numbers k (suc p) = grownAt (getD numbers p 0) (blockOf n T p) (λ j. gathered n T numbers j p) k
 
--- what they give `count` ponds, from pond k on
-unfoldable pub gatheringsFrom : ℕ → List ℕ → List ℕ → ℕ → ℕ → ℕ → List Pond
-gatheringsFrom n T numbers p zero k = []
-gatheringsFrom n T numbers p (suc count) k = gathered n T numbers k p ∷ gatheringsFrom n T numbers p count (k + 1)
+-- the entries of `count` ponds, from pond k on, where pond k's is E k
+unfoldable pub pondsFrom : (ℕ → Pond) → ℕ → ℕ → List Pond
+pondsFrom E zero k = []
+pondsFrom E (suc count) k = E k ∷ pondsFrom E count (k + 1)
 
--- what they give ponds 1 to `count`
+-- what the first p nodes give ponds 1 to `count`
 abbrev pub gatherings : ℕ → List ℕ → List ℕ → ℕ → ℕ → List Pond
-gatherings n T numbers p count = gatheringsFrom n T numbers p count 1
+gatherings n T numbers p count = pondsFrom (λ k. gathered n T numbers k p) count 1
 
 -- one number for each node of an accepted sheet, 0 for a fork and at most `count`
 pub record Numbers (n : ℕ) (T numbers : List ℕ) (count : ℕ) : Type 0 where

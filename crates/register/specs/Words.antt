@@ -5,10 +5,11 @@ use Prim.Native.Nat.{ℕ, _+_, _-_, _*_, _≤_, _<_}
 use lib.Dec.{eqb}
 use lib.ListN.{length, getD}
 use lib.Seq.{sets}
-use Rattle.table.specs.Rules.{Asked}
-use Rattle.table.specs.Blocks.{blockOf}
+use Rattle.base.specs.Tab.{overlay}
+use Rattle.table.specs.declared.block.Block.{Block}
 use Rattle.register.specs.declared.Pond.{Pond}
-use Rattle.register.specs.Gathered.{grownOf, Fitting}
+use Rattle.register.specs.Entries.{wordsOf}
+use Rattle.register.specs.Gathered.{grownOf, Fitting, pondsFrom}
 
 -- an entry's words, and the entry that stands in a register
 abbrev pub pondWords : Pond → List ℕ
@@ -27,12 +28,15 @@ pondAt words i = record {
 abbrev pub putAt : List ℕ → ℕ → Pond → List ℕ
 putAt words i e = sets words (5 * i) (pondWords e)
 
--- the register after node p, whose number is k: pond k's entry has its block; 0 is no pond's number
-unfoldable pub passedOf : ℕ → List ℕ → ℕ → ℕ → List ℕ → List ℕ
-passedOf n T p k words = cond (eqb k 0) words (putAt words (k - 1) (grownOf (pondAt words (k - 1)) (blockOf n T p)))
+-- the register after a block of number k: pond k's entry has the block; 0 is no pond's number
+unfoldable pub passedOf : Block → ℕ → List ℕ → List ℕ
+passedOf b k words = cond (eqb k 0) words (putAt words (k - 1) (grownOf (pondAt words (k - 1)) b))
 
 -- the pond's entry stands in the register and has room for the block
-pub record Passing (n : ℕ) (T : List ℕ) (p k : ℕ) (words : List ℕ) : Type 0 where
-  pub asked : Asked n T p
+pub record Passing (b : Block) (k : ℕ) (words : List ℕ) : Type 0 where
   pub stands : 5 * k ≤ length words
-  pub fits : 0 < k → Fitting (pondAt words (k - 1)) (blockOf n T p)
+  pub fits : 0 < k → Fitting (pondAt words (k - 1)) b
+
+-- the register that had the words `before`, once ponds 1 to `count` have the entries E
+abbrev pub registerOf : ℕ → List ℕ → (ℕ → Pond) → List ℕ
+registerOf count before E = overlay (wordsOf (pondsFrom E count 1)) before

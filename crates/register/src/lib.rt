@@ -1,13 +1,16 @@
 // The register of ponds: one pond's entry by value, and a lent register of words.
 use table::block::Block;
-use table::block::block_of;
+use table::word_at;
 ghost use mathlib.Core.Path.{_≡_};
-ghost use lib.ListN.{length, replicate};
-ghost use Prim.Native.Nat.{_+_, _*_, _≤_, min, max};
+ghost use mathlib.Core.Bool.{true};
+ghost use lib.ListN.{length, getD, replicate};
+ghost use Prim.Native.Nat.{_+_, _*_, _≤_, _<_, min, max};
 ghost use Rattle.base.specs.Tab.{overlay};
+ghost use Rattle.table.specs.Table.{isFork};
 ghost use Rattle.register.specs.Entries.{entries, wordsOf};
 ghost use Rattle.register.specs.Gathered.{emptyPond, grownOf, Fitting, Numbers};
 ghost use Rattle.register.specs.Words.{pondAt, putAt, passedOf, Passing};
+ghost use Rattle.register.specs.Under.{partOf, Parted, Entering, Entered};
 
 pub mod slice;
 
@@ -107,15 +110,46 @@ fn grow_at(reg: &mut [u32], i: usize, b: Block)
     put_entry(reg, i, e);
 }
 
-// Adds node p to the entry of its number, if it has one.
-fn pass(n: u32, table: &[u32], p: usize, number: usize, reg: &mut [u32])
-    requires { ⌜ Passing n (now table) p number (now reg) ⌝ }
-    ensures { λ _. ⌜ now (reg .exit) ≡ passedOf n (now (table .entry)) p number (now (reg .entry)) ⌝ }
+// Quadrant q of a block.
+fn part(b: Block, q: usize) -> Block
+    requires { ⌜ Parted b × (q < 4) ⌝ }
+    ensures { λ r. ⌜ r ≡ partOf b q ⌝ }
 {
+    Block {
+        column: 2 * b.column + (q % 2) as u32,
+        row: 2 * b.row + (q / 2) as u32,
+        level: b.level - 1,
+    }
+}
+
+// Adds a block to the entry of its node's number, if that has one.
+fn pass(numbers: &[u32], reg: &mut [u32], p: usize, b: Block)
+    requires { ⌜ (p < length (now numbers)) × Passing b (getD (now numbers) p 0) (now reg) ⌝ }
+    ensures { λ _. ⌜ now (reg .exit) ≡ passedOf b (getD (now (numbers .entry)) p 0) (now (reg .entry)) ⌝ }
+{
+    let number = numbers[p] as usize;
     if number == 0 {
         return;
     }
-    grow_at(reg, number - 1, block_of(n, table, p));
+    grow_at(reg, number - 1, b);
+}
+
+// Adds the leaves under a fork, whose block is given, to the entries of their numbers.
+fn pass_fork(table: &[u32], numbers: &[u32], reg: &mut [u32], p: usize, b: Block)
+    requires { ⌜ Entering (now table) (now numbers) p b (now reg) × (isFork (now table) p ≡ true) ⌝ }
+    ensures { λ _. ⌜ Entered (now (table .entry)) (now (numbers .entry)) p b (now (reg .entry)) (now (reg .exit)) ⌝ }
+{
+    let mut q = 0;
+    while q < 4 {
+        let son = word_at(table, p, 1 + q);
+        let its = part(b, q);
+        q += 1;
+        if word_at(table, son, 5) == quad::FORK {
+            pass_fork(table, numbers, reg, son, its);
+        } else {
+            pass(numbers, reg, son, its);
+        }
+    }
 }
 
 // Writes `count` entries of ponds that have no pixel yet.
@@ -130,15 +164,20 @@ fn clear(reg: &mut [u32], count: usize)
     }
 }
 
-// Writes the entries of ponds 1 to `count` from the nodes' numbers; what lies beyond them stays.
+// Writes the entries of ponds 1 to `count` from the nodes' numbers; what lies beyond them stays. Leaves are passed from the root down, each with its block.
 pub fn fill(n: u32, table: &[u32], numbers: &[u32], reg: &mut [u32], count: usize)
     requires { ⌜ Numbers n (now table) (now numbers) count × (5 * count ≤ length (now reg)) ⌝ }
     ensures { λ _. ⌜ now (reg .exit) ≡ overlay (wordsOf (entries n (now (table .entry)) (now (numbers .entry)) count)) (now (reg .entry)) ⌝ }
 {
     clear(reg, count);
-    let mut p = 0;
-    while p < numbers.len() {
-        pass(n, table, p, numbers[p] as usize, reg);
-        p += 1;
+    let sheet = Block {
+        column: 0,
+        row: 0,
+        level: n,
+    };
+    if word_at(table, 0, 5) == quad::FORK {
+        pass_fork(table, numbers, reg, 0, sheet);
+        return;
     }
+    pass(numbers, reg, 0, sheet);
 }

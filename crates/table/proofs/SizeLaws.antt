@@ -18,7 +18,7 @@ use Rattle.table.proofs.FamilyLaws.{Family, family-sum}
 
 module _ (n : ℕ) (T : List ℕ) (acc : Accepted n T) where
   -- all nodes are of one family
-  family : Family T (λ p. true)
+  pub family : Family T (λ p. true)
   family = record {
     some = acc .sized .some;
     root = omega (arith, acc .sized .few, root-father n T acc);

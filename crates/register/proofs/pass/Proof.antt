@@ -1,17 +1,23 @@
 -- `register::pass`: nothing where the number is 0, else the entry before it grows. Assumes nothing.
-use Rattle.register.proofs.WordLaws.{passed-none, passed-one, passing-stands, passing-fits}
 use borrow.Author.Needs.{needs}
+use Rattle.register.proofs.WordLaws.{passed-none, passed-one, passing-stands, passing-fits}
 use Rattle.register.proofs.pass.Statement.{statement}
 use Rattle.register.proofs.pass.Tie as tie
+
+mul-number : tie.Need-mul-number
+mul-number c = search needs
+
+shared-slice-read-number : tie.Need-shared-slice-read-number
+shared-slice-read-number c = search needs
+
+cast-number : tie.Need-cast-number
+cast-number c = search needs
 
 returns : tie.Need-returns
 returns c = search (passed-none, needs)
 
 sub-grow-at : tie.Need-sub-grow-at
 sub-grow-at c = search needs
-
-block-of-requires : tie.Need-block-of-requires
-block-of-requires c κs = search needs
 
 grow-at-requires : tie.Need-grow-at-requires
 grow-at-requires c κs = search (passing-stands, passing-fits, needs)
@@ -25,4 +31,4 @@ returns-2 c = search (passed-one, needs)
 pub pass-spec : {M : Type 1} → statement M
 pass-spec =
     tie.close
-    (tie.spec returns sub-grow-at block-of-requires grow-at-requires same-length returns-2)
+    (tie.spec mul-number shared-slice-read-number cast-number returns sub-grow-at grow-at-requires same-length returns-2)
