@@ -18,8 +18,9 @@ use Rattle.table.proofs.AcceptedLaws.{depth-son, fork-deep}
 use Rattle.table.proofs.HolderLaws.{path-son}
 use Rattle.neighbour.specs.Containing.{Contains}
 use Rattle.neighbour.proofs.PixelLaws.{contains-covers, covers-contains}
+use Rattle.neighbour.specs.SonBeside.{Forward}
 use Rattle.joins.specs.Chain.{Shares}
-use Rattle.joins.specs.Joining.{Forward, ahead, aside, aheadOf, asideOf, Flush}
+use Rattle.joins.specs.Joining.{ahead, aside, aheadOf, asideOf, Flush}
 
 -- the two sides, one by one
 pub data Side : ℕ → Type 0 where

@@ -7,9 +7,9 @@ use native.Mathlib.Omega.{arith}
 use Rattle.quad.specs.Direction.{eastStep, southStep}
 use Rattle.quad.proofs.TreeLaws.{by-quadrant}
 use Rattle.neighbour.specs.Containing.{Touches, opposite}
+use Rattle.neighbour.specs.SonBeside.{Forward}
 use Rattle.neighbour.proofs.BackLaws.{cancels}
 use Rattle.joins.specs.Chain.{Water, Shares, Chain, end, link}
-use Rattle.joins.specs.Joining.{Forward}
 
 -- the direction back from a side is a side
 pub straight-back : (D : ℕ) → D < 4 → opposite D < 4

@@ -15,9 +15,10 @@ use Rattle.base.proofs.TabLaws.{tab-length, tab-at}
 use Rattle.quad.specs.Numbers.{black}
 use Rattle.table.specs.Table.{nodes, type}
 use Rattle.neighbour.specs.Containing.{opposite}
+use Rattle.neighbour.specs.SonBeside.{Forward}
 use Rattle.joins.specs.Chain.{Water, Shares, Chain, end, link}
 use Rattle.joins.specs.Led.{wordOf, Led}
-use Rattle.joins.specs.Joining.{leaderOf, ownOf, Settled, Wired, Forward, Met, MetAll}
+use Rattle.joins.specs.Joining.{leaderOf, ownOf, Settled, Wired, Met, MetAll}
 use Rattle.joins.proofs.ChainLaws.{forward-or-back, touches-back, chain-start, chain-end, chain-joined, chain-back}
 use Rattle.joins.proofs.LeaderLaws.{leader-own, leader-low, leader-ends, leader-on, chain-leader}
 

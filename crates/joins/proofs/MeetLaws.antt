@@ -3,22 +3,22 @@
 use mathlib.Core.Bool.{true, false}
 use mathlib.Core.List.{List}
 use mathlib.Core.Logic.{⊎-elim}
-use mathlib.Core.Path.{_≡_, ap, sym, _∙_}
+use mathlib.Core.Path.{_≡_, refl, ap, sym, _∙_}
 use Prim.Native.Nat.{ℕ, _+_, _-_, _<_}
 use native.Mathlib.Omega.{arith}
 use borrow.Author.Tests.{eq-eqb, ne-eqb}
 use Rattle.quad.specs.Direction.{eastStep, southStep}
 use Rattle.quad.specs.Numbers.{black, forkType}
 use Rattle.table.specs.Table.{word, son, type, isFork}
-use Rattle.table.specs.Rules.{AtLevel}
+use Rattle.table.specs.Nodes.{levelOf}
 use Rattle.table.proofs.AcceptedLaws.{fork-above, son-at}
 use Rattle.neighbour.specs.declared.Found.{Found}
 use Rattle.neighbour.specs.declared.Found.the-variants.{At, Off}
 use Rattle.neighbour.specs.Containing.{Contains, Touches}
-use Rattle.neighbour.specs.Neighbour.{neighbourFound}
 use Rattle.neighbour.proofs.SideLaws.{leaf-holds}
+use Rattle.neighbour.specs.SonBeside.{Forward}
 use Rattle.joins.specs.Chain.{Water, end, link}
-use Rattle.joins.specs.Joining.{leaderOf, Together, Joined, Wired, Further, Forward, Beside, Flush, Bank, MetIn, Ashore, Reached, Met, MetSides}
+use Rattle.joins.specs.Joining.{leaderOf, Together, Joined, Wired, Further, Beside, Flush, Bank, MetIn, Ashore, Reached, Met, MetSides, Along, MetAlong, Facing, FacingMet}
 use Rattle.joins.proofs.LeaderLaws.{same-or-not}
 use Rattle.joins.proofs.BankLaws.{Side, east, south, side-of, pixel-lies, next-lies, lies-next, flush-shares, flush-first, flush-second, near}
 use Rattle.joins.proofs.BeyondLaws.{water-leaf, bank, beyond-in, beyond-on}
@@ -137,30 +137,24 @@ module _ {T : List ℕ} {p m l D : ℕ} (kind : ℕ) (is : kind ≡ type T m) wh
       let i = met-in-still n T W' W'' p s D (second .0 .together) (first .1) in
       (further-on n T W W' W'' (first .0) (second .0), in-fork z kind is fk W'' (rw es at i) (rw (er, ef) at (second .1)))
 
--- beyond side D of the black leaf p; p itself has its own leader
-module _ {n : ℕ} {T : List ℕ} {p l D : ℕ} (z : Beside n T p l D) (found : Found) (e : found ≡ neighbourFound n T p D) where
-  pub met-off : (W : List ℕ) → found ≡ Off → Met n T W p D
+-- beyond side D of the black leaf p, whose neighbour there is `found`; p itself has its own leader
+module _ {T W : List ℕ} {p : ℕ} {found : Found} {D : ℕ} where
+  pub along-off : found ≡ Off → MetAlong T W W p found D
   unfolding Met
-  met-off W f q x y v t = same-or-not p q (λ s. ap (leaderOf W) s) (λ ne. absurd (beyond-on z v ne t (sym e ∙ f)))
+  along-off f z = (
+    further-none (z .n) T W (z .wired),
+    λ q x y v t. same-or-not p q (λ s. ap (leaderOf W) s) (λ ne. absurd (beyond-on (z .beside) v ne t (sym (z .is) ∙ f))),
+  )
 
-  module _ (W : List ℕ) (w : Wired n T W) (m k : ℕ) (f : found ≡ At m k) where
-    pub ashore-found : Ashore T W p m k D
-    ashore-found = record { n = n; bank = bank z (sym e ∙ f); wired = w }
+  module _ (m k : ℕ) (f : found ≡ At m k) where
+    pub along-ashore : Along T W p found D → Ashore T W p m k D
+    along-ashore z = record { n = z .n; bank = bank (z .beside) (sym (z .is) ∙ f); wired = z .wired }
 
-    pub met-found : (W' : List ℕ) → Reached T W W' p m k D → Further n T W W' × Met n T W' p D
+    pub along-met : (W' : List ℕ) → Reached T W W' p m k D → MetAlong T W W' p found D
     unfolding Met MetIn
-    met-found W' r =
-        let a = r n (bank z (sym e ∙ f)) w in
-        (a .0, λ q x y v t. same-or-not p q (λ s. ap (leaderOf W') s) (λ ne. a .1 q x y v t (beyond-in z v ne t (sym e ∙ f))))
-
--- a black leaf, its level and one of the two sides
-pub beside-at : {n : ℕ} {T : List ℕ} {p l : ℕ} → AtLevel n T p l → (kind : ℕ) → kind ≡ type T p → kind ≡ black → (D : ℕ) → Forward D → Beside n T p l D
-beside-at h kind is b D way = record {
-  accepted = h .accepted;
-  water = record { node = h .node; wet = sym is ∙ b };
-  level = omega (arith, h .level);
-  way = way;
-}
+    along-met W' r z =
+        let a = r (z .n) (bank (z .beside) (sym (z .is) ∙ f)) (z .wired) in
+        (a .0, λ q x y v t. same-or-not p q (λ s. ap (leaderOf W') s) (λ ne. a .1 q x y v t (beyond-in (z .beside) v ne t (sym (z .is) ∙ f))))
 
 -- a node that is no black leaf has no side to look beyond
 pub sides-dry : (n : ℕ) (T W : List ℕ) (p kind : ℕ) → kind ≡ type T p → (kind ≡ black → ⊥) → MetSides n T W p
@@ -171,7 +165,26 @@ by-side : (P : ℕ → Type 0) → P 1 → P 2 → {D : ℕ} → Side D → P D
 by-side P a b east = a
 by-side P a b south = b
 
-pub both-sides : (n : ℕ) (T W W' W'' : List ℕ) (p : ℕ) → Further n T W W' × Met n T W' p 1 → Further n T W' W'' × Met n T W'' p 2
+both-sides : (n : ℕ) (T W W' W'' : List ℕ) (p : ℕ) → Further n T W W' × Met n T W' p 1 → Further n T W' W'' × Met n T W'' p 2
     → Further n T W W'' × MetSides n T W'' p
 both-sides n T W W' W'' p a b =
     (further-on n T W W' W'' (a .0) (b .0), λ v D w. by-side (Met n T W'' p) (met-still n T W' W'' p 1 (b .0 .together) (a .1)) (b .1) (side-of D w))
+
+module _ {T : List ℕ} {p kind : ℕ} (is : kind ≡ type T p) where
+  pub facing-dry : {W : List ℕ} {e s : Found} → (kind ≡ black → ⊥) → FacingMet T W W p e s
+  facing-dry {W} ne z = (further-none (z .n) T W (z .wired), sides-dry (z .n) T W p kind is ne)
+
+  module _ {W : List ℕ} {e s : Found} (b : kind ≡ black) (z : Facing T W p e s) where
+    beside : (D : ℕ) → Forward D → Beside (z .n) T p (levelOf (z .n) T p) D
+    beside D way = record { accepted = z .accepted; water = record { node = z .node; wet = sym is ∙ b }; level = refl; way = way }
+
+    pub east-along : Along T W p e 1
+    east-along = record { n = z .n; beside = beside 1 (omega arith, omega arith); is = z .east; wired = z .wired }
+
+    pub south-along : (W' : List ℕ) → MetAlong T W W' p e 1 → Along T W' p s 2
+    unfolding east-along
+    south-along W' h = record { n = z .n; beside = beside 2 (omega arith, omega arith); is = z .south; wired = h east-along .0 .wired }
+
+    pub facing-both : (W' W'' : List ℕ) → MetAlong T W W' p e 1 → MetAlong T W' W'' p s 2 → Further (z .n) T W W'' × MetSides (z .n) T W'' p
+    unfolding east-along south-along
+    facing-both W' W'' h k = both-sides (z .n) T W W' W'' p (h east-along) (k (south-along W' h))

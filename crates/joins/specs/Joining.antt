@@ -9,9 +9,12 @@ use lib.ListN.{length}
 use Rattle.quad.specs.Numbers.{black}
 use Rattle.quad.specs.Direction.{eastStep, southStep}
 use Rattle.table.specs.Table.{nodes, son, type, isFork}
-use Rattle.table.specs.Rules.{Accepted, AtLevel}
+use Rattle.table.specs.Rules.{depthTo, Accepted, AtLevel}
 use Rattle.table.specs.Nodes.{levelOf, sideOf, leftOf, topOf}
+use Rattle.neighbour.specs.declared.Found.{Found}
+use Rattle.neighbour.specs.Neighbour.{neighbourFound}
 use Rattle.neighbour.specs.Containing.{Contains, Touches}
+use Rattle.neighbour.specs.SonBeside.{Forward}
 use Rattle.joins.specs.Chain.{Water, Shares, Chain}
 use Rattle.joins.specs.Led.{wordOf}
 
@@ -71,11 +74,8 @@ pub record Further (n : ℕ) (T W W' : List ℕ) : Type 0 where
 abbrev pub ownOf : List ℕ → ℕ → ℕ
 ownOf T p = cond (eqb (type T p) black) p 0
 
--- sides E and S: each pair of leaves that share a length of side is met from its western or its northern leaf
-abbrev pub Forward : ℕ → Type 0
-Forward D = (0 < D) × (D < 3)
-
--- what a look beyond side D of the black leaf p asks of its caller: l is its level
+-- what a look beyond side D, E or S, of the black leaf p asks of its caller: l is its level. Each pair of leaves that share a length of side is met from its
+-- western or its northern leaf
 pub record Beside (n : ℕ) (T : List ℕ) (p l D : ℕ) : Type 0 where
   pub accepted : Accepted n T
   pub water : Water T p
@@ -128,6 +128,16 @@ Reached T W W' p m l D = (n : ℕ) → Bank n T p m l D → Wired n T W → Furt
 unfoldable pub Met : ℕ → List ℕ → List ℕ → ℕ → ℕ → Type 0
 Met n T W p D = (q x y : ℕ) → Water T q → Touches n T p q D x y → leaderOf W p ≡ leaderOf W q
 
+-- what it asks where the neighbour is known, and what it leaves
+pub record Along (T W : List ℕ) (p : ℕ) (found : Found) (D : ℕ) : Type 0 where
+  pub n : ℕ
+  pub beside : Beside n T p (levelOf n T p) D
+  pub is : found ≡ neighbourFound n T p D
+  pub wired : Wired n T W
+
+abbrev pub MetAlong : List ℕ → List ℕ → List ℕ → ℕ → Found → ℕ → Type 0
+MetAlong T W W' p found D = (z : Along T W p found D) → Further (z .n) T W W' × Met (z .n) T W' p D
+
 -- so on both sides, if p is a black leaf
 abbrev pub MetSides : ℕ → List ℕ → List ℕ → ℕ → Type 0
 MetSides n T W p = Water T p → (D : ℕ) → Forward D → Met n T W p D
@@ -140,3 +150,25 @@ MetUnder n T W (suc l) p = MetSides n T W p × (isFork T p ≡ true → (q : ℕ
 -- and so every node
 abbrev pub MetAll : ℕ → List ℕ → List ℕ → Type 0
 MetAll n T W = (i : ℕ) → i < nodes T → MetSides n T W i
+
+-- node p and its neighbours E and S, on a sheet of some level whose words are wired
+pub record Facing (T W : List ℕ) (p : ℕ) (e s : Found) : Type 0 where
+  pub n : ℕ
+  pub accepted : Accepted n T
+  pub node : p < nodes T
+  pub east : e ≡ neighbourFound n T p 1
+  pub south : s ≡ neighbourFound n T p 2
+  pub wired : Wired n T W
+
+-- p has been joined to what lies beyond its sides
+abbrev pub FacingMet : List ℕ → List ℕ → List ℕ → ℕ → Found → Found → Type 0
+FacingMet T W W' p e s = (z : Facing T W p e s) → Further (z .n) T W W' × MetSides (z .n) T W' p
+
+-- the same of a fork of level l, and of what is under it
+pub record FacingFork (T W : List ℕ) (p l : ℕ) (e s : Found) : Type 0 where
+  pub facing : Facing T W p e s
+  pub level : l + depthTo T (facing .n) p ≡ facing .n
+  pub fork : isFork T p ≡ true
+
+abbrev pub FacingUnder : List ℕ → List ℕ → List ℕ → ℕ → ℕ → Found → Found → Type 0
+FacingUnder T W W' p l e s = (z : FacingFork T W p l e s) → Further (z .facing .n) T W W' × MetUnder (z .facing .n) T W' l p

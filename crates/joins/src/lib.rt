@@ -1,16 +1,17 @@
 // Which black leaves are one pond: those that share a length of side are joined, and each one's word becomes its pond's leader. The words themselves are
 // the sets: a leaf's word is a leaf of its set that is not above it, and a leader's is itself.
 use neighbour::Found;
+use neighbour::beside::of_son;
 use table::word_at;
 ghost use mathlib.Core.Path.{_≡_};
 ghost use Prim.Native.Nat.{_<_, _≤_};
 ghost use lib.ListN.{length};
 ghost use Rattle.base.specs.Tab.{tab};
 ghost use Rattle.quad.specs.Numbers.{maxWords};
-ghost use Rattle.table.specs.Table.{nodes};
-ghost use Rattle.table.specs.Rules.{Accepted, AtLevel};
+ghost use Rattle.table.specs.Table.{nodes, type};
+ghost use Rattle.table.specs.Rules.{Accepted};
 ghost use Rattle.joins.specs.Led.{Led};
-ghost use Rattle.joins.specs.Joining.{leaderOf, ownOf, Falling, Kept, Joined, Settled, Wired, Further, Beside, Ashore, Reached, Met, MetSides, MetUnder};
+ghost use Rattle.joins.specs.Joining.{leaderOf, ownOf, Falling, Kept, Joined, Settled, Wired, Further, Ashore, Reached, Along, MetAlong, MetUnder, Facing, FacingMet, FacingFork, FacingUnder};
 
 // The word that a node begins with: a black leaf's is itself, the others' are 0.
 fn own(table: &[u32], p: usize) -> u32
@@ -84,48 +85,61 @@ fn shore(table: &[u32], words: &mut [u32], p: usize, node: usize, level: u32, si
     }
 }
 
-// Joins p and the black leaves beyond one side of it: its neighbour there is a leaf, or a fork of p's size.
-fn across(n: u32, table: &[u32], words: &mut [u32], p: usize, level: u32, side: usize)
-    requires { ⌜ Beside n (now table) p level side × Wired n (now table) (now words) ⌝ }
-    ensures { λ _. ⌜ Further n (now (table .entry)) (now (words .entry)) (now (words .exit)) × Met n (now (table .entry)) (now (words .exit)) p side ⌝ }
+// Joins p and the black leaves beyond one side of it, where its neighbour there is `found`: a leaf, or a fork of p's size.
+fn across(table: &[u32], words: &mut [u32], p: usize, found: Found, side: usize)
+    requires { ⌜ Along (now table) (now words) p found side ⌝ }
+    ensures { λ _. ⌜ MetAlong (now (table .entry)) (now (words .entry)) (now (words .exit)) p found side ⌝ }
 {
-    let found = neighbour::find(n, table, p, level, side);
-    let Found::At { node, level: its } = found else {
+    let Found::At { node, level } = found else {
         return;
     };
-    shore(table, words, p, node, its, side);
+    shore(table, words, p, node, level, side);
 }
 
-// Joins a leaf, if it is black, and those beyond its sides E and S. Those beyond N and W meet it from their own.
-fn around(n: u32, table: &[u32], words: &mut [u32], p: usize, level: u32)
-    requires { ⌜ AtLevel n (now table) p level × Wired n (now table) (now words) ⌝ }
-    ensures { λ _. ⌜ Further n (now (table .entry)) (now (words .entry)) (now (words .exit)) × MetSides n (now (table .entry)) (now (words .exit)) p ⌝ }
+// Joins a leaf of that kind, if it is black, and those beyond its sides E and S. Those beyond N and W meet it from their own.
+fn around(table: &[u32], words: &mut [u32], p: usize, kind: usize, east: Found, south: Found)
+    requires { ⌜ Facing (now table) (now words) p east south × (kind ≡ type (now table) p) ⌝ }
+    ensures { λ _. ⌜ FacingMet (now (table .entry)) (now (words .entry)) (now (words .exit)) p east south ⌝ }
 {
-    if word_at(table, p, 5) != quad::BLACK {
+    if kind != quad::BLACK {
         return;
     }
-    across(n, table, words, p, level, 1);
-    across(n, table, words, p, level, 2);
+    across(table, words, p, east, 1);
+    across(table, words, p, south, 2);
 }
 
-// Joins every black leaf in or under a node, whose level is given, and those beyond its sides.
-fn meet(n: u32, table: &[u32], words: &mut [u32], p: usize, level: u32)
-    requires { ⌜ AtLevel n (now table) p level × Wired n (now table) (now words) ⌝ }
-    ensures { λ _. ⌜ Further n (now (table .entry)) (now (words .entry)) (now (words .exit)) × MetUnder n (now (table .entry)) (now (words .exit)) level p ⌝ }
+// Joins every black leaf under a fork, whose level and neighbours E and S are given, and those beyond its sides. A son's neighbours come from the fork's.
+fn meet(table: &[u32], words: &mut [u32], p: usize, level: u32, east: Found, south: Found)
+    requires { ⌜ FacingFork (now table) (now words) p level east south ⌝ }
+    ensures { λ _. ⌜ FacingUnder (now (table .entry)) (now (words .entry)) (now (words .exit)) p level east south ⌝ }
 {
-    if word_at(table, p, 5) != quad::FORK {
-        around(n, table, words, p, level);
-        return;
-    }
     let half = level - 1;
-    let nw = word_at(table, p, 1);
-    let ne = word_at(table, p, 2);
-    let sw = word_at(table, p, 3);
-    let se = word_at(table, p, 4);
-    meet(n, table, words, nw, half);
-    meet(n, table, words, ne, half);
-    meet(n, table, words, sw, half);
-    meet(n, table, words, se, half);
+    let mut q = 0;
+    while q < 4 {
+        let son = word_at(table, p, 1 + q);
+        let e = of_son(table, p, half, east, q, 1);
+        let s = of_son(table, p, half, south, q, 2);
+        let kind = word_at(table, son, 5);
+        q += 1;
+        if kind == quad::FORK {
+            meet(table, words, son, half, e, s);
+        } else {
+            around(table, words, son, kind, e, s);
+        }
+    }
+}
+
+// Joins every black leaf of the sheet and those beyond its sides. Nothing lies beside the root.
+fn meet_all(n: u32, table: &[u32], words: &mut [u32])
+    requires { ⌜ Accepted n (now table) × Wired n (now table) (now words) ⌝ }
+    ensures { λ _. ⌜ Further n (now (table .entry)) (now (words .entry)) (now (words .exit)) × MetUnder n (now (table .entry)) (now (words .exit)) n 0 ⌝ }
+{
+    let kind = word_at(table, 0, 5);
+    if kind == quad::FORK {
+        meet(table, words, 0, n, Found::Off, Found::Off);
+        return;
+    }
+    around(table, words, 0, kind, Found::Off, Found::Off);
 }
 
 // In rising node number each word becomes its word's word: that is the leader, since the words before it are leaders already.
@@ -146,6 +160,6 @@ pub fn lead(n: u32, table: &[u32], words: &mut [u32])
     ensures { λ _. ⌜ Led n (now (table .entry)) (now (words .exit)) ⌝ }
 {
     singles(table, words);
-    meet(n, table, words, 0, n);
+    meet_all(n, table, words);
     settle(words);
 }

@@ -10,3 +10,4 @@ pub mod OnSheetA
 pub mod BackLaws
 pub mod SideLaws
 pub mod PixelLaws
+pub mod BesideLaws

@@ -2,3 +2,4 @@ pub mod Neighbour
 pub mod Calls
 pub mod Containing
 pub mod Search
+pub mod SonBeside

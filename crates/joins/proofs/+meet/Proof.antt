@@ -1,21 +1,25 @@
--- `joins::meet`: a leaf is looked around, and a fork's sons are gone through, one after the other. The measure is the level. Assumes nothing.
-use mathlib.Core.Path.{_∙_}
-use Prim.Native.Nat.{ℕ, _<_}
+-- `joins::meet`: the first q sons have been gone through. The measure is the level; the loop's, the sons left. Assumes nothing.
+use mathlib.Core.Path.{_≡_, refl, _∙_}
 use native.Mathlib.Omega.{arith}
+use lib.ListN.{length}
+use Rattle.table.proofs.AcceptedLaws.{fork-above}
+use Rattle.table.proofs.SeenLaws.{told-fork, told-leaf}
+use Rattle.neighbour.proofs.BesideLaws.{found-in}
+use Rattle.joins.proofs.UnderLaws.{FirstMet, first-none, fork-at, son-facing, son-fork, fork-more, leaf-more, first-all}
+use Prim.Native.Nat.{ℕ, _-_, _≤_, _<_}
 use borrow.Fn.Kinds.{In}
 use borrow.Fn.PlainCycle.{Measures, is, falls, and}
-use Rattle.table.proofs.AcceptedLaws.{fork-above, son-at}
-use Rattle.joins.proofs.UnderLaws.{met-leaf, is-fork, met-four}
 use Rattle.joins.proofs.meet.Reads as meet
 use Rattle.joins.proofs.meet.Kinds as meet-kinds
 use Rattle.joins.proofs.+meet.Lts-meet as meet-lts
 use Rattle.joins.proofs.around.Reads as around-reads
+use Rattle.neighbour.proofs.beside.of_son.Reads as of-son-reads
 use Rattle.table.proofs.word_at.Reads as word-at-reads
 use Rattle.joins.proofs.+meet.{statement}
 use Rattle.joins.proofs.+meet.Tie.{close}
 
 abbrev μ-meet : Measures 2 meet-kinds.ps ℕ
-μ-meet κs a = a .1 .1 .1 .1 .0
+μ-meet κs a = a .1 .1 .1 .0
 
 abbrev meet-at : ℕ → In 2 meet-kinds.ps
 meet-at t = and 2 meet-kinds.ps (is 2 meet-kinds.ps μ-meet t) meet.Pre
@@ -24,106 +28,108 @@ abbrev meet-below : ℕ → In 2 meet-kinds.ps
 meet-below t = and 2 meet-kinds.ps (falls 2 meet-kinds.ps _<_ μ-meet t) meet.Pre
 
 abbrev calls : ℕ → meet-lts.Claims
-calls t = (word-at-reads.Asked, word-at-reads.Learnt, around-reads.Asked, around-reads.Learnt, meet-below t, meet.Post)
+calls t = (word-at-reads.Asked, word-at-reads.Learnt, of-son-reads.Asked, of-son-reads.Learnt, meet-below t, meet.Post, around-reads.Asked, around-reads.Learnt)
 
-meet-word-at-requires : (t : ℕ) → meet-lts.Need-word-at-requires (calls t) (meet-at t) meet.Post
-meet-word-at-requires t c κs = (c .before .before .pre .1 .0 .node, omega arith)
+abbrev meet-Inv-loop : meet-lts.InvT-loop
+meet-Inv-loop table words₀ p level east south half q₀ words q =
+    (q ≤ 4) × (length words ≡ length words₀) × (half ≡ level - 1) × FirstMet table words₀ p level east south q words
 
-meet-around-requires : (t : ℕ) → meet-lts.Need-around-requires (calls t) (meet-at t) meet.Post
-meet-around-requires t c κs = c .before .before .before .before .before .pre .1
+abbrev meet-μ-loop : meet-lts.MeasureT-loop
+meet-μ-loop table words₀ p level east south half q₀ words q = 4 - q
 
-meet-same-length : (t : ℕ) → meet-lts.Need-same-length (calls t) (meet-at t) meet.Post
-meet-same-length t c = c .before .before .around .kept .1 .1 .0
+meet-sub-half : (t : ℕ) → meet-lts.Need-sub-half (calls t) (meet-at t) meet.Post meet-Inv-loop meet-μ-loop
+meet-sub-half t c = let z = c .before .before .pre .1 in omega (arith, fork-above (fork-at z) (z .fork))
 
-meet-returns : (t : ℕ) → meet-lts.Need-returns (calls t) (meet-at t) meet.Post
-meet-returns t c =
-    let f = c .before .before .before .before in
-    met-leaf (f .before .before .before .before .pre .1 .0) (f .before .word-at .ensures) _ _ (f .if1 .taken) (c .before .before .around .ensures)
+meet-loop-holds : (t : ℕ) → meet-lts.Need-loop-holds (calls t) (meet-at t) meet.Post meet-Inv-loop meet-μ-loop
+meet-loop-holds t c = (omega arith, refl, refl, first-none)
 
-meet-sub-half : (t : ℕ) → meet-lts.Need-sub-half (calls t) (meet-at t) meet.Post
-meet-sub-half t c = omega (arith, fork-above (c .before .before .before .before .pre .1 .0) (is-fork (c .before .before .before .before .pre .1 .0) (c .before .word-at .ensures) (c .if1 .left)))
+meet-add-word-at : (t : ℕ) → meet-lts.Need-add-word-at (calls t) (meet-at t) meet.Post meet-Inv-loop meet-μ-loop
+meet-add-word-at t c = omega arith
 
-meet-word-at-requires-2 : (t : ℕ) → meet-lts.Need-word-at-requires-2 (calls t) (meet-at t) meet.Post
-meet-word-at-requires-2 t c κs = (c .before .before .before .before .pre .1 .0 .node, omega arith)
+meet-word-at-requires : (t : ℕ) → meet-lts.Need-word-at-requires (calls t) (meet-at t) meet.Post meet-Inv-loop meet-μ-loop
+meet-word-at-requires t c κs = (c .before .before .before .before .pre .1 .facing .node, omega arith)
 
-meet-word-at-requires-3 : (t : ℕ) → meet-lts.Need-word-at-requires-3 (calls t) (meet-at t) meet.Post
-meet-word-at-requires-3 t c κs = (c .before .before .before .before .before .pre .1 .0 .node, omega arith)
+meet-of-son-requires : (t : ℕ) → meet-lts.Need-of-son-requires (calls t) (meet-at t) meet.Post meet-Inv-loop meet-μ-loop
+meet-of-son-requires t c κs = let z = c .before .before .before .before .before .pre .1 in
+    (z .facing .node, found-in (fork-at z) 1 (omega arith, omega arith) _ (z .facing .east), omega arith, (omega arith, omega arith))
 
-meet-word-at-requires-4 : (t : ℕ) → meet-lts.Need-word-at-requires-4 (calls t) (meet-at t) meet.Post
-meet-word-at-requires-4 t c κs = (c .before .before .before .before .before .before .pre .1 .0 .node, omega arith)
+meet-of-son-requires-2 : (t : ℕ) → meet-lts.Need-of-son-requires-2 (calls t) (meet-at t) meet.Post meet-Inv-loop meet-μ-loop
+meet-of-son-requires-2 t c κs = let z = c .before .before .before .before .before .before .pre .1 in
+    (z .facing .node, found-in (fork-at z) 2 (omega arith, omega arith) _ (z .facing .south), omega arith, (omega arith, omega arith))
 
-meet-word-at-requires-5 : (t : ℕ) → meet-lts.Need-word-at-requires-5 (calls t) (meet-at t) meet.Post
-meet-word-at-requires-5 t c κs = (c .before .before .before .before .before .before .before .pre .1 .0 .node, omega arith)
+meet-word-at-requires-2 : (t : ℕ) → meet-lts.Need-word-at-requires-2 (calls t) (meet-at t) meet.Post meet-Inv-loop meet-μ-loop
+meet-word-at-requires-2 t c κs = let v = c .before .before .before .before .loop in (
+  son-facing (v .q) _ _ _ _ _ (omega arith) (c .before .before .word-at .ensures) (v .inv .2) (c .before .of-son .ensures) (c .of-son2 .ensures) (v .inv .3) (c .before .before .before .before .before .before .before .pre .1) .node,
+  omega arith,
+)
 
-meet-meet-requires : (t : ℕ) → meet-lts.Need-meet-requires (calls t) (meet-at t) meet.Post
-meet-meet-requires t c κs =
-    let w = c .before in
-    let f = w .before .before .before .before in
-    let z = f .before .before .before .before .pre in
-    let h = z .1 in
-    let fk = is-fork (h .0) (f .before .word-at .ensures) (f .if1 .left) in
-    (omega (arith, z .0, fork-above (h .0) fk), (rw (w .before .before .before .word-at2 .ensures) (son-at (h .0) fk 0 (omega arith)), h .1))
+meet-add-q : (t : ℕ) → meet-lts.Need-add-q (calls t) (meet-at t) meet.Post meet-Inv-loop meet-μ-loop
+meet-add-q t c = omega arith
 
-meet-meet-requires-2 : (t : ℕ) → meet-lts.Need-meet-requires-2 (calls t) (meet-at t) meet.Post
-meet-meet-requires-2 t c κs =
-    let w = c .before .before .before .before .before in
-    let f = w .before .before .before .before in
-    let z = f .before .before .before .before .pre in
-    let h = z .1 in
-    let fk = is-fork (h .0) (f .before .word-at .ensures) (f .if1 .left) in
-    (omega (arith, z .0, fork-above (h .0) fk), (rw (w .before .before .word-at3 .ensures) (son-at (h .0) fk 1 (omega arith)), c .before .before .before .meet .ensures .0 .wired))
+meet-meet-requires : (t : ℕ) → meet-lts.Need-meet-requires (calls t) (meet-at t) meet.Post meet-Inv-loop meet-μ-loop
+meet-meet-requires t c κs = let u = c .before .before .before .before .before .before .before .before .before .before .pre in
+    let z = u .1 in
+    let v = c .before .before .before .before .before .before .before .loop in
+    let fork = told-fork (c .before .before .before .before .before .before .before .before .before .before .args .table .now) (c .before .before .before .before .before .word-at .result) _ (c .before .before .word-at2 .ensures) (c .before .if1 .taken) in (
+      omega (arith, u .0, v .inv .2, fork-above (fork-at z) (z .fork)),
+      son-fork (v .q) _ _ _ _ _ (omega arith) (c .before .before .before .before .before .word-at .ensures) (v .inv .2) (c .before .before .before .before .of-son .ensures) (c .before .before .before .of-son2 .ensures) (v .inv .3) fork z,
+    )
 
-meet-meet-requires-3 : (t : ℕ) → meet-lts.Need-meet-requires-3 (calls t) (meet-at t) meet.Post
-meet-meet-requires-3 t c κs =
-    let w = c .before .before .before .before .before .before .before .before .before in
-    let f = w .before .before .before .before in
-    let z = f .before .before .before .before .pre in
-    let h = z .1 in
-    let fk = is-fork (h .0) (f .before .word-at .ensures) (f .if1 .left) in
-    (omega (arith, z .0, fork-above (h .0) fk), (rw (w .before .word-at4 .ensures) (son-at (h .0) fk 2 (omega arith)), c .before .before .before .meet2 .ensures .0 .wired))
+meet-loop-less : (t : ℕ) → meet-lts.Need-loop-less (calls t) (meet-at t) meet.Post meet-Inv-loop meet-μ-loop
+meet-loop-less t c = omega arith
 
-meet-meet-requires-4 : (t : ℕ) → meet-lts.Need-meet-requires-4 (calls t) (meet-at t) meet.Post
-meet-meet-requires-4 t c κs =
-    let w = c .before .before .before .before .before .before .before .before .before .before .before .before .before in
-    let f = w .before .before .before .before in
-    let z = f .before .before .before .before .pre in
-    let h = z .1 in
-    let fk = is-fork (h .0) (f .before .word-at .ensures) (f .if1 .left) in
-    (omega (arith, z .0, fork-above (h .0) fk), (rw (w .word-at5 .ensures) (son-at (h .0) fk 3 (omega arith)), c .before .before .before .meet3 .ensures .0 .wired))
+meet-loop-again : (t : ℕ) → meet-lts.Need-loop-again (calls t) (meet-at t) meet.Post meet-Inv-loop meet-μ-loop
+meet-loop-again t c = let v = c .before .before .before .before .before .before .before .before .before .before .loop in
+    let fork = told-fork (c .before .before .before .before .before .before .before .before .before .before .before .before .before .args .table .now) (c .before .before .before .before .before .before .before .before .word-at .result) _ (c .before .before .before .before .before .word-at2 .ensures) (c .before .before .before .before .if1 .taken) in (
+      omega arith,
+      c .before .before .meet .kept .1 .0 ∙ v .inv .1,
+      v .inv .2,
+      fork-more (v .q) _ _ _ _ _ (omega arith) (c .before .before .before .before .before .before .before .before .word-at .ensures) (v .inv .2) (c .before .before .before .before .before .before .before .of-son .ensures) (c .before .before .before .before .before .before .of-son2 .ensures) (v .inv .3) _ fork (c .before .before .meet .ensures),
+    )
 
-meet-same-length-2 : (t : ℕ) → meet-lts.Need-same-length-2 (calls t) (meet-at t) meet.Post
-meet-same-length-2 t c = c .before .before .meet4 .kept .1 .1 .0 ∙ c .before .before .before .before .before .before .meet3 .kept .1 .1 .0 ∙ c .before .before .before .before .before .before .before .before .before .before .meet2 .kept .1 .1 .0 ∙ c .before .before .before .before .before .before .before .before .before .before .before .before .before .before .meet .kept .1 .1 .0
+meet-around-requires : (t : ℕ) → meet-lts.Need-around-requires (calls t) (meet-at t) meet.Post meet-Inv-loop meet-μ-loop
+meet-around-requires t c κs = let v = c .before .before .before .before .before .before .before .loop in (
+  son-facing (v .q) _ _ _ _ _ (omega arith) (c .before .before .before .before .before .word-at .ensures) (v .inv .2) (c .before .before .before .before .of-son .ensures) (c .before .before .before .of-son2 .ensures) (v .inv .3) (c .before .before .before .before .before .before .before .before .before .before .pre .1),
+  c .before .before .word-at2 .ensures,
+)
 
-meet-returns-2 : (t : ℕ) → meet-lts.Need-returns-2 (calls t) (meet-at t) meet.Post
-meet-returns-2 t c =
-    let w = c .before .before .before .before .before .before .before .before .before .before .before .before .before .before .before .before in
-    let f = w .before .before .before .before in
-    met-four (f .before .before .before .before .pre .1 .0) (f .before .word-at .ensures) (f .if1 .left) _ _ _ _ _ _ _ _ _
-    (w .before .before .before .word-at2 .ensures)
-    (w .before .before .word-at3 .ensures)
-    (w .before .word-at4 .ensures)
-    (w .word-at5 .ensures)
-    (c .before .before .before .before .before .before .before .before .before .before .before .before .before .before .meet .ensures)
-    (c .before .before .before .before .before .before .before .before .before .before .meet2 .ensures)
-    (c .before .before .before .before .before .before .meet3 .ensures)
-    (c .before .before .meet4 .ensures)
+meet-loop-less-2 : (t : ℕ) → meet-lts.Need-loop-less-2 (calls t) (meet-at t) meet.Post meet-Inv-loop meet-μ-loop
+meet-loop-less-2 t c = omega arith
+
+meet-loop-again-2 : (t : ℕ) → meet-lts.Need-loop-again-2 (calls t) (meet-at t) meet.Post meet-Inv-loop meet-μ-loop
+meet-loop-again-2 t c = let v = c .before .before .before .before .before .before .before .before .before .before .loop in
+    let leaf = told-leaf (c .before .before .before .before .before .before .before .before .before .before .before .before .before .args .table .now) (c .before .before .before .before .before .before .before .before .word-at .result) _ (c .before .before .before .before .before .word-at2 .ensures) (c .before .before .before .before .if1 .left) in (
+      omega arith,
+      c .before .before .around .kept .1 .0 ∙ v .inv .1,
+      v .inv .2,
+      leaf-more (v .q) _ _ _ _ _ (omega arith) (c .before .before .before .before .before .before .before .before .word-at .ensures) (v .inv .2) (c .before .before .before .before .before .before .before .of-son .ensures) (c .before .before .before .before .before .before .of-son2 .ensures) (v .inv .3) _ leaf (c .before .before .around .ensures),
+    )
+
+meet-same-length : (t : ℕ) → meet-lts.Need-same-length (calls t) (meet-at t) meet.Post meet-Inv-loop meet-μ-loop
+meet-same-length t c = c .before .loop .inv .1
+
+meet-returns : (t : ℕ) → meet-lts.Need-returns (calls t) (meet-at t) meet.Post meet-Inv-loop meet-μ-loop
+meet-returns t c = let v = c .before .loop in first-all (v .q) _ (v .inv .0) (omega arith) (v .inv .3)
 
 pub +meet-spec : {M : Type 1} → statement M
 +meet-spec = close μ-meet λ t. meet-lts.spec (calls t)
     (meet-at t)
     meet.Post
+    meet-Inv-loop
+    meet-μ-loop
+    (meet-sub-half t)
+    (meet-loop-holds t)
+    (meet-add-word-at t)
     (meet-word-at-requires t)
+    (meet-of-son-requires t)
+    (meet-of-son-requires-2 t)
+    (meet-word-at-requires-2 t)
+    (meet-add-q t)
+    (meet-meet-requires t)
+    (meet-loop-less t)
+    (meet-loop-again t)
     (meet-around-requires t)
+    (meet-loop-less-2 t)
+    (meet-loop-again-2 t)
     (meet-same-length t)
     (meet-returns t)
-    (meet-sub-half t)
-    (meet-word-at-requires-2 t)
-    (meet-word-at-requires-3 t)
-    (meet-word-at-requires-4 t)
-    (meet-word-at-requires-5 t)
-    (meet-meet-requires t)
-    (meet-meet-requires-2 t)
-    (meet-meet-requires-3 t)
-    (meet-meet-requires-4 t)
-    (meet-same-length-2 t)
-    (meet-returns-2 t)

@@ -1,0 +1,174 @@
+-- The neighbour of a fork's son is the quadrant that the move's mirror names of the fork's own neighbour, in the direction in which the move leads on from the
+-- fork: the path of the block beside the son's is that quadrant and the path beside the fork's. Nothing lies beside the whole sheet.
+use mathlib.Core.Bool.{Bool, true, false, cond, _&&_}
+use mathlib.Core.List.{List, [], _∷_}
+use mathlib.Core.Logic.{⊎-elim}
+use mathlib.Core.Path.{_≡_, refl, ap, sym, _∙_}
+use Prim.Native.Nat.{ℕ, _+_, _-_, _/_, _%_, _≤_, _<_}
+use native.Mathlib.Omega.{arith}
+use lib.Dec.{leb, eqb}
+use borrow.Author.Tests.{ne-eqb, eq-eqb, eqb-true, leb-true}
+use Rattle.base.specs.All.{all2}
+use Rattle.base.proofs.AllLaws.{all2-at}
+use Rattle.base.proofs.BoolLaws.{by-bool, and-left, and-right}
+use Rattle.quad.specs.Numbers.{forkType}
+use Rattle.table.specs.Table.{nodes, son, type, isFork}
+use Rattle.table.specs.Rules.{Accepted, AtLevel}
+use Rattle.table.specs.Nodes.{pathTo, holder, levelOf}
+use Rattle.table.proofs.AcceptedLaws.{sons-of, depth-son, fork-deep, level-is}
+use Rattle.table.proofs.NodeLaws.{path-root, holder-fork, holder-leaf}
+use Rattle.table.proofs.HolderLaws.{held, own-quadrants, own-path, path-son}
+use Rattle.neighbour.specs.declared.Found.{Found}
+use Rattle.neighbour.specs.declared.Found.the-variants.{At, Off}
+use Rattle.neighbour.specs.Neighbour.{neighbourFound}
+use Rattle.neighbour.specs.Search.{stay, onwardOf, mirrorOf, Where, off, block, inner, moved}
+use Rattle.neighbour.specs.SonBeside.{InTable, partIn, Forward, besideSon}
+use Rattle.neighbour.proofs.FoundLaws.{found-facts}
+use Rattle.neighbour.proofs.SearchLaws.{MovedTo, moved-to, steers, moved-stay, heldBy, beside-moved}
+
+module _ (n : ℕ) (T : List ℕ) (acc : Accepted n T) where
+  -- quadrant q of a block is held by that quadrant of its holder, or by the holder itself
+  part-held : (q : ℕ) (w : Where) (D : ℕ) (π : List ℕ) → q < 4 → MovedTo D π w → heldBy n T (inner q w) ≡ partIn T q (heldBy n T w)
+  unfolding heldBy inner partIn MovedTo
+  part-held q off D π q4 m = refl
+  part-held q (block ρ) D π q4 m =
+      let h = held n T acc ρ (m .quadrants) in
+      let p : ℕ = holder T ρ in
+      ⊎-elim
+      (λ (f : isFork T (holder T ρ) ≡ true).
+      let d = depth-son n T acc p q (h .below) f q4 in
+      let e : levelOf n T (son T p q) ≡ levelOf n T p - 1 = omega arith in
+      rw (holder-fork T q ρ f, f, e))
+      (λ (f : isFork T (holder T ρ) ≡ false). rw (holder-leaf T q ρ f, f))
+      (by-bool (isFork T (holder T ρ)))
+
+  -- the neighbour by the moves along the path
+  by-moves : (p D : ℕ) → p < nodes T → D ≤ stay → neighbourFound n T p D ≡ heldBy n T (moved D (pathTo T n p))
+  unfolding neighbourFound
+  by-moves p D lt le = beside-moved n T D (pathTo T n p) le (own-quadrants n T acc p lt)
+
+  pub son-beside : (p q D : ℕ) → p < nodes T → isFork T p ≡ true → q < 4 → D ≤ stay
+      → neighbourFound n T (son T p q) D ≡ partIn T (mirrorOf D q) (neighbourFound n T p (onwardOf D q))
+  unfolding moved
+  son-beside p q D lt f q4 le =
+      let π : List ℕ = pathTo T n p in
+      let s = steers D q le q4 in
+      let quadrants = own-quadrants n T acc p lt in
+      by-moves (son T p q) D (sons-of n T acc p lt f q q4 .below) le
+      ∙ (ap (λ (ρ : List ℕ). heldBy n T (moved D ρ)) (path-son n T acc p q lt f q4)
+      ∙ (part-held (mirrorOf D q) (moved (onwardOf D q) π) (onwardOf D q) π (s .small) (moved-to (onwardOf D q) π (s .way) quadrants)
+      ∙ ap (partIn T (mirrorOf D q)) (sym (by-moves p (onwardOf D q) lt (s .way)))))
+
+  -- no move leads to the node itself
+  pub stays-own : (p : ℕ) → p < nodes T → neighbourFound n T p stay ≡ At p (levelOf n T p)
+  unfolding heldBy
+  stays-own p lt = by-moves p stay lt (omega arith) ∙ rw (moved-stay (pathTo T n p), own-path n T acc p lt)
+
+  pub none-beside : (D : ℕ) → D < stay → Off ≡ neighbourFound n T 0 D
+  unfolding heldBy moved
+  none-beside D lt = sym (by-moves 0 D (acc .sized .some) (omega arith) ∙ rw (path-root T n, ne-eqb D stay (λ e. omega arith)))
+
+  -- what is beside a node is a node of the table
+  in-table : (p D : ℕ) → p < nodes T → D ≤ stay → (g : Found) → neighbourFound n T p D ≡ g → InTable T g
+  unfolding InTable
+  in-table p D lt le Off e = tt
+  in-table p D lt le (At m l) e =
+      let h = found-facts n T acc p D lt le m l e in
+      (h .below, λ f. omega (arith, h .level, fork-deep n T acc m (h .below) f))
+
+-- sides E and S by the quadrants' numbers, as one test
+forthOk : ℕ → ℕ → Bool
+forthOk d q =
+    let D = d + 1 in
+    cond (eqb (q / D % 2) 0)
+    (eqb (onwardOf D q) stay && eqb (mirrorOf D q) (q + D))
+    (eqb (onwardOf D q) D && (eqb (mirrorOf D q) (q - D) && leb D q))
+
+forth-all : all2 forthOk 2 4 ≡ true
+unfolding forthOk mirrorOf onwardOf
+forth-all = refl
+
+module _ (D q : ℕ) (way : Forward D) (q4 : q < 4) where
+  forth : cond (eqb (q / D % 2) 0)
+      (eqb (onwardOf D q) stay && eqb (mirrorOf D q) (q + D))
+      (eqb (onwardOf D q) D && (eqb (mirrorOf D q) (q - D) && leb D q))
+      ≡ true
+  unfolding forthOk
+  forth =
+      let e : D - 1 + 1 ≡ D = omega arith in
+      rw e at (all2-at forthOk 2 4 forth-all (D - 1) q (omega arith) q4)
+
+  to-brother : eqb (q / D % 2) 0 ≡ true → (onwardOf D q ≡ stay) × (mirrorOf D q ≡ q + D)
+  to-brother h =
+      let v = rw h at forth in
+      let a = eqb (onwardOf D q) stay in
+      let b = eqb (mirrorOf D q) (q + D) in
+      (eqb-true _ _ (and-left a b v), eqb-true _ _ (and-right a b v))
+
+  to-next : eqb (q / D % 2) 0 ≡ false → (onwardOf D q ≡ D) × (mirrorOf D q ≡ q - D) × (D ≤ q)
+  to-next h =
+      let v = rw h at forth in
+      let a = eqb (onwardOf D q) D in
+      let b = eqb (mirrorOf D q) (q - D) in
+      let c = leb D q in
+      let w = and-right a (b && c) v in
+      (eqb-true _ _ (and-left a (b && c) v), eqb-true _ _ (and-left b c w), leb-true _ _ (and-right b c w))
+
+  -- the quadrants that they name
+  pub brother-there : q / D % 2 ≡ 0 → q + D < 4
+  brother-there h = omega (arith, to-brother (eq-eqb _ _ h) .1, steers D q (omega (arith, way .1)) q4 .small)
+
+  pub next-there : (q / D % 2 ≡ 0 → ⊥) → D ≤ q
+  next-there h = to-next (ne-eqb _ _ h) .2
+
+-- fork p, of level l, and its own neighbour on side D
+module _ {n : ℕ} {T : List ℕ} {p l : ℕ} (z : AtLevel n T p l) (D : ℕ) (way : Forward D) (found : Found) (is : found ≡ neighbourFound n T p D) where
+  pub found-in : InTable T found
+  found-in = rw is (in-table n T (z .accepted) p D (z .node) (omega (arith, way .1)) (neighbourFound n T p D) refl)
+
+  -- is enough for its sons'
+  pub beside-of-son : isFork T p ≡ true → (half q : ℕ) → half ≡ l - 1 → q < 4 → besideSon T p half found q D ≡ neighbourFound n T (son T p q) D
+  unfolding besideSon partIn
+  beside-of-son f half q eh q4 =
+      let step = son-beside n T (z .accepted) p q D (z .node) f q4 (omega (arith, way .1)) in
+      let e : half ≡ levelOf n T p - 1 = omega (arith, level-is z) in
+      ⊎-elim
+      (λ (h : eqb (q / D % 2) 0 ≡ true).
+      let b = to-brother D q way q4 h in
+      rw (h, e) (sym (step ∙ rw (b .0, b .1, stays-own n T (z .accepted) p (z .node), f))))
+      (λ (h : eqb (q / D % 2) 0 ≡ false).
+      let b = to-next D q way q4 h in
+      rw (h, is) (sym (step ∙ rw (b .0, b .1))))
+      (by-bool (eqb (q / D % 2) 0))
+
+-- the code's own values
+pub part-off : (T : List ℕ) (q : ℕ) (found : Found) → found ≡ Off → found ≡ partIn T q found
+unfolding partIn
+part-off T q found e = rw e
+
+module _ (T : List ℕ) (found : Found) (h : InTable T found) (m l : ℕ) (at : found ≡ At m l) where
+  pub in-node : m < nodes T
+  unfolding InTable
+  in-node = (rw at at h) .0
+
+  pub in-above : (kind : ℕ) → kind ≡ type T m → kind ≡ forkType → 0 < l
+  unfolding InTable
+  in-above kind is k = (rw at at h) .1 (eq-eqb (type T m) forkType (sym is ∙ k))
+
+module _ (T : List ℕ) (q : ℕ) (found : Found) (m l : ℕ) (at : found ≡ At m l) (kind : ℕ) (is : kind ≡ type T m) where
+  pub part-leaf : (kind ≡ forkType → ⊥) → At m l ≡ partIn T q found
+  unfolding partIn
+  part-leaf k = rw (at, ne-eqb (type T m) forkType (λ e. k (is ∙ e)))
+
+  pub part-fork : (s : ℕ) → kind ≡ forkType → s ≡ son T m q → At s (l - 1) ≡ partIn T q found
+  unfolding partIn
+  part-fork s k e = rw (at, eq-eqb (type T m) forkType (sym is ∙ k), e)
+
+module _ (T : List ℕ) (p half : ℕ) (found : Found) (q D : ℕ) where
+  pub son-brother : (s : ℕ) → q / D % 2 ≡ 0 → s ≡ son T p (q + D) → At s half ≡ besideSon T p half found q D
+  unfolding besideSon
+  son-brother s h e = rw (eq-eqb (q / D % 2) 0 h, e)
+
+  pub son-next : (r : Found) → (q / D % 2 ≡ 0 → ⊥) → r ≡ partIn T (q - D) found → r ≡ besideSon T p half found q D
+  unfolding besideSon
+  son-next r h e = rw (ne-eqb (q / D % 2) 0 h) e
