@@ -11,3 +11,4 @@ pub mod BackLaws
 pub mod SideLaws
 pub mod PixelLaws
 pub mod BesideLaws
+pub mod SurroundLaws

@@ -3,3 +3,4 @@ pub mod Calls
 pub mod Containing
 pub mod Search
 pub mod SonBeside
+pub mod Surround

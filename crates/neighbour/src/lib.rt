@@ -14,6 +14,7 @@ ghost use Rattle.neighbour.specs.Search.{stay, onwardOf, mirrorOf, found
 ghost use Rattle.neighbour.specs.Neighbour.{neighbourFound, outcomeOf, leafBeyond};
 ghost use Rattle.neighbour.specs.Calls.{Neighbours, CornerLeaves, DiagonalLeaves};
 
+pub mod around;
 pub mod beside;
 
 // What a search ends on: a node and its level, or no block of the sheet.

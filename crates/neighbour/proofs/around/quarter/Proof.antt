@@ -1,0 +1,45 @@
+-- `neighbour::around::quarter`: a fork's son, or the leaf itself. Assumes nothing.
+use Rattle.neighbour.proofs.SurroundLaws.{quarter-fork, quarter-leaf}
+use borrow.Author.Needs.{needs}
+use Rattle.neighbour.proofs.around.quarter.Statement.{statement}
+use Rattle.neighbour.proofs.around.quarter.Tie as tie
+use Rattle.neighbour.proofs.around.quarter.Reads as reads
+use Rattle.neighbour.proofs.around.quarter.Lts as lts
+use Rattle.table.proofs.word_at.Reads as word-at-reads
+
+word-at-requires : tie.Need-word-at-requires
+word-at-requires c κs = search needs
+
+mul-son : tie.Need-mul-son
+mul-son c = search needs
+
+add-son : tie.Need-add-son
+add-son c = search needs
+
+add-son-2 : tie.Need-add-son-2
+add-son-2 c = search needs
+
+mul-son-2 : tie.Need-mul-son-2
+mul-son-2 c = search needs
+
+shared-slice-read-son : tie.Need-shared-slice-read-son
+shared-slice-read-son c = search needs
+
+returns : tie.Need-returns
+returns c = search (quarter-fork, needs)
+
+returns-2 : tie.Need-returns-2
+returns-2 c = search (quarter-leaf, needs)
+
+pub quarter-spec : {M : Type 1} → statement M
+quarter-spec =
+    tie.close
+    (tie.spec
+    word-at-requires
+    mul-son
+    add-son
+    add-son-2
+    mul-son-2
+    shared-slice-read-son
+    returns
+    returns-2)
