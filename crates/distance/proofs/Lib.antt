@@ -9,7 +9,7 @@ pub mod BesideLaws
 pub mod FatherLaws
 pub mod LeafLaws
 pub mod AroundLaws
-pub mod LevelLaws
+pub mod HandedLaws
 pub mod CallLaws
 pub mod TheoremOne
 pub mod Bounds

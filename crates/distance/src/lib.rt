@@ -1,20 +1,22 @@
 // The chessboard distance from a black block's centre to the nearest white pixel (document 001): the eight neighbours, and under the grey ones the nearest
-// quarters first, with a lower bound that stops the search as soon as nothing nearer can be found.
+// quarters first, with a lower bound that stops the search as soon as nothing nearer can be found. A pass from the root down hands each fork its neighbours.
 use answer::Outcome;
-use neighbour::Found;
+use neighbour::around::of_son;
 use table::word_at;
 ghost use mathlib.Core.Path.{_≡_};
-ghost use mathlib.Core.Bool.{true};
+ghost use mathlib.Core.Bool.{true, false};
 ghost use lib.ListN.{length};
 ghost use Prim.Native.Nat.{_+_, _*_, _^_, _<_, _≤_, min};
 ghost use Rattle.quad.specs.Numbers.{topLevel};
 ghost use Rattle.quad.specs.Direction.{eastStep, southStep};
-ghost use Rattle.table.specs.Table.{nodes, isFork};
-ghost use Rattle.table.specs.Rules.{Accepted, AtLevel};
+ghost use Rattle.table.specs.Table.{nodes, son, isFork};
+ghost use Rattle.table.specs.Rules.{Accepted};
 ghost use Rattle.neighbour.specs.Search.{stay};
+ghost use Rattle.neighbour.specs.Surround.{InNodes};
 ghost use Rattle.distance.specs.Calls.{Distances};
 ghost use Rattle.distance.specs.Distance.{plainOutside, distanceAt, distancesOf};
-ghost use Rattle.distance.specs.Around.{offsetBeside, offsetAround, Inner, Levels};
+ghost use Rattle.distance.specs.Around.{leastAround, Beside, AllBeside, SomeWhite};
+ghost use Rattle.distance.specs.Handed.{Land, Fork, Handed, Fills};
 ghost use Rattle.distance.specs.Search.{nearQuarter, nextQuarter, NextWay, OtherWay, nextEdge, offsetFrom, Spot};
 
 // The mark where no pixel is white.
@@ -116,38 +118,52 @@ fn seek(table: &[u32], direction: usize, p: usize, level: u32, at: u32, best: u3
     look(table, direction, last, m, far, best3)
 }
 
-// The least of best and the offsets of the white pixels in the neighbour of leaf p in a direction. Off the sheet nothing is white; a leaf tells at once.
-fn beside(n: u32, table: &[u32], p: usize, level: u32, direction: usize, best: u32) -> u32
-    requires { ⌜ AtLevel n (now table) p level × (direction < stay) ⌝ }
-    ensures { λ r. ⌜ r ≡ min best (offsetBeside n (now (table .entry)) p direction) ⌝ }
+// The least of best and the offsets of the white pixels in a node that lies beside a block of that level. A leaf tells at once.
+fn beside(table: &[u32], node: u32, level: u32, direction: usize, best: u32) -> u32
+    requires { ⌜ Beside (now table) level node × (direction < stay) ⌝ }
+    ensures { λ r. ⌜ r ≡ min best (offsetFrom (now (table .entry)) direction level node 0) ⌝ }
 {
-    let found = neighbour::find(n, table, p, level, direction);
-    let Found::At { node, level: its } = found else {
-        return best;
-    };
-    let kind = word_at(table, node, 5);
+    let kind = word_at(table, node as usize, 5);
     if kind == 0 {
         return 0;
     }
     if kind != quad::FORK {
         return best;
     }
-    seek(table, direction, node, its, 0, best)
+    seek(&*table, direction, node as usize, level, 0, best)
 }
 
-// The least offset of a white pixel in the eight neighbours of a black leaf that has a father. It is below the side (document 001, Theorem 1), and none is
-// below 0.
-fn around(n: u32, table: &[u32], p: usize, level: u32) -> u32
-    requires { ⌜ Inner n (now table) p level ⌝ }
-    ensures { λ r. ⌜ r ≡ offsetAround n (now (table .entry)) p stay ⌝ }
+// Whether one of eight nodes is a white leaf.
+fn some_white(table: &[u32], near: &[u32; 8]) -> bool
+    requires { ⌜ InNodes (now table) (now near) ⌝ }
+    ensures { λ r. ⌜ (r ≡ true → SomeWhite (now (table .entry)) (now (near .entry))) ⌝ }
 {
+    let mut way = 0;
+    while way < 8 {
+        if word_at(table, near[way] as usize, 5) == 0 {
+            return true;
+        }
+        way += 1;
+    }
+    false
+}
+
+// The least offset of a white pixel in the eight nodes around a block, or one less than the side, where there is none below it. A white leaf tells at once, before
+// anything is searched; and none is below 0.
+fn around(table: &[u32], level: u32, near: &[u32; 8]) -> u32
+    requires { ⌜ (level ≤ topLevel) × AllBeside (now table) level (now near) ⌝ }
+    ensures { λ r. ⌜ r ≡ leastAround (now (table .entry)) level (now (near .entry)) stay ⌝ }
+{
+    if some_white(table, near) {
+        return 0;
+    }
     let mut best = quad::side(level) - 1;
     let mut direction = 0;
     while direction < 8 {
         if best == 0 {
             return best;
         }
-        best = beside(n, table, p, level, direction, best);
+        best = beside(table, near[direction], level, direction, best);
         direction += 1;
     }
     best
@@ -161,47 +177,114 @@ fn to_edge(side: u32, offset: u32) -> u32
     side + 2 * offset
 }
 
-// The distance of node p, whose level is given. A black root is the whole sheet: nothing is white.
-fn distance(n: u32, table: &[u32], p: usize, level: u32) -> u32
-    requires { ⌜ AtLevel n (now table) p level ⌝ }
-    ensures { λ r. ⌜ r ≡ distanceAt plainOutside n (now (table .entry)) p ⌝ }
+// The distance of the leaf that fork p has in a quadrant, its level given and the eight nodes around p.
+fn leaf_distance(
+    n: u32,
+    table: &[u32],
+    p: usize,
+    quadrant: usize,
+    level: u32,
+    near: &[u32; 8],
+) -> u32
+    requires { ⌜ Handed n (now table) p (level + 1) (now near) × (quadrant < 4) × (isFork (now table) (son (now table) p quadrant) ≡ false) ⌝ }
+    ensures { λ r. ⌜ r ≡ distanceAt plainOutside n (now (table .entry)) (son (now (table .entry)) p quadrant) ⌝ }
 {
-    let kind = word_at(table, p, 5);
-    if kind == 0 {
+    let leaf = word_at(table, p, 1 + quadrant);
+    if word_at(table, leaf, 5) == 0 {
         return 0;
     }
-    if kind == quad::FORK {
-        return 0;
-    }
-    if p == 0 {
-        return MARK;
-    }
-    to_edge(quad::side(level), around(n, table, p, level))
+    let own = of_son(table, p, quadrant, near);
+    to_edge(quad::side(level), around(table, level, &own))
 }
 
-// Writes the level of every node: one less than its father's, who stands before it.
-fn levels(n: u32, table: &[u32], out: &mut [u32])
-    requires { ⌜ Accepted n (now table) × (length (now out) ≡ nodes (now table)) ⌝ }
-    ensures { λ _. ⌜ Levels n (now (table .entry)) (now (out .exit)) 0 (nodes (now (table .entry))) ⌝ }
+// Writes the distance of a fork of four pixels and of its sons: a black pixel has a white brother.
+fn four_pixels(n: u32, table: &[u32], p: usize, out: &mut [u32])
+    requires { ⌜ Fork n (now table) p 1 × (length (now out) ≡ nodes (now table)) ⌝ }
+    ensures { λ _. ⌜ Fills n (now (table .entry)) (now (out .entry)) (now (out .exit)) 1 p ⌝ }
 {
-    out[0] = n;
-    let mut p = 1;
-    while p < out.len() {
-        out[p] = out[word_at(table, p, 0)] - 1;
+    out[p] = 0;
+    let mut q = 0;
+    while q < 4 {
+        let pixel = word_at(table, p, 1 + q);
+        out[pixel] = table[6 * pixel + 5];
+        q += 1;
+    }
+}
+
+// Writes the distances of the fork that fork p has in a quadrant, its level given and the eight nodes around p, and of all below it. Around pixels nothing is searched.
+fn below(
+    n: u32,
+    table: &[u32],
+    p: usize,
+    quadrant: usize,
+    level: u32,
+    near: &[u32; 8],
+    out: &mut [u32],
+)
+    requires { ⌜ Handed n (now table) p (level + 1) (now near) × (quadrant < 4) × (isFork (now table) (son (now table) p quadrant) ≡ true) × (length (now out) ≡ nodes (now table)) ⌝ }
+    ensures { λ _. ⌜ Fills n (now (table .entry)) (now (out .entry)) (now (out .exit)) level (son (now (table .entry)) p quadrant) ⌝ }
+{
+    let fork = word_at(table, p, 1 + quadrant);
+    if level == 1 {
+        four_pixels(n, table, fork, out);
+        return;
+    }
+    let own = of_son(table, p, quadrant, near);
+    sons(n, &*table, fork, level, &own, out);
+}
+
+// Writes the distances of a fork and of all below it, son by son, given the eight nodes around it.
+fn sons(n: u32, table: &[u32], p: usize, level: u32, near: &[u32; 8], out: &mut [u32])
+    requires { ⌜ Handed n (now table) p level (now near) × (length (now out) ≡ nodes (now table)) ⌝ }
+    ensures { λ _. ⌜ Fills n (now (table .entry)) (now (out .entry)) (now (out .exit)) level p ⌝ }
+{
+    out[p] = 0;
+    let half = level - 1;
+    let mut q = 0;
+    while q < 4 {
+        let quadrant = q;
+        q += 1;
+        let son = word_at(table, p, 1 + quadrant);
+        if word_at(table, son, 5) == quad::FORK {
+            below(n, table, p, quadrant, half, near, out);
+        } else {
+            out[son] = leaf_distance(n, table, p, quadrant, half, near);
+        }
+    }
+}
+
+// The leaf that stands for all that is off the sheet: a black one, since the outside counts as black; where none is black, the last node, which is no fork.
+fn outside(n: u32, table: &[u32]) -> u32
+    requires { ⌜ Accepted n (now table) ⌝ }
+    ensures { λ r. ⌜ Land (now (table .entry)) r ⌝ }
+{
+    let last = table::node_count(table) - 1;
+    let mut p = 0;
+    while p < last {
+        if word_at(table, p, 5) == quad::BLACK {
+            return p as u32;
+        }
         p += 1;
     }
+    p as u32
 }
 
-// Writes the distance of every node over its level.
+// Writes the distance of every node. A black root is the whole sheet: nothing is white.
 fn fill(n: u32, table: &[u32], out: &mut [u32])
-    requires { ⌜ Accepted n (now table) × (length (now out) ≡ nodes (now table)) × Levels n (now table) (now out) 0 (nodes (now table)) ⌝ }
+    requires { ⌜ Accepted n (now table) × (length (now out) ≡ nodes (now table)) ⌝ }
     ensures { λ _. ⌜ now (out .exit) ≡ distancesOf plainOutside n (now (table .entry)) ⌝ }
 {
-    let mut p = 0;
-    while p < out.len() {
-        out[p] = distance(n, table, p, out[p]);
-        p += 1;
+    let kind = word_at(table, 0, 5);
+    if kind == quad::FORK {
+        let near: [u32; 8] = [outside(n, table); 8];
+        sons(n, table, 0, n, &near, out);
+        return;
     }
+    if kind == 0 {
+        out[0] = 0;
+        return;
+    }
+    out[0] = MARK;
 }
 
 // The distance of every node, for any level, words and slice: the slice has one word for each node, and on a refusal it is as it was.
@@ -212,7 +295,6 @@ pub fn distances(n: u32, table: &[u32], out: &mut [u32]) -> Outcome
     if !answer::answered(tested) {
         return tested;
     }
-    levels(n, table, out);
     fill(n, table, out);
     Outcome::Answered { value: 0 }
 }

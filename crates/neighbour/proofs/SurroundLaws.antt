@@ -40,8 +40,8 @@ pub sons-placed : (T : List ℕ) (p q : ℕ) (near : List ℕ) (a b c d e : ℕ)
     → a ≡ partOf T (q + 1 - 2 * (q % 2)) (getD near (3 - 2 * (q % 2)) 0) → b ≡ partOf T ((q + 2) % 4) (getD near (2 * (q / 2)) 0)
     → c ≡ partOf T (3 - q) (getD near (4 + q) 0) → d ≡ partOf T (3 - q) (getD near (2 * (q / 2)) 0) → e ≡ partOf T (3 - q) (getD near (3 - 2 * (q % 2)) 0)
     → set (set (set (set (set (set (set (set (replicate 8 0) (3 - 2 * (q % 2)) a) (2 * (q / 2)) b) (4 + q) c) (4 + (q + 1 - 2 * (q % 2))) d) (4 + (q + 2) % 4) e)
-        (4 - (3 - 2 * (q % 2))) (son T p (q + 1 - 2 * (q % 2)))) (2 - 2 * (q / 2)) (son T p ((q + 2) % 4))) (4 + (3 - q)) (son T p (3 - q))
-      ≡ sonSurround T p q near
+    (4 - (3 - 2 * (q % 2))) (son T p (q + 1 - 2 * (q % 2)))) (2 - 2 * (q / 2)) (son T p ((q + 2) % 4))) (4 + (3 - q)) (son T p (3 - q))
+    ≡ sonSurround T p q near
 unfolding sonSurround sonNear onwardOf mirrorOf tabFrom
 sons-placed T p zero near a b c d e q4 ea eb ec ed ee = rw (ea, eb, ec, ed, ee) refl
 sons-placed T p (suc zero) near a b c d e q4 ea eb ec ed ee = rw (ea, eb, ec, ed, ee) refl

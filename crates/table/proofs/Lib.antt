@@ -16,3 +16,4 @@ pub mod SonTypeLaws
 pub mod BlockLaws
 pub mod HolderLaws
 pub mod BlockPixels
+pub mod UnderLaws

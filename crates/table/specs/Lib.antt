@@ -7,3 +7,4 @@ pub mod Links
 pub mod SheetA
 pub mod Seen
 pub mod Order
+pub mod Under

@@ -1,5 +1,4 @@
 -- `distance::distances`: the tests, and the words only where they are passed. Assumes nothing.
-use native.Mathlib.Omega.{arith}
 use borrow.Author.Needs.{needs}
 use Rattle.table.proofs.CheckLaws.{each-node-call}
 use Rattle.distance.proofs.CallLaws.{refused, filled}
@@ -15,13 +14,8 @@ answered-requires c κs = search needs
 returns : tie.Need-returns
 returns c = search (refused, needs)
 
-levels-requires : tie.Need-levels-requires
-levels-requires c κs = each-node-call _ _ _ _ _ (c .before .before .before .each-node .ensures) (c .before .before .answered .ensures) (c .before .if1 .left)
-
 fill-requires : tie.Need-fill-requires
-fill-requires c κs =
-    let a = each-node-call _ _ _ _ _ (c .before .before .before .before .before .before .before .each-node .ensures) (c .before .before .before .before .before .before .answered .ensures) (c .before .before .before .before .before .if1 .left) in
-    (a .0, omega (arith, c .before .before .before .levels .kept, a .1), c .before .before .before .levels .ensures)
+fill-requires c κs = each-node-call _ _ _ _ _ (c .before .before .before .each-node .ensures) (c .before .before .answered .ensures) (c .before .if1 .left)
 
 same-length : tie.Need-same-length
 same-length c = search needs
@@ -30,4 +24,4 @@ returns-2 : tie.Need-returns-2
 returns-2 c = search (filled, needs)
 
 pub distances-spec : {M : Type 1} → statement M
-distances-spec = tie.close (tie.spec each-node-requires answered-requires returns levels-requires fill-requires same-length returns-2)
+distances-spec = tie.close (tie.spec each-node-requires answered-requires returns fill-requires same-length returns-2)

@@ -1,82 +1,63 @@
--- `distance::fill`: the words before p are the distances of their nodes, the others their levels. The measure is the words left. Assumes nothing.
-use Prim.Native.Nat.{_-_, _≤_, _<_}
-use mathlib.Core.Path.{_≡_}
-use native.Mathlib.Omega.{arith}
-use lib.ListN.{length, take, length-set}
+-- `distance::fill`: a fork at the root hands down a leaf that stands for the outside; a leaf at the root has one word. Assumes nothing.
+use mathlib.Core.Path.{refl, sym, _∙_}
+use borrow.Author.Tests.{eq-eqb}
+use Rattle.table.proofs.SeenLaws.{told-leaf}
+use Rattle.distance.proofs.AroundLaws.{white-word, root-word}
+use Rattle.distance.proofs.HandedLaws.{root-handed, whole-filled, leaf-filled}
 use borrow.Author.Needs.{needs}
-use Rattle.base.specs.Tab.{tab}
-use Rattle.base.proofs.FillLaws.{filled-none, filled-more, filled-all}
-use Rattle.table.specs.Table.{nodes}
-use Rattle.table.proofs.AcceptedLaws.{depth-le}
-use Rattle.distance.specs.Distance.{plainOutside, distanceAt, distancesOf}
-use Rattle.distance.specs.Around.{Levels}
-use Rattle.distance.proofs.LevelLaws.{levels-left}
 use Rattle.distance.proofs.fill.Statement.{statement}
 use Rattle.distance.proofs.fill.Tie as tie
+use Rattle.distance.proofs.fill.Reads as reads
+use Rattle.distance.proofs.fill.Lts as lts
+use Rattle.distance.proofs.outside.Reads as outside-reads
+use Rattle.distance.proofs.sons.Reads as sons-reads
+use Rattle.table.proofs.word_at.Reads as word-at-reads
 
-abbrev Inv-loop : tie.InvT-loop
-Inv-loop n table out₀ p₀ out p =
-    (p ≤ length out) × (length out ≡ nodes table) × (take p out ≡ tab (distanceAt plainOutside n table) p) × Levels n table out p (nodes table)
+word-at-requires : tie.Need-word-at-requires
+word-at-requires c κs = search needs
 
-abbrev μ-loop : tie.MeasureT-loop
-μ-loop n table out₀ p₀ out p = length out - p
+outside-requires : tie.Need-outside-requires
+outside-requires c κs = search needs
 
-loop-holds : tie.Need-loop-holds Inv-loop μ-loop
-loop-holds c = (omega arith, c .before .before .pre .1, filled-none _, c .before .before .pre .2)
+sons-requires : tie.Need-sons-requires
+sons-requires c κs = (root-handed _ _ (c .before .before .before .before .before .before .before .pre .0) (c .before .before .before .before .before .before .before .args .out .now) (c .before .before .before .before .before .before .before .pre .1) _ (c .before .before .outside .ensures) (eq-eqb _ _ (sym (c .before .before .before .before .word-at .ensures) ∙ c .before .before .before .if1 .taken)), c .before .before .before .before .before .before .before .pre .1)
 
-mul-distance : tie.Need-mul-distance Inv-loop μ-loop
-mul-distance c = search needs
+same-length : tie.Need-same-length
+same-length c = search needs
 
-slice-read-distance : tie.Need-slice-read-distance Inv-loop μ-loop
-slice-read-distance c = search needs
+returns : tie.Need-returns
+returns c = whole-filled _ _ (c .before .before .before .before .before .before .before .before .before .before .pre .0) (c .before .before .before .before .before .before .before .before .before .before .args .out .now) (c .before .before .before .before .before .before .before .before .before .before .pre .1) _ (c .before .before .sons .ensures)
 
-distance-requires : tie.Need-distance-requires Inv-loop μ-loop
-distance-requires c κs =
-    let s = c .before .before .before .before .before in
-    let v = c .before .before .loop in
-    let lt : v .p < nodes (s .args .table .now) = omega (arith, v .inv .1) in
-    record {
-      accepted = s .pre .0;
-      node = lt;
-      level = omega (arith, v .inv .3 .each (v .p) (omega arith) lt, depth-le (s .args .table .now) (s .args .n) (v .p));
-    }
-
-mul-out : tie.Need-mul-out Inv-loop μ-loop
-mul-out c = search needs
-
-slice-write-out : tie.Need-slice-write-out Inv-loop μ-loop
+slice-write-out : tie.Need-slice-write-out
 slice-write-out c = search needs
 
-add-p : tie.Need-add-p Inv-loop μ-loop
-add-p c = search needs
+same-length-2 : tie.Need-same-length-2
+same-length-2 c = search needs
 
-loop-less : tie.Need-loop-less Inv-loop μ-loop
-loop-less c = simp length-set (omega arith)
+returns-2 : tie.Need-returns-2
+returns-2 c = leaf-filled _ _ (c .before .before .before .before .before .pre .0) (c .before .before .before .before .before .args .out .now) (c .before .before .before .before .before .pre .1) _ (told-leaf (c .before .before .before .before .before .args .table .now) 0 _ (c .before .before .word-at .ensures) (c .before .if1 .left)) (white-word _ _ _ _ (c .before .before .word-at .ensures) (c .if2 .taken))
 
-loop-again : tie.Need-loop-again Inv-loop μ-loop
-loop-again c = (simp length-set (omega arith), simp length-set (c .before .before .before .loop .inv .1), filled-more _ _ _ _ (omega arith) (c .distance .ensures) (c .before .before .before .loop .inv .2), levels-left _ _ _ _ _ _ (c .before .before .before .loop .inv .3))
+slice-write-out-2 : tie.Need-slice-write-out-2
+slice-write-out-2 c = search needs
 
-same-length : tie.Need-same-length Inv-loop μ-loop
-same-length c = omega (arith, c .before .loop .inv .1, c .before .before .before .before .pre .1)
+same-length-3 : tie.Need-same-length-3
+same-length-3 c = search needs
 
-returns : tie.Need-returns Inv-loop μ-loop
-unfolding distancesOf
-returns c = filled-all _ _ _ _ (c .before .loop .inv .1) (omega (arith, c .before .loop .inv .1)) (omega (arith, c .before .loop .inv .1)) (c .before .loop .inv .2)
+returns-3 : tie.Need-returns-3
+returns-3 c = leaf-filled _ _ (c .before .before .before .before .before .pre .0) (c .before .before .before .before .before .args .out .now) (c .before .before .before .before .before .pre .1) _ (told-leaf (c .before .before .before .before .before .args .table .now) 0 _ (c .before .before .word-at .ensures) (c .before .if1 .left)) (root-word _ _ _ _ (c .before .before .word-at .ensures) (c .before .before .before .before .before .pre .0) (c .before .before .before .before .before .pre .0 .sized .some) (c .if2 .left) (c .before .if1 .left) refl)
 
 pub fill-spec : {M : Type 1} → statement M
 fill-spec =
     tie.close
     (tie.spec
-    Inv-loop
-    μ-loop
-    loop-holds
-    mul-distance
-    slice-read-distance
-    distance-requires
-    mul-out
-    slice-write-out
-    add-p
-    loop-less
-    loop-again
+    word-at-requires
+    outside-requires
+    sons-requires
     same-length
-    returns)
+    returns
+    slice-write-out
+    same-length-2
+    returns-2
+    slice-write-out-2
+    same-length-3
+    returns-3)
