@@ -242,7 +242,7 @@ fn scan(file: &[u8], level: u32, at: usize) -> usize
             if level == 0 {
                 return 0;
             }
-            next = scan(file, level - 1, next);
+            next = scan(&*file, level - 1, next);
             if next == 0 {
                 return 0;
             }
@@ -336,7 +336,7 @@ fn link_fork(file: &[u8], level: u32, table: &mut [u32], p: u32, father: u32) ->
         q += 1;
         let kind = type_of(file, next);
         if kind == quad::FORK {
-            next = link_fork(file, level - 1, table, next, p);
+            next = link_fork(&*file, level - 1, table, next, p);
         } else {
             put_leaf(table, next, p, kind);
             next += 1;
@@ -414,7 +414,7 @@ fn write_fork(table: &[u32], level: u32, p: usize, file: &mut [u8], at: usize) -
         q += 1;
         let kind = table::word_at(table, son, 5);
         if kind == quad::FORK {
-            next = write_fork(table, level - 1, son, file, next);
+            next = write_fork(&*table, level - 1, son, file, next);
         } else {
             put_record(file, next, kind as u8);
             next += 3;
