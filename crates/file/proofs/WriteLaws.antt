@@ -12,11 +12,11 @@ use Rattle.base.proofs.SetsLaws.{sets-after}
 use Rattle.quad.specs.Numbers.{forkType}
 use Rattle.quad.specs.Tree.{Tree, leaf, fork, sizeOf, typesOf}
 use Rattle.quad.proofs.TreeLaws.{by-quadrant, size-pos, types-length}
-use Rattle.table.specs.Table.{son, type, isFork}
+use Rattle.table.specs.Table.{nodes, son, type, isFork}
 use Rattle.table.specs.Nodes.{treeAt}
 use Rattle.table.proofs.AcceptedLaws.{tree-leaf, tree-fork, type-byte, fork-above, son-at}
 use Rattle.file.specs.File.{mark, nodeMark, records}
-use Rattle.file.specs.Writing.{Writable, Wrote, sonTree, typesTo, SonsWrote}
+use Rattle.file.specs.Writing.{Writable, OverPixels, Wrote, sonTree, typesTo, SonsWrote}
 
 pub records-append : (xs ys : List ℕ) → records (xs ++ ys) ≡ records xs ++ records ys
 unfolding records
@@ -30,6 +30,14 @@ records-length (x ∷ xs) = omega (arith, records-length xs)
 
 pub types-bytes : (t : Tree) → length (records (typesOf t)) ≡ 3 * sizeOf t
 types-bytes t = records-length (typesOf t) ∙ ap (λ (k : ℕ). 3 * k) (types-length t)
+
+-- one more record behind those that were written
+record-after : (ks : List ℕ) (k at i : ℕ) (w v u : List ℕ) → v ≡ sets w at (records ks) → u ≡ sets v i (mark ∷ nodeMark ∷ k ∷ [])
+    → i ≡ at + 3 * length ks → u ≡ sets w at (records (ks ++ (k ∷ [])))
+unfolding records
+record-after ks k at i w v u e f h =
+    f ∙ ap (λ (x : List ℕ). sets x i (records (k ∷ []))) e ∙ sets-after w at i (records ks) (records (k ∷ [])) (omega (arith, records-length ks))
+    ∙ ap (sets w at) (sym (records-append ks (k ∷ [])))
 
 wrote-leaf : (k at : ℕ) (before after : List ℕ) → after ≡ sets before at (mark ∷ nodeMark ∷ k ∷ []) → Wrote (leaf k) at before after (at + 3)
 unfolding records typesOf sizeOf
@@ -54,6 +62,10 @@ module _ (T : List ℕ) (l p at : ℕ) (w : List ℕ) (ok : Writable T l p at (l
       pub writes-leaf : (k ≡ forkType → ⊥) → Wrote (treeAt T l p) at w w₀ (at + 3)
       writes-leaf ne =
           rw (tree-leaf T l p (ne-eqb (type T p) forkType (λ q. ne (e ∙ q))), ← e) (wrote-leaf k at w w₀ h₀)
+
+pixels-size : (T : List ℕ) (p : ℕ) → isFork T p ≡ true → sizeOf (treeAt T 1 p) ≡ 5
+unfolding sizeOf treeAt
+pixels-size T p f = rw (tree-fork T 0 p f)
 
 -- a fork that is written, son by son
 module _ (T : List ℕ) (l p at : ℕ) (w : List ℕ) (ok : Writable T l p at (length w)) (fk : isFork T p ≡ true) where
@@ -107,6 +119,19 @@ module _ (T : List ℕ) (l p at : ℕ) (w : List ℕ) (ok : Writable T l p at (l
       pub son-room : next + 3 ≤ length w
       son-room = omega (arith, so .next, ok .room, all-size, more-types q, few-types q q4, size-pos (sonTree T l p q))
 
+      -- a fork over four pixels among them
+      pub pixels-ok : (s : ℕ) → s ≡ son T p q → isFork T s ≡ true → l ≡ 2 → OverPixels T s × (next + 15 ≤ length w′)
+      pixels-ok s e f two =
+          let go : Writable T (l - 1) s next (length w′) = son-ok s e in
+          let one : l - 1 ≡ 1 = omega arith in
+          let h : Writable T 1 s next (length w′) = rw one at go in
+          (record { n = h .n; place = h .place; over = f }, omega (arith, h .room, pixels-size T s f))
+
+      pub pixels-here : (s r : ℕ) (w″ : List ℕ) → l ≡ 2 → Wrote (treeAt T 1 s) next w′ w″ r → Wrote (treeAt T (l - 1) s) next w′ w″ r
+      pixels-here s r w″ two h =
+          let one : l - 1 ≡ 1 = omega arith in
+          rw one h
+
       pub son-wrote : (s r : ℕ) (w″ : List ℕ) → s ≡ son T p q → Wrote (treeAt T (l - 1) s) next w′ w″ r → SonsWrote T l p (q + 1) (at + 3) w₀ w″ r
       unfolding sonTree typesTo
       son-wrote s r w″ e h =
@@ -129,6 +154,27 @@ module _ (T : List ℕ) (l p at : ℕ) (w : List ℕ) (ok : Writable T l p at (l
           bytes = so′ .bytes ∙ ap (λ (v : List ℕ). sets v (at + 3) (records (typesTo T l p 4))) h₀
               ∙ sets-after w at (at + 3) (mark ∷ nodeMark ∷ forkType ∷ []) (records (typesTo T l p 4)) refl ∙ ap (λ (v : List ℕ). sets w at (records v)) (sym all-types);
         }
+
+-- a fork over four pixels
+module _ (T : List ℕ) (p : ℕ) (ok : OverPixels T p) where
+  pub pixel-node : (q : ℕ) → q < 4 → son T p q < nodes T
+  pixel-node q q4 = son-at (ok .place) (ok .over) q q4 .node
+
+  pub pixel-byte : (q : ℕ) → q < 4 → type T (son T p q) < 256
+  pixel-byte q q4 = type-byte (ok .n) T (ok .place .accepted) (son T p q) (pixel-node q q4)
+
+  pub pixels-wrote : (a b c d at : ℕ) (w w₀ w₁ w₂ w₃ w₄ : List ℕ)
+      → a ≡ type T (son T p 0) → b ≡ type T (son T p 1) → c ≡ type T (son T p 2) → d ≡ type T (son T p 3)
+      → w₀ ≡ sets w at (mark ∷ nodeMark ∷ forkType ∷ []) → w₁ ≡ sets w₀ (at + 3) (mark ∷ nodeMark ∷ a ∷ []) → w₂ ≡ sets w₁ (at + 6) (mark ∷ nodeMark ∷ b ∷ [])
+      → w₃ ≡ sets w₂ (at + 9) (mark ∷ nodeMark ∷ c ∷ []) → w₄ ≡ sets w₃ (at + 12) (mark ∷ nodeMark ∷ d ∷ []) → Wrote (treeAt T 1 p) at w w₄ (at + 15)
+  unfolding records typesOf sizeOf treeAt
+  pixels-wrote a b c d at w w₀ w₁ w₂ w₃ w₄ ea eb ec ed e₀ e₁ e₂ e₃ e₄ =
+      let k : ℕ = forkType in
+      let h₁ = record-after (k ∷ []) a at (at + 3) w w₀ w₁ e₀ e₁ refl in
+      let h₂ = record-after (k ∷ a ∷ []) b at (at + 6) w w₁ w₂ h₁ e₂ refl in
+      let h₃ = record-after (k ∷ a ∷ b ∷ []) c at (at + 9) w w₂ w₃ h₂ e₃ refl in
+      let h₄ = record-after (k ∷ a ∷ b ∷ c ∷ []) d at (at + 12) w w₃ w₄ h₃ e₄ refl in
+      rw (tree-fork T 0 p (ok .over), ← ea, ← eb, ← ec, ← ed) (record { next = refl; bytes = h₄ })
 
 -- nothing yet
 pub none-wrote : (T : List ℕ) (l p at : ℕ) (w : List ℕ) → SonsWrote T l p 0 at w w at

@@ -1,11 +1,12 @@
 -- Writing, one function at a time: a node's block of records, written from a place on.
+use mathlib.Core.Bool.{true}
 use mathlib.Core.List.{List, [], _++_}
 use mathlib.Core.Path.{_≡_}
 use Prim.Native.Nat.{ℕ, zero, suc, _+_, _-_, _*_, _≤_}
 use lib.ListN.{length}
 use lib.Seq.{sets}
 use Rattle.quad.specs.Tree.{Tree, sizeOf, typesOf}
-use Rattle.table.specs.Table.{son}
+use Rattle.table.specs.Table.{son, isFork}
 use Rattle.table.specs.Rules.{AtLevel}
 use Rattle.table.specs.Nodes.{treeAt}
 use Rattle.file.specs.File.{records}
@@ -15,6 +16,12 @@ pub record Writable (T : List ℕ) (l p at bytes : ℕ) : Type 0 where
   pub n : ℕ
   pub place : AtLevel n T p l
   pub room : at + 3 * sizeOf (treeAt T l p) ≤ bytes
+
+-- fork p of an accepted table has level 1, so its sons are pixels
+pub record OverPixels (T : List ℕ) (p : ℕ) : Type 0 where
+  pub n : ℕ
+  pub place : AtLevel n T p 1
+  pub over : isFork T p ≡ true
 
 -- the block of tree t was written over the bytes `before` from a place on, and r is the place after it
 pub record Wrote (t : Tree) (at : ℕ) (before after : List ℕ) (r : ℕ) : Type 0 where

@@ -7,13 +7,13 @@ ghost use Prim.Native.Nat.{_+_, _*_, _/_, _%_, _<_, _≤_};
 ghost use lib.ListN.{length, getD};
 ghost use lib.Seq.{sets};
 ghost use Rattle.quad.specs.Numbers.{none, forkType};
-ghost use Rattle.table.specs.Table.{isFork};
+ghost use Rattle.table.specs.Table.{son, type, isFork};
 ghost use Rattle.table.specs.Nodes.{treeAt};
 ghost use Rattle.file.specs.File.{mark, sheetMark, nodeMark, isType, blockAt, fourAt, openOf};
 ghost use Rattle.file.specs.Calls.{Reads, Writes};
 ghost use Rattle.file.specs.Reading.{marksOf, recordOf, told, standsAt, sameType, Scanned, ScannedRoot, Reaches, FourReach, headerOf, countOf, closingOf, contentsOf};
 ghost use Rattle.file.specs.Linking.{placeOf, treeIn, Ready, Linked};
-ghost use Rattle.file.specs.Writing.{Writable, Wrote};
+ghost use Rattle.file.specs.Writing.{Writable, OverPixels, Wrote};
 
 // Every record stands after a two-byte mark: 51, and 53 before the header or 4E before a node's type.
 const MARK: u8 = 81;
@@ -401,7 +401,34 @@ fn put_record(file: &mut [u8], at: usize, kind: u8)
     file[at + 2] = kind;
 }
 
-// Writes the block of fork p, its sons' in the order NW, NE, SW, SE, and gives the place after it. A son that is a leaf is written here, without a call.
+// The type of son q of a fork p over four pixels.
+fn pixel_type(table: &[u32], p: usize, q: usize) -> u8
+    requires { ⌜ OverPixels (now table) p × (q < 4) ⌝ }
+    ensures { λ r. ⌜ r ≡ type (now (table .entry)) (son (now (table .entry)) p q) ⌝ }
+{
+    let pixel = table::word_at(table, p, 1 + q);
+    table::word_at(table, pixel, 5) as u8
+}
+
+// Writes the block of a fork p over four pixels and gives the place after it. All five types are known before the first byte is written.
+fn write_pixels(table: &[u32], p: usize, file: &mut [u8], at: usize) -> usize
+    requires { ⌜ OverPixels (now table) p × (at + 15 ≤ length (now file)) ⌝ }
+    ensures { λ r. ⌜ Wrote (treeAt (now (table .entry)) 1 p) at (now (file .entry)) (now (file .exit)) r ⌝ }
+{
+    let nw = pixel_type(table, p, 0);
+    let ne = pixel_type(table, p, 1);
+    let sw = pixel_type(table, p, 2);
+    let se = pixel_type(table, p, 3);
+    put_record(file, at, quad::FORK as u8);
+    put_record(file, at + 3, nw);
+    put_record(file, at + 6, ne);
+    put_record(file, at + 9, sw);
+    put_record(file, at + 12, se);
+    at + 15
+}
+
+// Writes the block of fork p, its sons' in the order NW, NE, SW, SE, and gives the place after it. A son that is a leaf, or a fork over four pixels, is written
+// here, without a call.
 fn write_fork(table: &[u32], level: u32, p: usize, file: &mut [u8], at: usize) -> usize
     requires { ⌜ Writable (now table) level p at (length (now file)) × (isFork (now table) p ≡ true) ⌝ }
     ensures { λ r. ⌜ Wrote (treeAt (now (table .entry)) level p) at (now (file .entry)) (now (file .exit)) r ⌝ }
@@ -414,7 +441,11 @@ fn write_fork(table: &[u32], level: u32, p: usize, file: &mut [u8], at: usize) -
         q += 1;
         let kind = table::word_at(table, son, 5);
         if kind == quad::FORK {
-            next = write_fork(&*table, level - 1, son, file, next);
+            if level == 2 {
+                next = write_pixels(table, son, file, next);
+            } else {
+                next = write_fork(&*table, level - 1, son, file, next);
+            }
         } else {
             put_record(file, next, kind as u8);
             next += 3;
