@@ -13,6 +13,9 @@ pub sets-after : (l : List ℕ) (i j : ℕ) (vs ws : List ℕ) → j ≡ i + len
 sets-after l i j [] ws e = ap (λ (k : ℕ). sets l k ws) (omega arith)
 sets-after l i j (v ∷ vs) ws e = sets-after (set l i v) (suc i) j vs ws (omega arith)
 
+pub sets-behind : (l l₁ l₂ : List ℕ) (i j : ℕ) (vs ws : List ℕ) → l₁ ≡ sets l i vs → l₂ ≡ sets l₁ j ws → j ≡ i + length vs → l₂ ≡ sets l i (vs ++ ws)
+sets-behind l l₁ l₂ i j vs ws e f h = f ∙ ap (λ (v : List ℕ). sets v j ws) e ∙ sets-after l i j vs ws h
+
 set-before : (l : List ℕ) (i j v : ℕ) (ws : List ℕ) → i < j → set (sets l j ws) i v ≡ sets (set l i v) j ws
 set-before l i j v [] lt = refl
 set-before l i j v (w ∷ ws) lt =

@@ -6,9 +6,11 @@ use Prim.Native.Nat.{ℕ, zero, suc, _+_, _-_, _*_, _≤_, _<_}
 use native.Mathlib.Omega.{arith}
 use lib.ListN.{length, getD, set, length-set}
 use lib.Seq.{sets}
-use Rattle.quad.specs.Numbers.{forkType, none, maxWords}
+use Rattle.base.proofs.SetsLaws.{sets-behind}
+use Rattle.quad.specs.Numbers.{forkType, topColour, none, maxWords}
 use Rattle.quad.specs.Tree.{Tree, leaf, fork, colour, sonOf, Within, Reduced, Coloured, sizeOf, typesOf}
-use Rattle.quad.proofs.TreeLaws.{by-quadrant, leaf-by-type, type-le, size-pos, types-length}
+use Rattle.quad.proofs.TreeLaws.{by-quadrant, leaf-by-type, type-le, within-zero, size-pos, types-length}
+use Rattle.table.specs.Preorder.{preorder}
 use Rattle.table.proofs.PreorderLaws.{sonNode, SonsWritten, number-written, part-written, sons-length, sons-written, written-leaf, written-length}
 use Rattle.file.specs.File.{got, blockAt}
 use Rattle.file.specs.Linking.{placeOf, treeIn, Ready, Linked}
@@ -73,6 +75,12 @@ module _ (s : List ℕ) where
 
 pub linked-length : {t : Tree} {f p r : ℕ} {before after : List ℕ} → Linked t f p before after r → length after ≡ length before
 linked-length {t} {f} {p} {before = before} {after = after} h = written-length f p t before after (h .words)
+
+pub pixels-here : (s : List ℕ) (l p f r : ℕ) (before after : List ℕ) → l ≡ 2 → Linked (treeIn (blockAt s 1 (placeOf p))) f p before after r
+    → Linked (treeIn (blockAt s (l - 1) (placeOf p))) f p before after r
+pixels-here s l p f r before after two h =
+    let one : l - 1 ≡ 1 = omega arith in
+    rw one h
 
 -- a node that is linked: what its type byte says of its tree
 module _ (s : List ℕ) (l p : ℕ) (w : List ℕ) (ready : Ready s l p (length w)) where
@@ -167,6 +175,12 @@ module _ (s : List ℕ) (l p : ℕ) (w : List ℕ) (ready : Ready s l p (length 
                 few = omega (arith, ready .few, h .1, is′);
               }
 
+          -- a fork over four pixels among them
+          pub pixels-ready : l ≡ 2 → getD s (placeOf next + 2) 0 ≡ forkType → Ready s 1 next (length w₁) × (getD s (placeOf next + 2) 0 ≡ forkType)
+          pixels-ready two f =
+              let one : l - 1 ≡ 1 = omega arith in
+              (rw one at son-ready, f)
+
           pub son-linked : (w₂ : List ℕ) (r : ℕ) → Linked (treeIn (blockAt s (l - 1) (placeOf next))) p next w₁ w₂ r
               → (r ≡ sonNode p (treeIn (blockAt s l (placeOf p))) (q + 1)) × SonsWritten p (treeIn (blockAt s l (placeOf p))) 0 (q + 1) w₀ w₂
           unfolding sonNode
@@ -189,3 +203,66 @@ module _ (s : List ℕ) (l p : ℕ) (w : List ℕ) (ready : Ready s l p (length 
             next = omega (arith, is′);
             words = sons-written (parts .a) (parts .b) (parts .c) (parts .d) p f q w w₀ w′ w₂ e e₀ so′ e₂;
           })
+
+-- a pixel that was read
+pixel-read : (s : List ℕ) (i r k : ℕ) (t : Tree) → blockAt s 0 (placeOf i) ≡ got r t → k ≡ getD s (placeOf i + 2) 0
+    → (t ≡ leaf k) × (placeOf i + 3 ≤ length s) × (k ≤ topColour)
+unfolding Coloured
+pixel-read s i r k t is f =
+    let h = block-spells s 0 (placeOf i) r t is in
+    let o = root-kind s (placeOf i) t (h .spelt) in
+    let lt : t ≡ leaf k = within-zero t (h .sound .within) ∙ ap leaf (sym (f ∙ o .kind)) in
+    let co : Coloured (leaf k) = rw lt at (h .sound .coloured) in
+    (lt, o .fits, co)
+
+-- a fork over four pixels that was read: its tree, by the types behind its record
+pub record Pixels (s : List ℕ) (p a b c d : ℕ) (t : Tree) : Type 0 where
+  pub is : t ≡ fork (leaf a) (leaf b) (leaf c) (leaf d)
+  pub fits : placeOf p + 15 ≤ length s
+  pub nw : a ≤ topColour
+  pub ne : b ≤ topColour
+  pub sw : c ≤ topColour
+  pub se : d ≤ topColour
+
+module _ (s : List ℕ) (p : ℕ) (w : List ℕ) (ready : Ready s 1 p (length w)) (fk : getD s (placeOf p + 2) 0 ≡ forkType) where
+  pub pixels : (a b c d : ℕ) → a ≡ getD s (placeOf (p + 1) + 2) 0 → b ≡ getD s (placeOf (p + 1 + 1) + 2) 0 → c ≡ getD s (placeOf (p + 1 + 1 + 1) + 2) 0
+      → d ≡ getD s (placeOf (p + 1 + 1 + 1 + 1) + 2) 0 → Pixels s p a b c d (ready .tree)
+  unfolding sizeOf
+  pixels a b c d ea eb ec ed =
+      let h = parts s 1 p w ready fk in
+      let pa = pixel-read s (p + 1) _ a (h .a) (h .nw) ea in
+      let pb = pixel-read s (p + 1 + 1) _ b (h .b) (rw (pa .0) at (h .ne)) eb in
+      let pc = pixel-read s (p + 1 + 1 + 1) _ c (h .c) (rw (pa .0, pb .0) at (h .sw)) ec in
+      let pd = pixel-read s (p + 1 + 1 + 1 + 1) _ d (h .d) (rw (pa .0, pb .0, pc .0) at (h .se)) ed in
+      record { is = h .is ∙ rw (pa .0, pb .0, pc .0, pd .0); fits = omega (arith, pd .1); nw = pa .2; ne = pb .2; sw = pc .2; se = pd .2 }
+
+  pub pixels-fit : placeOf p + 15 ≤ length s
+  pixels-fit = pixels _ _ _ _ refl refl refl refl .fits
+
+  five : sizeOf (ready .tree) ≡ 5
+  unfolding sizeOf
+  five = ap sizeOf (pixels _ _ _ _ refl refl refl refl .is)
+
+  pub pixels-room : 6 * p + 30 ≤ length w
+  pixels-room = omega (arith, ready .room, five)
+
+  pub pixels-few : p + 5 ≤ maxWords
+  pixels-few = omega (arith, ready .few, five)
+
+  pub pixels-linked : (f a b c d : ℕ) (w₀ w₁ w₂ w₃ w₄ : List ℕ) → a ≡ getD s (placeOf (p + 1) + 2) 0 → b ≡ getD s (placeOf (p + 1 + 1) + 2) 0
+      → c ≡ getD s (placeOf (p + 1 + 1 + 1) + 2) 0 → d ≡ getD s (placeOf (p + 1 + 1 + 1 + 1) + 2) 0
+      → w₀ ≡ sets w (6 * p) (f ∷ (p + 1) ∷ (p + 1 + 1) ∷ (p + 1 + 1 + 1) ∷ (p + 1 + 1 + 1 + 1) ∷ forkType ∷ [])
+      → w₁ ≡ sets w₀ (6 * (p + 1)) (p ∷ none ∷ none ∷ none ∷ none ∷ a ∷ []) → w₂ ≡ sets w₁ (6 * (p + 1 + 1)) (p ∷ none ∷ none ∷ none ∷ none ∷ b ∷ [])
+      → w₃ ≡ sets w₂ (6 * (p + 1 + 1 + 1)) (p ∷ none ∷ none ∷ none ∷ none ∷ c ∷ []) → w₄ ≡ sets w₃ (6 * (p + 1 + 1 + 1 + 1)) (p ∷ none ∷ none ∷ none ∷ none ∷ d ∷ [])
+      → Linked (treeIn (blockAt s 1 (placeOf p))) f p w w₄ (p + 1 + 1 + 1 + 1 + 1)
+  unfolding sizeOf preorder
+  pixels-linked f a b c d w₀ w₁ w₂ w₃ w₄ ea eb ec ed e₀ e₁ e₂ e₃ e₄ =
+      let own : List ℕ = f ∷ (p + 1) ∷ (p + 1 + 1) ∷ (p + 1 + 1 + 1) ∷ (p + 1 + 1 + 1 + 1) ∷ forkType ∷ [] in
+      let nw : List ℕ = own ++ preorder p (p + 1) (leaf a) in
+      let ne : List ℕ = nw ++ preorder p (p + 1 + 1) (leaf b) in
+      let sw : List ℕ = ne ++ preorder p (p + 1 + 1 + 1) (leaf c) in
+      let h₁ = sets-behind w w₀ w₁ (6 * p) (6 * (p + 1)) own (preorder p (p + 1) (leaf a)) e₀ e₁ (omega arith) in
+      let h₂ = sets-behind w w₁ w₂ (6 * p) (6 * (p + 1 + 1)) nw (preorder p (p + 1 + 1) (leaf b)) h₁ e₂ (omega arith) in
+      let h₃ = sets-behind w w₂ w₃ (6 * p) (6 * (p + 1 + 1 + 1)) ne (preorder p (p + 1 + 1 + 1) (leaf c)) h₂ e₃ (omega arith) in
+      let h₄ = sets-behind w w₃ w₄ (6 * p) (6 * (p + 1 + 1 + 1 + 1)) sw (preorder p (p + 1 + 1 + 1 + 1) (leaf d)) h₃ e₄ (omega arith) in
+      rw (ready .is, pixels a b c d ea eb ec ed .is) (record { next = omega arith; words = h₄ })

@@ -8,7 +8,7 @@ use native.Mathlib.Omega.{arith}
 use lib.ListN.{length, length-append}
 use lib.Seq.{sets, length-sets}
 use borrow.Author.Tests.{ne-eqb}
-use Rattle.base.proofs.SetsLaws.{sets-after}
+use Rattle.base.proofs.SetsLaws.{sets-behind}
 use Rattle.quad.specs.Numbers.{forkType}
 use Rattle.quad.specs.Tree.{Tree, leaf, fork, sizeOf, typesOf}
 use Rattle.quad.proofs.TreeLaws.{by-quadrant, size-pos, types-length}
@@ -36,8 +36,7 @@ record-after : (ks : List ℕ) (k at i : ℕ) (w v u : List ℕ) → v ≡ sets 
     → i ≡ at + 3 * length ks → u ≡ sets w at (records (ks ++ (k ∷ [])))
 unfolding records
 record-after ks k at i w v u e f h =
-    f ∙ ap (λ (x : List ℕ). sets x i (records (k ∷ []))) e ∙ sets-after w at i (records ks) (records (k ∷ [])) (omega (arith, records-length ks))
-    ∙ ap (sets w at) (sym (records-append ks (k ∷ [])))
+    sets-behind w v u at i (records ks) (records (k ∷ [])) e f (omega (arith, records-length ks)) ∙ ap (sets w at) (sym (records-append ks (k ∷ [])))
 
 wrote-leaf : (k at : ℕ) (before after : List ℕ) → after ≡ sets before at (mark ∷ nodeMark ∷ k ∷ []) → Wrote (leaf k) at before after (at + 3)
 unfolding records typesOf sizeOf
@@ -140,8 +139,7 @@ module _ (T : List ℕ) (l p at : ℕ) (w : List ℕ) (ok : Writable T l p at (l
           let h′ : Wrote (treeAt T (l - 1) (son T p q)) next w′ w″ r = rw e at h in
           rw (add-one q) (record {
             next = omega (arith, h′ .next, so .next, more-types q);
-            bytes = h′ .bytes ∙ ap (λ (v : List ℕ). sets v next (records ys)) (so .bytes)
-                ∙ sets-after w₀ (at + 3) next (records xs) (records ys) (omega (arith, so .next, records-length xs))
+            bytes = sets-behind w₀ w′ w″ (at + 3) next (records xs) (records ys) (so .bytes) (h′ .bytes) (omega (arith, so .next, records-length xs))
                 ∙ ap (sets w₀ (at + 3)) (sym (records-append xs ys));
           })
 
@@ -151,8 +149,8 @@ module _ (T : List ℕ) (l p at : ℕ) (w : List ℕ) (ok : Writable T l p at (l
         let so′ : SonsWrote T l p 4 (at + 3) w₀ w′ next = rw e at so in
         record {
           next = omega (arith, so′ .next, all-size);
-          bytes = so′ .bytes ∙ ap (λ (v : List ℕ). sets v (at + 3) (records (typesTo T l p 4))) h₀
-              ∙ sets-after w at (at + 3) (mark ∷ nodeMark ∷ forkType ∷ []) (records (typesTo T l p 4)) refl ∙ ap (λ (v : List ℕ). sets w at (records v)) (sym all-types);
+          bytes = sets-behind w w₀ w′ at (at + 3) (mark ∷ nodeMark ∷ forkType ∷ []) (records (typesTo T l p 4)) h₀ (so′ .bytes) refl
+              ∙ ap (λ (v : List ℕ). sets w at (records v)) (sym all-types);
         }
 
 -- a fork over four pixels

@@ -321,8 +321,29 @@ fn put_leaf(table: &mut [u32], p: u32, father: u32, kind: usize)
     );
 }
 
+// The second pass, for a fork over four pixels: its five nodes from p on, and the next node.
+fn link_pixels(file: &[u8], table: &mut [u32], p: u32, father: u32) -> u32
+    requires { ⌜ Ready (now file) 1 p (length (now table)) × (getD (now file) (placeOf p + 2) 0 ≡ forkType) ⌝ }
+    ensures { λ r. ⌜ Linked (treeIn (blockAt (now (file .entry)) 1 (placeOf p))) father p (now (table .entry)) (now (table .exit)) r ⌝ }
+{
+    let nw = p + 1;
+    let ne = nw + 1;
+    let sw = ne + 1;
+    let se = sw + 1;
+    let kind_nw = type_of(file, nw);
+    let kind_ne = type_of(file, ne);
+    let kind_sw = type_of(file, sw);
+    let kind_se = type_of(file, se);
+    table::put_node(table, p as usize, father, nw, ne, sw, se, quad::FORK as u32);
+    put_leaf(table, nw, p, kind_nw);
+    put_leaf(table, ne, p, kind_ne);
+    put_leaf(table, sw, p, kind_sw);
+    put_leaf(table, se, p, kind_se);
+    se + 1
+}
+
 // The second pass, for a fork: its nodes from p on, in preorder, and the next node. Each son's number is written before the son's part, and the type last; a son
-// that is a leaf is written here, without a call.
+// that is a leaf, or a fork over four pixels, is written here, without a call.
 fn link_fork(file: &[u8], level: u32, table: &mut [u32], p: u32, father: u32) -> u32
     requires { ⌜ Ready (now file) level p (length (now table)) × (getD (now file) (placeOf p + 2) 0 ≡ forkType) ⌝ }
     ensures { λ r. ⌜ Linked (treeIn (blockAt (now (file .entry)) level (placeOf p))) father p (now (table .entry)) (now (table .exit)) r ⌝ }
@@ -336,7 +357,11 @@ fn link_fork(file: &[u8], level: u32, table: &mut [u32], p: u32, father: u32) ->
         q += 1;
         let kind = type_of(file, next);
         if kind == quad::FORK {
-            next = link_fork(&*file, level - 1, table, next, p);
+            if level == 2 {
+                next = link_pixels(file, table, next, p);
+            } else {
+                next = link_fork(&*file, level - 1, table, next, p);
+            }
         } else {
             put_leaf(table, next, p, kind);
             next += 1;

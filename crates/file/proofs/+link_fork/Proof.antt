@@ -5,13 +5,14 @@ use Rattle.table.proofs.PreorderLaws.{sonNode, SonsWritten, none-written}
 use lib.ListN.{set}
 use Rattle.file.specs.File.{blockAt}
 use Rattle.file.specs.Linking.{placeOf, treeIn}
-use Rattle.file.proofs.LinkLaws.{type-asks, node-fits, node-room, kind-le, links-leaf, deeper, lower, type-room, number-room, son-ready, son-linked, fork-linked, linked-length}
+use Rattle.file.proofs.LinkLaws.{type-asks, node-fits, node-room, kind-le, links-leaf, deeper, lower, type-room, number-room, son-ready, pixels-ready, pixels-here, son-linked, fork-linked, linked-length}
 use Prim.Native.Nat.{ℕ, _+_, _-_, _*_, _≤_, _<_}
 use borrow.Fn.Kinds.{In}
 use borrow.Fn.PlainCycle.{Measures, is, falls, and}
 use Rattle.file.proofs.link_fork.Reads as link-fork
 use Rattle.file.proofs.link_fork.Kinds as link-fork-kinds
 use Rattle.file.proofs.+link_fork.Lts-link_fork as link-fork-lts
+use Rattle.file.proofs.link_pixels.Reads as link-pixels-reads
 use Rattle.file.proofs.put_leaf.Reads as put-leaf-reads
 use Rattle.file.proofs.type_of.Reads as type-of-reads
 use Rattle.file.proofs.+link_fork.{statement}
@@ -28,7 +29,7 @@ link-fork-below t =
     and 2 link-fork-kinds.ps (falls 2 link-fork-kinds.ps _<_ μ-link-fork t) link-fork.Pre
 
 abbrev calls : ℕ → link-fork-lts.Claims
-calls t = (type-of-reads.Asked, type-of-reads.Learnt, link-fork-below t, link-fork.Post, put-leaf-reads.Asked, put-leaf-reads.Learnt)
+calls t = (type-of-reads.Asked, type-of-reads.Learnt, link-pixels-reads.Asked, link-pixels-reads.Learnt, link-fork-below t, link-fork.Post, put-leaf-reads.Asked, put-leaf-reads.Learnt)
 
 abbrev link-fork-Inv-loop : link-fork-lts.InvT-loop
 link-fork-Inv-loop file level table₀ p father own next₀ q₀ table next q =
@@ -76,23 +77,38 @@ link-fork-type-of-requires t c κs =
     let l = c .before .loop in
     type-asks _ _ _ (set (l .table) (6 * s .args .p + 1 + l .q) (l .next)) (son-ready _ _ _ (s .args .table .now) (s .pre .1 .0) (s .pre .1 .1) (s .args .father) _ refl (l .q) (l .next) (l .table) (omega arith) (l .inv .1) (l .inv .2) _ refl)
 
-link-fork-sub-link-fork : (t : ℕ) → link-fork-lts.Need-sub-link-fork (calls t) (link-fork-at t) link-fork.Post link-fork-Inv-loop link-fork-μ-loop
-link-fork-sub-link-fork t c = omega (arith, deeper _ _ _ (c .before .before .before .before .before .before .args .table .now) (c .before .before .before .before .before .before .pre .1 .0) (c .before .before .before .before .before .before .pre .1 .1))
-
-link-fork-link-fork-requires : (t : ℕ) → link-fork-lts.Need-link-fork-requires (calls t) (link-fork-at t) link-fork.Post link-fork-Inv-loop link-fork-μ-loop
-link-fork-link-fork-requires t c κs =
-    let s = c .before .before .before .before .before .before .before in
-    let l = c .before .before .before .before .loop in
-    let k = c .before .before .type-of .ensures in
-    (lower _ _ _ (s .args .table .now) (s .pre .1 .0) (s .pre .1 .1) _ (s .pre .0), (son-ready _ _ _ (s .args .table .now) (s .pre .1 .0) (s .pre .1 .1) (s .args .father) _ refl (l .q) (l .next) (l .table) (omega arith) (l .inv .1) (l .inv .2) _ refl, sym k ∙ c .before .if1 .taken))
+link-fork-link-pixels-requires : (t : ℕ) → link-fork-lts.Need-link-pixels-requires (calls t) (link-fork-at t) link-fork.Post link-fork-Inv-loop link-fork-μ-loop
+link-fork-link-pixels-requires t c κs =
+    let s = c .before .before .before .before .before .before .before .before in
+    let l = c .before .before .before .before .before .loop in
+    pixels-ready _ _ _ (s .args .table .now) (s .pre .1 .0) (s .pre .1 .1) (s .args .father) _ refl (l .q) (l .next) (l .table) (omega arith) (l .inv .1) (l .inv .2) _ refl (c .before .if2 .taken) (sym (c .before .before .before .type-of .ensures) ∙ c .before .before .if1 .taken)
 
 link-fork-loop-less : (t : ℕ) → link-fork-lts.Need-loop-less (calls t) (link-fork-at t) link-fork.Post link-fork-Inv-loop link-fork-μ-loop
 link-fork-loop-less t c = omega arith
 
 link-fork-loop-again : (t : ℕ) → link-fork-lts.Need-loop-again (calls t) (link-fork-at t) link-fork.Post link-fork-Inv-loop link-fork-μ-loop
 link-fork-loop-again t c =
-    let s = c .before .before .before .before .before .before .before .before .before .before in
-    let l = c .before .before .before .before .before .before .before .loop in
+    let s = c .before .before .before .before .before .before .before .before .before .before .before in
+    let l = c .before .before .before .before .before .before .before .before .loop in
+    let n = son-linked _ _ _ (s .args .table .now) (s .pre .1 .0) (s .pre .1 .1) (s .args .father) _ refl (l .q) (l .next) (l .table) (omega arith) (l .inv .1) (l .inv .2) _ refl _ _ (pixels-here _ _ _ _ _ _ _ (c .before .before .before .before .if2 .taken) (c .before .before .link-pixels .ensures)) in
+    (omega arith, n .0, n .1)
+
+link-fork-sub-link-fork : (t : ℕ) → link-fork-lts.Need-sub-link-fork (calls t) (link-fork-at t) link-fork.Post link-fork-Inv-loop link-fork-μ-loop
+link-fork-sub-link-fork t c = omega (arith, deeper _ _ _ (c .before .before .before .before .before .before .before .args .table .now) (c .before .before .before .before .before .before .before .pre .1 .0) (c .before .before .before .before .before .before .before .pre .1 .1))
+
+link-fork-link-fork-requires : (t : ℕ) → link-fork-lts.Need-link-fork-requires (calls t) (link-fork-at t) link-fork.Post link-fork-Inv-loop link-fork-μ-loop
+link-fork-link-fork-requires t c κs =
+    let s = c .before .before .before .before .before .before .before .before in
+    let l = c .before .before .before .before .before .loop in
+    (lower _ _ _ (s .args .table .now) (s .pre .1 .0) (s .pre .1 .1) _ (s .pre .0), (son-ready _ _ _ (s .args .table .now) (s .pre .1 .0) (s .pre .1 .1) (s .args .father) _ refl (l .q) (l .next) (l .table) (omega arith) (l .inv .1) (l .inv .2) _ refl, sym (c .before .before .before .type-of .ensures) ∙ c .before .before .if1 .taken))
+
+link-fork-loop-less-2 : (t : ℕ) → link-fork-lts.Need-loop-less-2 (calls t) (link-fork-at t) link-fork.Post link-fork-Inv-loop link-fork-μ-loop
+link-fork-loop-less-2 t c = omega arith
+
+link-fork-loop-again-2 : (t : ℕ) → link-fork-lts.Need-loop-again-2 (calls t) (link-fork-at t) link-fork.Post link-fork-Inv-loop link-fork-μ-loop
+link-fork-loop-again-2 t c =
+    let s = c .before .before .before .before .before .before .before .before .before .before .before in
+    let l = c .before .before .before .before .before .before .before .before .loop in
     let n = son-linked _ _ _ (s .args .table .now) (s .pre .1 .0) (s .pre .1 .1) (s .args .father) _ refl (l .q) (l .next) (l .table) (omega arith) (l .inv .1) (l .inv .2) _ refl _ _ (c .before .before .link-fork .ensures) in
     (omega arith, n .0, n .1)
 
@@ -112,11 +128,11 @@ link-fork-add-next-2 t c =
     let r = son-ready _ _ _ (s .args .table .now) (s .pre .1 .0) (s .pre .1 .1) (s .args .father) _ refl (l .q) (l .next) (l .table) (omega arith) (l .inv .1) (l .inv .2) _ refl in
     omega (arith, node-fits _ _ _ w r)
 
-link-fork-loop-less-2 : (t : ℕ) → link-fork-lts.Need-loop-less-2 (calls t) (link-fork-at t) link-fork.Post link-fork-Inv-loop link-fork-μ-loop
-link-fork-loop-less-2 t c = omega arith
+link-fork-loop-less-3 : (t : ℕ) → link-fork-lts.Need-loop-less-3 (calls t) (link-fork-at t) link-fork.Post link-fork-Inv-loop link-fork-μ-loop
+link-fork-loop-less-3 t c = omega arith
 
-link-fork-loop-again-2 : (t : ℕ) → link-fork-lts.Need-loop-again-2 (calls t) (link-fork-at t) link-fork.Post link-fork-Inv-loop link-fork-μ-loop
-link-fork-loop-again-2 t c =
+link-fork-loop-again-3 : (t : ℕ) → link-fork-lts.Need-loop-again-3 (calls t) (link-fork-at t) link-fork.Post link-fork-Inv-loop link-fork-μ-loop
+link-fork-loop-again-3 t c =
     let s = c .before .before .before .before .before .before .before .before .before .before in
     let l = c .before .before .before .before .before .before .before .loop in
     let w = set (l .table) (6 * s .args .p + 1 + l .q) (l .next) in
@@ -169,14 +185,17 @@ pub +link-fork-spec : {M : Type 1} → statement M
     (link-fork-slice-write-table-2 t)
     (link-fork-add-q t)
     (link-fork-type-of-requires t)
-    (link-fork-sub-link-fork t)
-    (link-fork-link-fork-requires t)
+    (link-fork-link-pixels-requires t)
     (link-fork-loop-less t)
     (link-fork-loop-again t)
-    (link-fork-put-leaf-requires t)
-    (link-fork-add-next-2 t)
+    (link-fork-sub-link-fork t)
+    (link-fork-link-fork-requires t)
     (link-fork-loop-less-2 t)
     (link-fork-loop-again-2 t)
+    (link-fork-put-leaf-requires t)
+    (link-fork-add-next-2 t)
+    (link-fork-loop-less-3 t)
+    (link-fork-loop-again-3 t)
     (link-fork-cast-table t)
     (link-fork-add-table-3 t)
     (link-fork-mul-table-3 t)
