@@ -12,7 +12,7 @@ use Rattle.base.proofs.CaseLaws.{cond-case}
 use Rattle.answer.specs.declared.Outcome.{Outcome}
 use Rattle.answer.specs.declared.Outcome.the-variants.{NeedlessFork}
 use Rattle.quad.specs.Numbers.{topColour, forkType}
-use Rattle.quad.specs.Tree.{Tree, leaf, fork, Within, alike, Reduced, Coloured, sizeOf, typesOf}
+use Rattle.quad.specs.Tree.{Tree, leaf, fork, colour, Within, alike, Reduced, Coloured, sizeOf, typesOf}
 use Rattle.quad.proofs.TreeLaws.{types-length}
 use Rattle.table.proofs.AcceptedLaws.{Sound}
 use Rattle.file.specs.File.{Got, got, bad, mark, nodeMark, isType, recordAt, onward, fourAt, blockAt}
@@ -119,6 +119,12 @@ each-spells s (suc l) at =
 
 pub block-spells : (s : List ℕ) (l at i : ℕ) (t : Tree) → blockAt s l at ≡ got i t → Spells s l at i t
 block-spells s l at i t e = rw e at (each-spells s l at)
+
+-- the root's type byte
+pub root-kind : (s : List ℕ) (at : ℕ) (t : Tree) → Spelt s at (typesOf t) → Stands s at (colour t)
+unfolding Spelt typesOf colour
+root-kind s at (leaf k) h = h .0
+root-kind s at (fork _ _ _ _) h = h .0
 
 -- and the other way round: bytes that spell a sound tree are read as it
 read-in : (s : List ℕ) (l at : ℕ) (t : Tree) → Spelt s at (typesOf t) → Within l t → Reduced t → Coloured t

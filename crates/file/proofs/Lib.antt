@@ -3,6 +3,7 @@ pub mod SpeltLaws
 pub mod BlockLaws
 pub mod ReadLaws
 pub mod ScanLaws
+pub mod PixelLaws
 pub mod SurveyLaws
 pub mod LinkLaws
 pub mod OpenLaws

@@ -9,25 +9,20 @@ use lib.Seq.{sets}
 use Rattle.base.proofs.SetsLaws.{sets-behind}
 use Rattle.quad.specs.Numbers.{forkType, topColour, none, maxWords}
 use Rattle.quad.specs.Tree.{Tree, leaf, fork, colour, sonOf, Within, Reduced, Coloured, sizeOf, typesOf}
-use Rattle.quad.proofs.TreeLaws.{by-quadrant, leaf-by-type, type-le, within-zero, size-pos, types-length}
+use Rattle.quad.proofs.TreeLaws.{by-quadrant, leaf-by-type, type-le, size-pos, types-length}
 use Rattle.table.specs.Preorder.{preorder}
 use Rattle.table.proofs.PreorderLaws.{sonNode, SonsWritten, number-written, part-written, sons-length, sons-written, written-leaf, written-length}
 use Rattle.file.specs.File.{got, blockAt}
 use Rattle.file.specs.Linking.{placeOf, treeIn, Ready, Linked}
 use Rattle.file.proofs.SpeltLaws.{Stands, Spelt, spelt-parts}
-use Rattle.file.proofs.BlockLaws.{Spells, block-spells, block-read}
+use Rattle.file.proofs.PixelLaws.{pixel-of}
+use Rattle.file.proofs.BlockLaws.{Spells, block-spells, root-kind, block-read}
 
 -- a leaf's words
 pub leaf-linked : (k p f : ℕ) (before after : List ℕ) → after ≡ sets before (6 * p) (f ∷ none ∷ none ∷ none ∷ none ∷ k ∷ [])
     → Linked (leaf k) f p before after (p + 1)
 unfolding sizeOf
 leaf-linked k p f before after e = record { next = refl; words = written-leaf k p f before after e }
-
--- the root's type byte
-root-kind : (s : List ℕ) (at : ℕ) (t : Tree) → Spelt s at (typesOf t) → Stands s at (colour t)
-unfolding Spelt typesOf colour
-root-kind s at (leaf k) h = h .0
-root-kind s at (fork _ _ _ _) h = h .0
 
 -- a fork of level l that was read at node p's record: its sons were read at theirs
 pub record Forked (s : List ℕ) (l p : ℕ) (t : Tree) : Type 0 where
@@ -207,13 +202,10 @@ module _ (s : List ℕ) (l p : ℕ) (w : List ℕ) (ready : Ready s l p (length 
 -- a pixel that was read
 pixel-read : (s : List ℕ) (i r k : ℕ) (t : Tree) → blockAt s 0 (placeOf i) ≡ got r t → k ≡ getD s (placeOf i + 2) 0
     → (t ≡ leaf k) × (placeOf i + 3 ≤ length s) × (k ≤ topColour)
-unfolding Coloured
 pixel-read s i r k t is f =
-    let h = block-spells s 0 (placeOf i) r t is in
-    let o = root-kind s (placeOf i) t (h .spelt) in
-    let lt : t ≡ leaf k = within-zero t (h .sound .within) ∙ ap leaf (sym (f ∙ o .kind)) in
-    let co : Coloured (leaf k) = rw lt at (h .sound .coloured) in
-    (lt, o .fits, co)
+    let h = pixel-of s (placeOf i) r t is in
+    let c : colour t ≡ k = sym (f ∙ h .stands .kind) in
+    (h .is ∙ ap leaf c, h .stands .fits, rw c at (h .low))
 
 -- a fork over four pixels that was read: its tree, by the types behind its record
 pub record Pixels (s : List ℕ) (p a b c d : ℕ) (t : Tree) : Type 0 where

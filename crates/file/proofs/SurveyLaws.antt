@@ -20,9 +20,10 @@ use Rattle.file.specs.declared.Block.the-variants.{Read, Bad}
 use Rattle.file.specs.declared.Contents.{Contents}
 use Rattle.file.specs.declared.Contents.the-variants.{Faulty}
 use Rattle.file.specs.File.{got, Opened, faulty, mark, sheetMark, closed, blockAt, openOf}
-use Rattle.file.specs.Reading.{marksOf, told, ScannedRoot, Reaches, headerOf, countOf, recordsTo, closingOf, contentsOf}
+use Rattle.file.specs.Reading.{marksOf, told, endOf, Reaches, headerOf, countOf, recordsTo, closingOf, contentsOf}
 use Rattle.file.proofs.BlockLaws.{Spells, block-spells}
 use Rattle.file.proofs.ReadLaws.{marks-by, found, told-bad}
+use Rattle.file.proofs.ScanLaws.{end-got}
 
 -- a header that answers
 pub record Header (s : List ℕ) : Type 0 where
@@ -127,15 +128,18 @@ module _ (s : List ℕ) (h : Outcome) (u : Bool) (e : h ≡ headerOf s) (a : u �
           (sym (cond-map contentsOf (eqb (countOf s) (sizeOf t)) _ _ _ _ (cond-map contentsOf (ltb i (length s)) _ _ _ _ refl refl) refl))
 
     -- as the fast way read it
-    module _ (i : ℕ) (sc : ScannedRoot s level i) (nz : i ≡ 0 → ⊥) where
+    module _ (i : ℕ) (sc : i ≡ endOf (blockAt s level 5)) (nz : i ≡ 0 → ⊥) where
+      scanned : (t : Tree) × (blockAt s level 5 ≡ got i t)
+      scanned = end-got (blockAt s level 5) i sc nz
+
       pub scan-late : 5 ≤ i
-      scan-late = ends-late i (sc nz .0) (sc nz .1)
+      scan-late = ends-late i (scanned .0) (scanned .1)
 
       pub scan-near : i < 4294967296
-      scan-near = ends-near i (sc nz .0) (sc nz .1)
+      scan-near = ends-near i (scanned .0) (scanned .1)
 
       pub survey-scanned : (c : Contents) → c ≡ closingOf s level i → c ≡ contentsOf (openOf s)
-      survey-scanned = closes i (sc nz .0) (sc nz .1)
+      survey-scanned = closes i (scanned .0) (scanned .1)
 
     -- as it was read byte by byte
     module _ (r : Block) (b : r ≡ told (blockAt s level 5)) where

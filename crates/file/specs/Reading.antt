@@ -1,5 +1,5 @@
 -- Reading, one function at a time: what the first pass tells of a record, of a block, of four and of the whole file, and how far a block reaches.
-use mathlib.Core.Bool.{Bool, false, cond}
+use mathlib.Core.Bool.{Bool, true, false, cond}
 use mathlib.Core.Path.{_≡_}
 use mathlib.Core.List.{List}
 use Prim.Native.Nat.{ℕ, zero, suc, _+_, _-_, _*_, _/_, _^_, _<_}
@@ -8,13 +8,13 @@ use lib.ListN.{length, getD}
 use Rattle.answer.specs.declared.Outcome.{Outcome}
 use Rattle.answer.specs.declared.Outcome.the-variants.{Answered, BadLevel, BadByte, BadCount}
 use Rattle.answer.specs.Numbers.{answers, andThen}
-use Rattle.quad.specs.Numbers.{topLevel, forkType}
-use Rattle.quad.specs.Tree.{Tree, colour, sizeOf}
+use Rattle.quad.specs.Numbers.{topLevel, topColour, forkType}
+use Rattle.quad.specs.Tree.{Tree, colour, likeTypes, sizeOf}
 use Rattle.file.specs.declared.Block.{Block}
 use Rattle.file.specs.declared.Block.the-variants.{Read, Bad}
 use Rattle.file.specs.declared.Contents.{Contents}
 use Rattle.file.specs.declared.Contents.the-variants.{Sheet, Faulty}
-use Rattle.file.specs.File.{Got, got, bad, Opened, opened, faulty, mark, sheetMark, nodeMark, needed, marked, isType, fourAt, blockAt}
+use Rattle.file.specs.File.{Got, got, bad, Opened, opened, faulty, mark, sheetMark, nodeMark, needed, marked, isType}
 
 -- the two mark bytes at a place
 unfoldable pub marksOf : List ℕ → ℕ → ℕ → Outcome
@@ -74,17 +74,31 @@ standsAt s at =
 abbrev pub sameType : ℕ → ℕ → ℕ
 sameType a b = cond (eqb a b) 1 0
 
--- four blocks of level l were read from a place on, the place after them being r; or r is 0
-abbrev pub Scanned : List ℕ → ℕ → ℕ → ℕ → Type 0
-Scanned s l at r = (r ≡ 0 → ⊥) → (t : Tree) × (fourAt (blockAt s l) at ≡ got r t) × (colour t ≡ forkType)
+-- the place after what was read, or 0 where it is refused
+abbrev pub endOf : Got → ℕ
+endOf (got at t) = at
+endOf (bad o) = 0
 
--- the first q of four blocks were read: `next` is the place after them, `last` the type of the last one, and `same` of them have the type of the one before
-unfoldable pub Row : List ℕ → ℕ → ℕ → ℕ → ℕ → ℕ → ℕ → Type 0
-Row s l at zero next last same = (next ≡ at) × (last ≡ 255) × (same ≡ 0)
-Row s l at (suc q) next last same =
-    (i : ℕ) × (before : ℕ) × (some : ℕ) × (t : Tree) × Row s l at q i before some × (blockAt s l i ≡ got next t) × (last ≡ colour t)
-    × (same ≡ some + sameType (colour t) before)
+-- and what comes after a block, or 0
+abbrev pub endThen : Got → (ℕ → Tree → ℕ) → ℕ
+endThen (got at t) next = next at t
+endThen (bad o) next = 0
 
--- the block behind the header was read, the place after it being r; or r is 0
-abbrev pub ScannedRoot : List ℕ → ℕ → ℕ → Type 0
-ScannedRoot s l r = (r ≡ 0 → ⊥) → (t : Tree) × (blockAt s l 5 ≡ got r t)
+-- the place after the last so many of four blocks, or 0: `last` is the type of the block before them, and `same` of those before have the type of the one before
+unfoldable pub restEnd : (ℕ → Got) → ℕ → ℕ → ℕ → ℕ → ℕ
+restEnd block zero at last same = cond (eqb last forkType) at (cond (eqb same 3) 0 at)
+restEnd block (suc left) at last same = endThen (block at) (λ i t. restEnd block left i (colour t) (same + sameType (colour t) last))
+
+-- r is the number of the four bytes at a place, the low byte first
+pub record FourBytes (s : List ℕ) (at r : ℕ) : Type 0 where
+  pub is : r ≡ getD s at 0 + 256 * getD s (at + 1) 0 + 65536 * getD s (at + 2) 0 + 16777216 * getD s (at + 3) 0
+  pub first : getD s at 0 < 256
+  pub second : getD s (at + 1) 0 < 256
+  pub third : getD s (at + 2) 0 < 256
+  pub fourth : getD s (at + 3) 0 < 256
+
+-- four types of a fork's pixels: each is a colour, and they are not all alike
+unfoldable pub pixelTypes : ℕ → ℕ → ℕ → ℕ → Bool
+pixelTypes a b c d =
+    cond (ltb topColour a) false
+    (cond (ltb topColour b) false (cond (ltb topColour c) false (cond (ltb topColour d) false (cond (likeTypes a b c d) false true))))

@@ -11,7 +11,7 @@ ghost use Rattle.table.specs.Table.{son, type, isFork};
 ghost use Rattle.table.specs.Nodes.{treeAt};
 ghost use Rattle.file.specs.File.{mark, sheetMark, nodeMark, isType, blockAt, fourAt, openOf};
 ghost use Rattle.file.specs.Calls.{Reads, Writes};
-ghost use Rattle.file.specs.Reading.{marksOf, recordOf, told, standsAt, sameType, Scanned, ScannedRoot, Reaches, FourReach, headerOf, countOf, closingOf, contentsOf};
+ghost use Rattle.file.specs.Reading.{marksOf, recordOf, told, endOf, standsAt, sameType, FourBytes, pixelTypes, Reaches, FourReach, headerOf, countOf, closingOf, contentsOf};
 ghost use Rattle.file.specs.Linking.{placeOf, treeIn, Ready, Linked};
 ghost use Rattle.file.specs.Writing.{Writable, OverPixels, Wrote};
 
@@ -21,6 +21,16 @@ const MARK: u8 = 81;
 const SHEET: u8 = 83;
 
 const NODE: u8 = 78;
+
+// The marks of a node record as one number, the low byte first; and those of four pixels' twelve bytes, as three numbers, with 0 for each type:
+// 51 4E 00 51, 4E 00 51 4E and 00 51 4E 00.
+const RECORD: u32 = 20049;
+
+const PIXELS_FIRST: u32 = 1358974545;
+
+const PIXELS_SECOND: u32 = 1313931342;
+
+const PIXELS_THIRD: u32 = 5132544;
 
 // No node's type.
 const NO_TYPE: usize = 255;
@@ -200,10 +210,9 @@ fn has_record(file: &[u8], at: usize) -> bool
     if file.len() - at < 3 {
         return false;
     }
-    if file[at] != MARK {
-        return false;
-    }
-    if file[at + 1] != NODE {
+    let first = file[at] as u32;
+    let second = file[at + 1] as u32;
+    if first + 256 * second != RECORD {
         return false;
     }
     is_type(quad::wide(file[at + 2]))
@@ -219,11 +228,76 @@ fn same_type(one: usize, other: usize) -> usize
     0
 }
 
-// Four blocks, one after the other, read without a name for a fault: the place after them, or 0 where something is wrong. A leaf is read here, without a call;
-// four like leaves are those of which three have the type of the one before.
-fn scan(file: &[u8], level: u32, at: usize) -> usize
+// Four bytes as a number, the low byte first.
+fn four_bytes(file: &[u8], at: usize) -> u32
+    requires { ⌜ at + 4 ≤ length (now file) ⌝ }
+    ensures { λ r. ⌜ FourBytes (now (file .entry)) at r ⌝ }
+{
+    let first = file[at] as u32;
+    let second = file[at + 1] as u32;
+    let third = file[at + 2] as u32;
+    let fourth = file[at + 3] as u32;
+    first + 256 * second + 65536 * third + 16777216 * fourth
+}
+
+// Whether four types are those of a fork's four pixels: each is a colour, and they are not all alike.
+fn are_pixels(nw: usize, ne: usize, sw: usize, se: usize) -> bool
+    ensures { λ r. ⌜ r ≡ pixelTypes nw ne sw se ⌝ }
+{
+    if quad::TOP_COLOUR < nw {
+        return false;
+    }
+    if quad::TOP_COLOUR < ne {
+        return false;
+    }
+    if quad::TOP_COLOUR < sw {
+        return false;
+    }
+    if quad::TOP_COLOUR < se {
+        return false;
+    }
+    if quad::like_leaves(nw, ne, sw, se) {
+        return false;
+    }
+    true
+}
+
+// Four pixels, one after the other, read without a name for a fault: the place after them, or 0 where something is wrong. Their twelve bytes are taken as three
+// numbers.
+fn scan_pixels(file: &[u8], at: usize) -> usize
     requires { ⌜ at ≤ length (now file) ⌝ }
-    ensures { λ r. ⌜ Scanned (now (file .entry)) level at r × (r ≤ length (now (file .entry))) ⌝ }
+    ensures { λ r. ⌜ (r ≡ endOf (fourAt (blockAt (now (file .entry)) 0) at)) × (r ≤ length (now (file .entry))) ⌝ }
+{
+    if file.len() - at < 12 {
+        return 0;
+    }
+    let first = four_bytes(file, at);
+    let second = four_bytes(file, at + 4);
+    let third = four_bytes(file, at + 8);
+    let nw = first / 65536 % 256;
+    let ne = second / 256 % 256;
+    let sw = third % 256;
+    let se = third / 16777216;
+    if first != PIXELS_FIRST + 65536 * nw {
+        return 0;
+    }
+    if second != PIXELS_SECOND + 256 * ne {
+        return 0;
+    }
+    if third != PIXELS_THIRD + sw + 16777216 * se {
+        return 0;
+    }
+    if !are_pixels(nw as usize, ne as usize, sw as usize, se as usize) {
+        return 0;
+    }
+    at + 12
+}
+
+// Four blocks of a level above 0, one after the other, read in the same way. A leaf, or a fork over four pixels, is read here, without a call; four like leaves are
+// those of which three have the type of the one before.
+fn scan(file: &[u8], level: u32, at: usize) -> usize
+    requires { ⌜ (0 < level) × (at ≤ length (now file)) ⌝ }
+    ensures { λ r. ⌜ (r ≡ endOf (fourAt (blockAt (now (file .entry)) level) at)) × (r ≤ length (now (file .entry))) ⌝ }
 {
     let mut next = at;
     let mut last = NO_TYPE;
@@ -239,12 +313,16 @@ fn scan(file: &[u8], level: u32, at: usize) -> usize
         next += 3;
         q += 1;
         if kind == quad::FORK {
-            if level == 0 {
-                return 0;
-            }
-            next = scan(&*file, level - 1, next);
-            if next == 0 {
-                return 0;
+            if level == 1 {
+                next = scan_pixels(file, next);
+                if next == 0 {
+                    return 0;
+                }
+            } else {
+                next = scan(&*file, level - 1, next);
+                if next == 0 {
+                    return 0;
+                }
             }
         }
     }
@@ -259,7 +337,7 @@ fn scan(file: &[u8], level: u32, at: usize) -> usize
 // The block behind the header, read in the same way: the place after it, or 0.
 fn scan_root(file: &[u8], level: u32) -> usize
     requires { ⌜ 5 ≤ length (now file) ⌝ }
-    ensures { λ r. ⌜ ScannedRoot (now (file .entry)) level r ⌝ }
+    ensures { λ r. ⌜ r ≡ endOf (blockAt (now (file .entry)) level 5) ⌝ }
 {
     if !has_record(file, 5) {
         return 0;
@@ -269,6 +347,9 @@ fn scan_root(file: &[u8], level: u32) -> usize
     }
     if level == 0 {
         return 0;
+    }
+    if level == 1 {
+        return scan_pixels(file, 8);
     }
     scan(file, level - 1, 8)
 }
