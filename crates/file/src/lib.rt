@@ -202,6 +202,14 @@ fn close(file: &[u8], level: u32, at: u32) -> Contents
     Contents::Sheet { level, count }
 }
 
+// The type of the node record at a place.
+fn type_at(file: &[u8], at: usize) -> usize
+    requires { ⌜ at + 3 ≤ length (now file) ⌝ }
+    ensures { λ r. ⌜ r ≡ getD (now (file .entry)) (at + 2) 0 ⌝ }
+{
+    quad::wide(file[at + 2])
+}
+
 // Whether a whole node record stands at a place.
 fn has_record(file: &[u8], at: usize) -> bool
     requires { ⌜ at ≤ length (now file) ⌝ }
@@ -293,33 +301,33 @@ fn scan_pixels(file: &[u8], at: usize) -> usize
     at + 12
 }
 
-// Four blocks of a level above 0, one after the other, read in the same way. A leaf, or a fork over four pixels, is read here, without a call; four like leaves are
-// those of which three have the type of the one before.
-fn scan(file: &[u8], level: u32, at: usize) -> usize
-    requires { ⌜ (0 < level) × (at ≤ length (now file)) ⌝ }
-    ensures { λ r. ⌜ (r ≡ endOf (fourAt (blockAt (now (file .entry)) level) at)) × (r ≤ length (now (file .entry))) ⌝ }
+// Four blocks of a level above 0, one after the other, read in the same way. A leaf, or a fork over four pixels, is read here, without a call, and each call hands
+// on the one reference to the file; four like leaves are those of which three have the type of the one before.
+fn scan(file: &&[u8], level: u32, at: usize) -> usize
+    requires { ⌜ (0 < level) × (at ≤ length (now (now file))) × (length (now (now file)) < 18446744073709551616) ⌝ }
+    ensures { λ r. ⌜ (r ≡ endOf (fourAt (blockAt (now (now (file .entry))) level) at)) × (r ≤ length (now (now (file .entry)))) ⌝ }
 {
     let mut next = at;
     let mut last = NO_TYPE;
     let mut same = 0;
     let mut q: u32 = 0;
     while q < 4 {
-        if !has_record(file, next) {
+        if !has_record(*file, next) {
             return 0;
         }
-        let kind = quad::wide(file[next + 2]);
+        let kind = type_at(*file, next);
         same += same_type(kind, last);
         last = kind;
         next += 3;
         q += 1;
         if kind == quad::FORK {
             if level == 1 {
-                next = scan_pixels(file, next);
+                next = scan_pixels(*file, next);
                 if next == 0 {
                     return 0;
                 }
             } else {
-                next = scan(&*file, level - 1, next);
+                next = scan(file, level - 1, next);
                 if next == 0 {
                     return 0;
                 }
@@ -342,7 +350,7 @@ fn scan_root(file: &[u8], level: u32) -> usize
     if !has_record(file, 5) {
         return 0;
     }
-    if quad::wide(file[7]) != quad::FORK {
+    if type_at(file, 5) != quad::FORK {
         return 8;
     }
     if level == 0 {
@@ -351,7 +359,7 @@ fn scan_root(file: &[u8], level: u32) -> usize
     if level == 1 {
         return scan_pixels(file, 8);
     }
-    scan(file, level - 1, 8)
+    scan(&file, level - 1, 8)
 }
 
 // The first pass: level and node count, or the first fault. It writes nothing. A sound file is read by a faster way, and only one that is not is read again
@@ -380,8 +388,7 @@ fn type_of(file: &[u8], p: u32) -> usize
     requires { ⌜ placeOf p + 3 ≤ length (now file) ⌝ }
     ensures { λ r. ⌜ r ≡ getD (now (file .entry)) (placeOf p + 2) 0 ⌝ }
 {
-    let at = 5 + 3 * (p as usize);
-    quad::wide(file[at + 2])
+    type_at(file, 5 + 3 * (p as usize))
 }
 
 // Writes the six words of a leaf.
@@ -424,10 +431,10 @@ fn link_pixels(file: &[u8], table: &mut [u32], p: u32, father: u32) -> u32
 }
 
 // The second pass, for a fork: its nodes from p on, in preorder, and the next node. Each son's number is written before the son's part, and the type last; a son
-// that is a leaf, or a fork over four pixels, is written here, without a call.
-fn link_fork(file: &[u8], level: u32, table: &mut [u32], p: u32, father: u32) -> u32
-    requires { ⌜ Ready (now file) level p (length (now table)) × (getD (now file) (placeOf p + 2) 0 ≡ forkType) ⌝ }
-    ensures { λ r. ⌜ Linked (treeIn (blockAt (now (file .entry)) level (placeOf p))) father p (now (table .entry)) (now (table .exit)) r ⌝ }
+// that is a leaf, or a fork over four pixels, is written here, without a call, and each call hands on the one reference to the file.
+fn link_fork(file: &&[u8], level: u32, table: &mut [u32], p: u32, father: u32) -> u32
+    requires { ⌜ Ready (now (now file)) level p (length (now table)) × (getD (now (now file)) (placeOf p + 2) 0 ≡ forkType) ⌝ }
+    ensures { λ r. ⌜ Linked (treeIn (blockAt (now (now (file .entry))) level (placeOf p))) father p (now (table .entry)) (now (table .exit)) r ⌝ }
 {
     let own = 6 * (p as usize);
     table[own] = father;
@@ -436,12 +443,12 @@ fn link_fork(file: &[u8], level: u32, table: &mut [u32], p: u32, father: u32) ->
     while q < 4 {
         table[own + 1 + q] = next;
         q += 1;
-        let kind = type_of(file, next);
+        let kind = type_of(*file, next);
         if kind == quad::FORK {
             if level == 2 {
-                next = link_pixels(file, table, next, p);
+                next = link_pixels(*file, table, next, p);
             } else {
-                next = link_fork(&*file, level - 1, table, next, p);
+                next = link_fork(file, level - 1, table, next, p);
             }
         } else {
             put_leaf(table, next, p, kind);
@@ -459,7 +466,7 @@ fn link_block(file: &[u8], level: u32, table: &mut [u32], p: u32, father: u32) -
 {
     let kind = type_of(file, p);
     if kind == quad::FORK {
-        return link_fork(file, level, table, p, father);
+        return link_fork(&file, level, table, p, father);
     }
     put_leaf(table, p, father, kind);
     p + 1
@@ -534,23 +541,23 @@ fn write_pixels(table: &[u32], p: usize, file: &mut [u8], at: usize) -> usize
 }
 
 // Writes the block of fork p, its sons' in the order NW, NE, SW, SE, and gives the place after it. A son that is a leaf, or a fork over four pixels, is written
-// here, without a call.
-fn write_fork(table: &[u32], level: u32, p: usize, file: &mut [u8], at: usize) -> usize
-    requires { ⌜ Writable (now table) level p at (length (now file)) × (isFork (now table) p ≡ true) ⌝ }
-    ensures { λ r. ⌜ Wrote (treeAt (now (table .entry)) level p) at (now (file .entry)) (now (file .exit)) r ⌝ }
+// here, without a call; each call hands on the one reference to the table.
+fn write_fork(table: &&[u32], level: u32, p: usize, file: &mut [u8], at: usize) -> usize
+    requires { ⌜ Writable (now (now table)) level p at (length (now file)) × (isFork (now (now table)) p ≡ true) ⌝ }
+    ensures { λ r. ⌜ Wrote (treeAt (now (now (table .entry))) level p) at (now (file .entry)) (now (file .exit)) r ⌝ }
 {
     put_record(file, at, quad::FORK as u8);
     let mut next = at + 3;
     let mut q = 0;
     while q < 4 {
-        let son = table::word_at(table, p, 1 + q);
+        let son = table::word_at(*table, p, 1 + q);
         q += 1;
-        let kind = table::word_at(table, son, 5);
+        let kind = table::word_at(*table, son, 5);
         if kind == quad::FORK {
             if level == 2 {
-                next = write_pixels(table, son, file, next);
+                next = write_pixels(*table, son, file, next);
             } else {
-                next = write_fork(&*table, level - 1, son, file, next);
+                next = write_fork(table, level - 1, son, file, next);
             }
         } else {
             put_record(file, next, kind as u8);
@@ -567,7 +574,7 @@ fn write_block(table: &[u32], level: u32, p: usize, file: &mut [u8], at: usize) 
 {
     let kind = table::word_at(table, p, 5);
     if kind == quad::FORK {
-        return write_fork(table, level, p, file, at);
+        return write_fork(&table, level, p, file, at);
     }
     put_record(file, at, kind as u8);
     at + 3

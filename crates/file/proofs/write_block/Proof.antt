@@ -11,8 +11,8 @@ word-at-requires c κs = search needs
 
 write-fork-requires : tie.Need-write-fork-requires
 write-fork-requires c κs =
-    let s = c .before .before .before .before .before in
-    (s .pre, told-fork (s .args .table .now) (s .args .p) _ (c .before .before .word-at .ensures) (c .before .if1 .taken))
+    let s = c .before .before .before .before .before .before in
+    (s .pre, told-fork (s .args .t1 .now) (s .args .p) _ (c .before .before .before .word-at .ensures) (c .before .before .if1 .taken))
 
 same-length : tie.Need-same-length
 same-length c = search needs
