@@ -170,7 +170,7 @@ fn seen(table: &[u32], count: usize, level: u32, p: usize) -> usize
         let son = word_at(table, p, 1 + q);
         q += 1;
         if word_at(table, son, 5) == quad::FORK {
-            let below = seen(table, count, level - 1, son);
+            let below = seen(&*table, count, level - 1, son);
             if below == 0 {
                 return 0;
             }
