@@ -86,7 +86,7 @@ fn look(table: &[u32], direction: usize, p: usize, level: u32, at: u32, best: u3
     if kind != quad::FORK {
         return best;
     }
-    seek(table, direction, p, level, at, best)
+    seek(&*table, direction, p, level, at, best)
 }
 
 // The same under fork p: its quarters, the nearest first, until none that is left begins below the best.
@@ -193,7 +193,8 @@ fn leaf_distance(
     if word_at(table, leaf, 5) == 0 {
         return 0;
     }
-    let own = of_son(table, p, quadrant, near);
+    let mut own: [u32; 8] = [0; 8];
+    of_son(table, p, quadrant, near, &mut own);
     to_edge(quad::side(level), around(table, level, &own))
 }
 
@@ -229,7 +230,8 @@ fn below(
         four_pixels(n, table, fork, out);
         return;
     }
-    let own = of_son(table, p, quadrant, near);
+    let mut own: [u32; 8] = [0; 8];
+    of_son(table, p, quadrant, near, &mut own);
     sons(n, &*table, fork, level, &own, out);
 }
 

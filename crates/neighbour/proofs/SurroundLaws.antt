@@ -14,7 +14,7 @@ use Rattle.base.proofs.BoolLaws.{by-bool}
 use Rattle.base.proofs.TabLaws.{tab-at}
 use Rattle.quad.specs.Numbers.{forkType}
 use Rattle.table.specs.Table.{nodes, son, type, isFork}
-use Rattle.table.specs.Rules.{Accepted}
+use Rattle.table.specs.Rules.{one, Accepted}
 use Rattle.table.specs.Nodes.{levelOf}
 use Rattle.neighbour.specs.declared.Found.{Found}
 use Rattle.neighbour.specs.declared.Found.the-variants.{At, Off}
@@ -26,28 +26,38 @@ use Rattle.neighbour.proofs.FoundLaws.{found-facts}
 use Rattle.neighbour.proofs.BesideLaws.{son-beside, stays-own, none-beside}
 use Rattle.neighbour.specs.Surround.{numberOf, partOf, InNodes, sonNear, sonSurround, Surrounds}
 
-module _ (T : List ℕ) (w k kind : ℕ) (is : kind ≡ type T w) where
-  pub quarter-fork : kind ≡ forkType → son T w k ≡ partOf T k w
-  unfolding partOf
-  quarter-fork h = rw (eq-eqb (type T w) forkType (sym is ∙ h))
+pub fork-counts : (kind : ℕ) → kind ≡ forkType → 1 ≡ one (eqb kind forkType)
+fork-counts kind e = rw (eq-eqb kind forkType e)
 
-  pub quarter-leaf : (kind ≡ forkType → ⊥) → w ≡ partOf T k w
-  unfolding partOf
-  quarter-leaf h = rw (ne-eqb (type T w) forkType (λ e. h (is ∙ e)))
+pub leaf-counts : (kind : ℕ) → (kind ≡ forkType → ⊥) → 0 ≡ one (eqb kind forkType)
+leaf-counts kind h = rw (ne-eqb kind forkType h)
+
+-- the one of two that a type picks
+pub quarter-picked : (T : List ℕ) (w k kind which : ℕ) → kind ≡ type T w → which ≡ one (eqb kind forkType) → getD (w ∷ son T w k ∷ []) which 0 ≡ partOf T k w
+unfolding partOf
+quarter-picked T w k kind which is e =
+    ⊎-elim
+    (λ (h : eqb kind forkType ≡ true).
+    let f : isFork T w ≡ true = rw is at h in
+    rw (e, h, f))
+    (λ (h : eqb kind forkType ≡ false).
+    let f : isFork T w ≡ false = rw is at h in
+    rw (e, h, f))
+    (by-bool (eqb kind forkType))
 
 -- the eight as they are placed, one quadrant after the other
-pub sons-placed : (T : List ℕ) (p q : ℕ) (near : List ℕ) (a b c d e : ℕ) → q < 4
+pub sons-placed : (T : List ℕ) (p q : ℕ) (near old : List ℕ) (a b c d e : ℕ) → q < 4 → old ≡ replicate 8 0
     → a ≡ partOf T (q + 1 - 2 * (q % 2)) (getD near (3 - 2 * (q % 2)) 0) → b ≡ partOf T ((q + 2) % 4) (getD near (2 * (q / 2)) 0)
     → c ≡ partOf T (3 - q) (getD near (4 + q) 0) → d ≡ partOf T (3 - q) (getD near (2 * (q / 2)) 0) → e ≡ partOf T (3 - q) (getD near (3 - 2 * (q % 2)) 0)
-    → set (set (set (set (set (set (set (set (replicate 8 0) (3 - 2 * (q % 2)) a) (2 * (q / 2)) b) (4 + q) c) (4 + (q + 1 - 2 * (q % 2))) d) (4 + (q + 2) % 4) e)
+    → set (set (set (set (set (set (set (set old (3 - 2 * (q % 2)) a) (2 * (q / 2)) b) (4 + q) c) (4 + (q + 1 - 2 * (q % 2))) d) (4 + (q + 2) % 4) e)
     (4 - (3 - 2 * (q % 2))) (son T p (q + 1 - 2 * (q % 2)))) (2 - 2 * (q / 2)) (son T p ((q + 2) % 4))) (4 + (3 - q)) (son T p (3 - q))
     ≡ sonSurround T p q near
 unfolding sonSurround sonNear onwardOf mirrorOf tabFrom
-sons-placed T p zero near a b c d e q4 ea eb ec ed ee = rw (ea, eb, ec, ed, ee) refl
-sons-placed T p (suc zero) near a b c d e q4 ea eb ec ed ee = rw (ea, eb, ec, ed, ee) refl
-sons-placed T p (suc (suc zero)) near a b c d e q4 ea eb ec ed ee = rw (ea, eb, ec, ed, ee) refl
-sons-placed T p (suc (suc (suc zero))) near a b c d e q4 ea eb ec ed ee = rw (ea, eb, ec, ed, ee) refl
-sons-placed T p (suc (suc (suc (suc q)))) near a b c d e q4 ea eb ec ed ee = absurd (omega arith)
+sons-placed T p zero near old a b c d e q4 z ea eb ec ed ee = rw (z, ea, eb, ec, ed, ee) refl
+sons-placed T p (suc zero) near old a b c d e q4 z ea eb ec ed ee = rw (z, ea, eb, ec, ed, ee) refl
+sons-placed T p (suc (suc zero)) near old a b c d e q4 z ea eb ec ed ee = rw (z, ea, eb, ec, ed, ee) refl
+sons-placed T p (suc (suc (suc zero))) near old a b c d e q4 z ea eb ec ed ee = rw (z, ea, eb, ec, ed, ee) refl
+sons-placed T p (suc (suc (suc (suc q)))) near old a b c d e q4 z ea eb ec ed ee = absurd (omega arith)
 
 -- a part of what was found has the part's number
 part-number : (T : List ℕ) (x k : ℕ) → isFork T x ≡ false → (g : Found) → numberOf x (partIn T k g) ≡ partOf T k (numberOf x g)

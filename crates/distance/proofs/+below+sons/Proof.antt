@@ -62,16 +62,16 @@ below-returns : (t : ℕ) → below-lts.Need-returns (below-calls t) (below-at t
 below-returns t c = fills-at _ _ _ _ _ _ _ _ (c .before .before .before .before .before .word-at .ensures) (c .before .before .before .before .if1 .taken) (c .before .before .four-pixels .ensures)
 
 below-of-son-requires : (t : ℕ) → below-lts.Need-of-son-requires (below-calls t) (below-at t) below.Post
-below-of-son-requires t c κs = (c .before .before .before .before .pre .1 .0 .at .place .node, c .before .before .before .before .pre .1 .1, handed-nodes _ (c .before .before .before .before .pre .1 .0))
+below-of-son-requires t c κs = (c .before .before .before .before .before .pre .1 .0 .at .place .node, c .before .before .before .before .before .pre .1 .1, handed-nodes _ (c .before .before .before .before .before .pre .1 .0), refl)
 
 below-sons-requires : (t : ℕ) → below-lts.Need-sons-requires (below-calls t) (below-at t) below.Post
-below-sons-requires t c κs = (omega (arith, c .before .before .before .before .before .before .before .pre .0), (son-handed-at (c .before .before .before .before .before .before .before .args .level) (c .before .before .before .before .before .before .before .pre .1 .0) (c .before .before .before .before .before .before .before .args .quadrant) (c .before .before .before .before .before .before .before .pre .1 .1) (c .before .before .before .before .before .before .before .pre .1 .2) _ _ (c .before .before .before .before .word-at .ensures) (c .before .before .of-son .ensures), c .before .before .before .before .before .before .before .pre .1 .3))
+below-sons-requires t c κs = (omega (arith, c .before .before .before .before .before .before .before .before .pre .0), (son-handed-at (c .before .before .before .before .before .before .before .before .args .level) (c .before .before .before .before .before .before .before .before .pre .1 .0) (c .before .before .before .before .before .before .before .before .args .quadrant) (c .before .before .before .before .before .before .before .before .pre .1 .1) (c .before .before .before .before .before .before .before .before .pre .1 .2) _ _ (c .before .before .before .before .before .word-at .ensures) (c .before .before .of-son .ensures), c .before .before .before .before .before .before .before .before .pre .1 .3))
 
 below-same-length-2 : (t : ℕ) → below-lts.Need-same-length-2 (below-calls t) (below-at t) below.Post
 below-same-length-2 t c = c .before .before .sons .ensures .same
 
 below-returns-2 : (t : ℕ) → below-lts.Need-returns-2 (below-calls t) (below-at t) below.Post
-below-returns-2 t c = fills-at _ _ _ _ _ _ _ _ (c .before .before .before .before .before .before .before .word-at .ensures) refl (c .before .before .sons .ensures)
+below-returns-2 t c = fills-at _ _ _ _ _ _ _ _ (c .before .before .before .before .before .before .before .before .word-at .ensures) refl (c .before .before .sons .ensures)
 
 abbrev sons-Inv-loop : sons-lts.InvT-loop
 sons-Inv-loop n table p level near out₀ half q₀ out q = Filling n table out₀ out level p q

@@ -60,8 +60,8 @@ quarter-requires c κs = (c .before .before .before .before .pre .2 (3 - 2 * (c 
 mul-own : tie.Need-mul-own
 mul-own c = search needs
 
-array-write-own : tie.Need-array-write-own
-array-write-own c = search needs
+element-write-own : tie.Need-element-write-own
+element-write-own c = search needs
 
 quarter-requires-2 : tie.Need-quarter-requires-2
 quarter-requires-2 c κs = (c .before .before .before .before .before .pre .2 (2 * (c .before .before .before .before .before .args .quadrant / 2)) (omega (arith, c .before .before .before .before .before .pre .1)), omega (arith, c .before .before .before .before .before .pre .1))
@@ -69,8 +69,8 @@ quarter-requires-2 c κs = (c .before .before .before .before .before .pre .2 (2
 mul-own-2 : tie.Need-mul-own-2
 mul-own-2 c = search needs
 
-array-write-own-2 : tie.Need-array-write-own-2
-array-write-own-2 c = search needs
+element-write-own-2 : tie.Need-element-write-own-2
+element-write-own-2 c = search needs
 
 quarter-requires-3 : tie.Need-quarter-requires-3
 quarter-requires-3 c κs = (c .before .before .before .before .before .before .pre .2 (4 + c .before .before .before .before .before .before .args .quadrant) (omega (arith, c .before .before .before .before .before .before .pre .1)), omega (arith, c .before .before .before .before .before .before .pre .1))
@@ -81,8 +81,8 @@ add-own c = search needs
 mul-own-3 : tie.Need-mul-own-3
 mul-own-3 c = search needs
 
-array-write-own-3 : tie.Need-array-write-own-3
-array-write-own-3 c = search needs
+element-write-own-3 : tie.Need-element-write-own-3
+element-write-own-3 c = search needs
 
 quarter-requires-4 : tie.Need-quarter-requires-4
 quarter-requires-4 c κs = (c .before .before .before .before .before .before .before .pre .2 (2 * (c .before .before .before .before .before .before .before .args .quadrant / 2)) (omega (arith, c .before .before .before .before .before .before .before .pre .1)), omega (arith, c .before .before .before .before .before .before .before .pre .1))
@@ -93,8 +93,8 @@ add-own-2 c = search needs
 mul-own-4 : tie.Need-mul-own-4
 mul-own-4 c = search needs
 
-array-write-own-4 : tie.Need-array-write-own-4
-array-write-own-4 c = search needs
+element-write-own-4 : tie.Need-element-write-own-4
+element-write-own-4 c = search needs
 
 quarter-requires-5 : tie.Need-quarter-requires-5
 quarter-requires-5 c κs = (c .before .before .before .before .before .before .before .before .pre .2 (3 - 2 * (c .before .before .before .before .before .before .before .before .args .quadrant % 2)) (omega (arith, c .before .before .before .before .before .before .before .before .pre .1)), omega (arith, c .before .before .before .before .before .before .before .before .pre .1))
@@ -105,8 +105,8 @@ add-own-3 c = search needs
 mul-own-5 : tie.Need-mul-own-5
 mul-own-5 c = search needs
 
-array-write-own-5 : tie.Need-array-write-own-5
-array-write-own-5 c = search needs
+element-write-own-5 : tie.Need-element-write-own-5
+element-write-own-5 c = search needs
 
 mul-own-6 : tie.Need-mul-own-6
 mul-own-6 c = search needs
@@ -129,8 +129,8 @@ sub-own c = search needs
 mul-own-8 : tie.Need-mul-own-8
 mul-own-8 c = search needs
 
-array-write-own-6 : tie.Need-array-write-own-6
-array-write-own-6 c = search needs
+element-write-own-6 : tie.Need-element-write-own-6
+element-write-own-6 c = search needs
 
 mul-own-9 : tie.Need-mul-own-9
 mul-own-9 c = search needs
@@ -153,8 +153,8 @@ sub-own-2 c = search needs
 mul-own-11 : tie.Need-mul-own-11
 mul-own-11 c = search needs
 
-array-write-own-7 : tie.Need-array-write-own-7
-array-write-own-7 c = search needs
+element-write-own-7 : tie.Need-element-write-own-7
+element-write-own-7 c = search needs
 
 mul-own-12 : tie.Need-mul-own-12
 mul-own-12 c = search needs
@@ -177,8 +177,8 @@ add-own-10 c = search needs
 mul-own-14 : tie.Need-mul-own-14
 mul-own-14 c = search needs
 
-array-write-own-8 : tie.Need-array-write-own-8
-array-write-own-8 c = search needs
+element-write-own-8 : tie.Need-element-write-own-8
+element-write-own-8 c = search needs
 
 returns : tie.Need-returns
 returns c = search (sons-placed, needs)
@@ -204,22 +204,22 @@ of-son-spec =
     element-copy-out-corner
     quarter-requires
     mul-own
-    array-write-own
+    element-write-own
     quarter-requires-2
     mul-own-2
-    array-write-own-2
+    element-write-own-2
     quarter-requires-3
     add-own
     mul-own-3
-    array-write-own-3
+    element-write-own-3
     quarter-requires-4
     add-own-2
     mul-own-4
-    array-write-own-4
+    element-write-own-4
     quarter-requires-5
     add-own-3
     mul-own-5
-    array-write-own-5
+    element-write-own-5
     mul-own-6
     add-own-4
     add-own-5
@@ -227,7 +227,7 @@ of-son-spec =
     shared-slice-read-own
     sub-own
     mul-own-8
-    array-write-own-6
+    element-write-own-6
     mul-own-9
     add-own-6
     add-own-7
@@ -235,7 +235,7 @@ of-son-spec =
     shared-slice-read-own-2
     sub-own-2
     mul-own-11
-    array-write-own-7
+    element-write-own-7
     mul-own-12
     add-own-8
     add-own-9
@@ -243,5 +243,5 @@ of-son-spec =
     shared-slice-read-own-3
     add-own-10
     mul-own-14
-    array-write-own-8
+    element-write-own-8
     returns)

@@ -1,10 +1,11 @@
--- `neighbour::around::quarter`: a fork's son, or the leaf itself. Assumes nothing.
-use Rattle.neighbour.proofs.SurroundLaws.{quarter-fork, quarter-leaf}
+-- `neighbour::around::quarter`: the type picks the son or the leaf itself. Assumes nothing.
+use Rattle.neighbour.proofs.SurroundLaws.{quarter-picked}
 use borrow.Author.Needs.{needs}
 use Rattle.neighbour.proofs.around.quarter.Statement.{statement}
 use Rattle.neighbour.proofs.around.quarter.Tie as tie
 use Rattle.neighbour.proofs.around.quarter.Reads as reads
 use Rattle.neighbour.proofs.around.quarter.Lts as lts
+use Rattle.neighbour.proofs.around.fork_one.Reads as fork-one-reads
 use Rattle.table.proofs.word_at.Reads as word-at-reads
 
 word-at-requires : tie.Need-word-at-requires
@@ -25,11 +26,17 @@ mul-son-2 c = search needs
 shared-slice-read-son : tie.Need-shared-slice-read-son
 shared-slice-read-son c = search needs
 
-returns : tie.Need-returns
-returns c = search (quarter-fork, needs)
+fork-one-requires : tie.Need-fork-one-requires
+fork-one-requires c κs = search needs
 
-returns-2 : tie.Need-returns-2
-returns-2 c = search (quarter-leaf, needs)
+mul-result : tie.Need-mul-result
+mul-result c = search needs
+
+array-read-result : tie.Need-array-read-result
+array-read-result c = search needs
+
+returns : tie.Need-returns
+returns c = search (quarter-picked, needs)
 
 pub quarter-spec : {M : Type 1} → statement M
 quarter-spec =
@@ -41,5 +48,7 @@ quarter-spec =
     add-son-2
     mul-son-2
     shared-slice-read-son
-    returns
-    returns-2)
+    fork-one-requires
+    mul-result
+    array-read-result
+    returns)

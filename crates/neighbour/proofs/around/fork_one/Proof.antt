@@ -1,0 +1,16 @@
+-- `neighbour::around::fork_one`: one test. Assumes nothing.
+use native.Mathlib.Omega.{arith}
+use Rattle.neighbour.proofs.SurroundLaws.{fork-counts, leaf-counts}
+use Rattle.neighbour.proofs.around.fork_one.Statement.{statement}
+use Rattle.neighbour.proofs.around.fork_one.Tie as tie
+use Rattle.neighbour.proofs.around.fork_one.Reads as reads
+use Rattle.neighbour.proofs.around.fork_one.Lts as lts
+
+returns : tie.Need-returns
+returns c = (fork-counts _ (c .if1 .taken), omega arith)
+
+returns-2 : tie.Need-returns-2
+returns-2 c = (leaf-counts _ (c .if1 .left), omega arith)
+
+pub fork-one-spec : {M : Type 1} → statement M
+fork-one-spec = tie.close (tie.spec returns returns-2)
