@@ -142,62 +142,9 @@ painted-pixel n x y c U o e =
     let a : (y * 1 + 0) * 2 ^ n + x * 1 ≡ place = rw (mul-one y, add-zero y, mul-one x) in
     rows-all n 0 x y c U 1 _ refl (rows-more n 0 x y c U 0 U _ (block-fits o .0) (rows-none n 0 x y c U) (rw a f))
 
--- a block, quarter by quarter
-half-test : (b X : ℕ) → eqb (b / 2) X ≡ eqb b (2 * X) || eqb b (2 * X + 1)
-half-test b X =
-    same-tests _ _
-    (λ e.
-    let h : b / 2 ≡ X = eqb-true (b / 2) X e in
-    ⊎-elim
-    (λ (q : eqb b (2 * X) ≡ true). rw q)
-    (λ (q : eqb b (2 * X) ≡ false).
-    let z = eqb-false b (2 * X) q in
-    rw (q, eq-eqb b (2 * X + 1) (omega arith)))
-    (by-bool (eqb b (2 * X))))
-    (λ e.
-    ⊎-elim
-    (λ (q : eqb b (2 * X) ≡ true). eq-eqb (b / 2) X (omega (arith, eqb-true b (2 * X) q)))
-    (λ (q : eqb b (2 * X) ≡ false). eq-eqb (b / 2) X (omega (arith, eqb-true b (2 * X + 1) (or-second (eqb b (2 * X)) _ e q))))
-    (by-bool (eqb b (2 * X))))
-
-four-over : (w e n s : Bool) (g u : ℕ) → cond (e && s) g (cond (w && s) g (cond (e && n) g (cond (w && n) g u))) ≡ cond ((w || e) && (n || s)) g u
-four-over true e true s g u = over-west e s g u
-  where
-    over-west : (e s : Bool) (g u : ℕ) → cond (e && s) g (cond s g (cond (e && true) g g)) ≡ g
-    over-west true true g u = refl
-    over-west true false g u = refl
-    over-west false true g u = refl
-    over-west false false g u = refl
-four-over true true false true g u = refl
-four-over true true false false g u = refl
-four-over true false false true g u = refl
-four-over true false false false g u = refl
-four-over false true true true g u = refl
-four-over false true true false g u = refl
-four-over false true false true g u = refl
-four-over false true false false g u = refl
-four-over false false n s g u = refl
-
 same-where : (b : Bool) (g k u : ℕ) → (b ≡ true → k ≡ g) → cond b k u ≡ cond b g u
 same-where true g k u f = f refl
 same-where false g k u f = refl
-
-four-quarters : (l X Y x y g u : ℕ) → cond (inBlock l (2 * X + 1) (2 * Y + 1) x y) g
-    (cond (inBlock l (2 * X) (2 * Y + 1) x y) g (cond (inBlock l (2 * X + 1) (2 * Y) x y) g (cond (inBlock l (2 * X) (2 * Y) x y) g u)))
-    ≡ cond (inBlock (suc l) X Y x y) g u
-unfolding inBlock
-four-quarters l X Y x y g u =
-    four-over (eqb (x / 2 ^ l) (2 * X)) (eqb (x / 2 ^ l) (2 * X + 1)) (eqb (y / 2 ^ l) (2 * Y)) (eqb (y / 2 ^ l) (2 * Y + 1)) g u
-    ∙ rw (← half-test (x / 2 ^ l) X, ← half-test (y / 2 ^ l) Y, half-last l x, half-last l y)
-
--- a block of one colour, quarter by quarter
-pub filled-four : (n l X Y k : ℕ) (U₀ U₁ U₂ U₃ U₄ : List ℕ) → Painted n (inBlock l (2 * X) (2 * Y)) (λ i j. k) U₀ U₁
-    → Painted n (inBlock l (2 * X + 1) (2 * Y)) (λ i j. k) U₁ U₂ → Painted n (inBlock l (2 * X) (2 * Y + 1)) (λ i j. k) U₂ U₃
-    → Painted n (inBlock l (2 * X + 1) (2 * Y + 1)) (λ i j. k) U₃ U₄ → Painted n (inBlock (suc l) X Y) (λ i j. k) U₀ U₄
-filled-four n l X Y k U₀ U₁ U₂ U₃ U₄ a b c d = record {
-  size = d .size ∙ c .size ∙ b .size ∙ a .size;
-  pixels = λ x y hx hy. d .pixels x y hx hy ∙ rw (c .pixels x y hx hy, b .pixels x y hx hy, a .pixels x y hx hy) (four-quarters l X Y x y k _);
-}
 
 module _ (T : List ℕ) (l p X Y : ℕ) where
   -- a leaf's block

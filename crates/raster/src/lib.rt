@@ -312,33 +312,52 @@ fn fill_pixel(raster: &mut [u8], n: u32, x: usize, y: usize, colour: u8)
     raster[y * across + x] = colour;
 }
 
-// Fills a block of four pixels.
-fn fill_four(raster: &mut [u8], n: u32, x: usize, y: usize, colour: u8)
-    requires { ⌜ (n ≤ topLevel) × OnSheet n 1 x y × (length (now raster) ≡ 4 ^ n) ⌝ }
-    ensures { λ _. ⌜ Painted n (inBlock 1 x y) (λ i j. colour) (now (raster .entry)) (now (raster .exit)) ⌝ }
-{
-    let west = 2 * x;
-    let north = 2 * y;
-    fill_pixel(raster, n, west, north, colour);
-    fill_pixel(raster, n, west + 1, north, colour);
-    fill_pixel(raster, n, west, north + 1, colour);
-    fill_pixel(raster, n, west + 1, north + 1, colour);
-}
-
-// Fills a leaf's block.
+// Fills a leaf's block. The width of small rows is written out, so that each is one store.
 fn fill_leaf(raster: &mut [u8], n: u32, level: u32, x: usize, y: usize, colour: u8)
     requires { ⌜ (n ≤ topLevel) × OnSheet n level x y × (length (now raster) ≡ 4 ^ n) ⌝ }
     ensures { λ _. ⌜ Painted n (inBlock level x y) (λ i j. colour) (now (raster .entry)) (now (raster .exit)) ⌝ }
 {
-    if level == 0 {
-        fill_pixel(raster, n, x, y, colour);
+    if level == 1 {
+        fill_block(raster, n, 1, x, y, colour);
         return;
     }
-    if level == 1 {
-        fill_four(raster, n, x, y, colour);
+    if level == 2 {
+        fill_block(raster, n, 2, x, y, colour);
+        return;
+    }
+    if level == 3 {
+        fill_block(raster, n, 3, x, y, colour);
+        return;
+    }
+    if level == 4 {
+        fill_block(raster, n, 4, x, y, colour);
         return;
     }
     fill_block(raster, n, level, x, y, colour);
+}
+
+// Paints the pixel of node p, a leaf since it is at level 0.
+fn paint_pixel(table: &[u32], p: usize, n: u32, x: usize, y: usize, raster: &mut [u8])
+    requires { ⌜ Paintable n (now table) p 0 x y (length (now raster)) ⌝ }
+    ensures { λ _. ⌜ Painted n (inBlock 0 x y) (coloursAt (now (table .entry)) 0 p) (now (raster .entry)) (now (raster .exit)) ⌝ }
+{
+    let kind = table::word_at(table, p, 5);
+    fill_pixel(raster, n, x, y, kind as u8);
+}
+
+// Paints the block of fork p at level 1, whose sons are pixels.
+fn paint_four(table: &[u32], p: usize, n: u32, x: usize, y: usize, raster: &mut [u8])
+    requires { ⌜ Paintable n (now table) p 1 x y (length (now raster)) × (isFork (now table) p ≡ true) ⌝ }
+    ensures { λ _. ⌜ Painted n (inBlock 1 x y) (coloursAt (now (table .entry)) 1 p) (now (raster .entry)) (now (raster .exit)) ⌝ }
+{
+    let mut q = 0;
+    while q < 4 {
+        let son = table::word_at(table, p, 1 + q);
+        let column = 2 * x + q % 2;
+        let row = 2 * y + q / 2;
+        q += 1;
+        paint_pixel(table, son, n, column, row, raster);
+    }
 }
 
 // Paints the block of fork p, each pixel once, quarter by quarter. A son that is a leaf is painted here, without a call.
@@ -346,6 +365,10 @@ fn paint_fork(table: &[u32], p: usize, n: u32, level: u32, x: usize, y: usize, r
     requires { ⌜ Paintable n (now table) p level x y (length (now raster)) × (isFork (now table) p ≡ true) ⌝ }
     ensures { λ _. ⌜ Painted n (inBlock level x y) (coloursAt (now (table .entry)) level p) (now (raster .entry)) (now (raster .exit)) ⌝ }
 {
+    if level == 1 {
+        paint_four(table, p, n, x, y, raster);
+        return;
+    }
     let half = level - 1;
     let mut q = 0;
     while q < 4 {
