@@ -6,7 +6,6 @@ use Prim.Native.Nat.{ℕ, _-_, _*_, _≤_, _<_}
 use native.Mathlib.Omega.{arith}
 use lib.Dec.{ltb}
 use lib.ListN.{length}
-use lib.Seq.{sets}
 use borrow.Author.Tests.{lt-ltb, le-ltb}
 use Rattle.base.proofs.BoolLaws.{on, off}
 use Rattle.answer.specs.declared.Outcome.{Outcome}
@@ -15,16 +14,13 @@ use Rattle.answer.specs.Numbers.{answers, andThen, unless, room}
 use Rattle.answer.proofs.OutcomeLaws.{then-then}
 use Rattle.quad.specs.Numbers.{topLevel, none}
 use Rattle.quad.specs.Tree.{Tree, sizeOf, treeOf}
-use Rattle.quad.proofs.TreeLaws.{pixels-top}
-use Rattle.table.specs.Preorder.{preorderTable}
+use Rattle.quad.proofs.TreeLaws.{size-fits}
+use Rattle.quad.proofs.PictureLaws.{tree-within}
 use Rattle.table.proofs.PreorderLaws.{written-whole}
-use Rattle.raster.specs.declared.Measured.{Measured}
 use Rattle.raster.specs.Raster.{pictureOf, rasterTree, rasterLength, pixelsFrom, buildOf, builtTable}
 use Rattle.raster.specs.Calls.{Builds}
-use Rattle.raster.specs.Blocks.{Picture, OnSheet, readableOf, measureOf}
-use Rattle.raster.specs.Writing.{lateWords, Ready, Put}
-use Rattle.raster.proofs.BlockLaws.{block-coloured}
-use Rattle.raster.proofs.WritingLaws.{of-nodes, of-kind, whole-part, room-of}
+use Rattle.raster.specs.Blocks.{Picture, OnSheet, readableOf}
+use Rattle.raster.specs.Writing.{Ready, Put}
 use Rattle.raster.proofs.TestLaws.{readable-picture}
 
 -- the whole sheet is a block
@@ -63,26 +59,17 @@ module _ (n : ℕ) (R U : List ℕ) where
       build-room : buildOf n R (length U) ≡ andThen (room (6 * sizeOf tree) (length U)) (Answered (sizeOf tree))
       build-room = build-then ∙ rw (← e, on u (answers o) a h)
 
-      module _ (m : Measured) (em : m ≡ measureOf tree) where
-        pub builds-short : length U < 6 * m .nodes → Builds n R U (NoRoom (6 * m .nodes)) U
-        builds-short lt =
-            let s = of-nodes tree m em in
-            builds-not (NoRoom (6 * m .nodes)) (sym (build-room ∙ rw (← s, lt-ltb (length U) (6 * m .nodes) lt))) refl
+      module _ (m : ℕ) (em : m ≡ sizeOf tree) where
+        pub builds-short : length U < 6 * m → Builds n R U (NoRoom (6 * m)) U
+        builds-short lt = builds-not (NoRoom (6 * m)) (sym (build-room ∙ rw (← em, lt-ltb (length U) (6 * m) lt))) refl
 
-        -- the tree, and a lone leaf's words after it
-        pub builds-done : (root : Measured) (W after : List ℕ) → 6 * m .nodes ≤ length U → Put tree none 0 U W root
-            → after ≡ sets W (6 * 0) (lateWords none (root .kind)) → Builds n R U (Answered (m .nodes)) after
+        pub builds-done : (v : ℕ) (after : List ℕ) → 6 * m ≤ length U → Put tree none 0 U after v → Builds n R U (Answered v) after
         unfolding builtTable rasterTree
-        builds-done root W after le p w =
-            let s = of-nodes tree m em in
-            let b : buildOf n R (length U) ≡ Answered (m .nodes) = build-room ∙ rw (← s, le-ltb (length U) (6 * m .nodes) le) in
-            let all : after ≡ sets U (6 * 0) (preorderTable tree) =
-            w ∙ rw (of-kind tree root (p .measured), p .words) (whole-part U none 0 tree (block-coloured n R passed-picture n 0 0)) in
-            record { answer = sym b; table = rw b (written-whole tree U after (omega arith) all) }
+        builds-done v after le p =
+            let s : v ≡ m = omega (arith, p .next) in
+            let b : buildOf n R (length U) ≡ Answered v = build-room ∙ rw (← em, le-ltb (length U) (6 * m) le, s) in
+            record { answer = sym b; table = rw b (written-whole tree U after (omega arith) (p .words)) }
 
   -- there is room for its tree
-  pub sheet-ready : n ≤ topLevel → (m : Measured) → m ≡ measureOf tree → 6 * m .nodes ≤ length U → Ready tree n 0 (length U)
-  sheet-ready top m em le = record {
-    room = room-of tree 0 (length U) (omega (arith, of-nodes tree m em));
-    few = omega (arith, pixels-top n top);
-  }
+  pub sheet-ready : n ≤ topLevel → (m : ℕ) → m ≡ sizeOf tree → 6 * m ≤ length U → Ready tree 0 (length U)
+  sheet-ready top m em le = record { room = omega arith; few = omega (arith, size-fits n tree top (tree-within (pictureOf n R) n 0 0)) }

@@ -1,12 +1,12 @@
 -- What the statements of the two calls settle: a refusal changes nothing, and an answer gives document 01's table or raster; then building and decoding
 -- undo each other, in any numbering.
 use mathlib.Core.Bool.{true, false}
-use mathlib.Core.List.{List, [], _∷_}
+use mathlib.Core.List.{List}
 use mathlib.Core.Path.{_≡_, refl, ap, sym, _∙_}
-use Prim.Native.Nat.{ℕ, suc, _+_, _*_, _^_, _≤_}
+use Prim.Native.Nat.{ℕ, _*_, _^_, _≤_}
 use native.Mathlib.Omega.{arith}
 use lib.Dec.{ltb}
-use lib.ListN.{length, getD, take, drop}
+use lib.ListN.{length, take, drop}
 use lib.Seq.{take-at, drop-at}
 use borrow.Author.Tests.{eq-eqb, le-ltb, ltb-false}
 use Rattle.base.specs.Tab.{overlay}
@@ -14,7 +14,7 @@ use Rattle.answer.specs.declared.Outcome.{Outcome}
 use Rattle.answer.specs.declared.Outcome.the-variants.{Answered, NoRoom}
 use Rattle.answer.specs.Numbers.{valueOf, answers, room}
 use Rattle.answer.proofs.OutcomeLaws.{both-answer, answers-unless}
-use Rattle.quad.specs.Numbers.{topLevel, topColour, none}
+use Rattle.quad.specs.Numbers.{topLevel, none}
 use Rattle.quad.specs.Tree.{sizeOf}
 use Rattle.table.specs.Table.{nodes}
 use Rattle.table.specs.Rules.{sizesOf, faultsOf, checkOf, Accepted}
@@ -23,10 +23,10 @@ use Rattle.table.specs.Preorder.{preorderTable}
 use Rattle.table.proofs.CheckLaws.{sizes-good, check-accepted, accepted-of}
 use Rattle.table.proofs.PreorderLaws.{preorder-length}
 use Rattle.table.proofs.SizeLaws.{tree-size}
-use Rattle.raster.specs.Raster.{rasterTree, rasterOf, rasterLength, pixelsFrom, buildOf, builtTable, decodeOf, decodedRaster}
+use Rattle.raster.specs.Raster.{rasterTree, rasterOf, rasterLength, buildOf, builtTable, decodeOf, decodedRaster}
 use Rattle.raster.specs.Calls.{Builds, Decodes}
 use Rattle.raster.specs.Blocks.{Picture, readableOf}
-use Rattle.raster.proofs.TestLaws.{length-of, readable-picture}
+use Rattle.raster.proofs.TestLaws.{pixels-pass, length-of, readable-picture}
 use Rattle.raster.proofs.BuildLaws.{build-then}
 use Rattle.raster.proofs.RoundTrips.{built-accepted, built-decoded, decoded-tree, decoded-picture, one-raster-one-tree, one-tree-one-raster}
 
@@ -68,14 +68,9 @@ build-answered n R before count after h =
     }
 
 -- building answers for every raster of colours, where there is room
-pixels-pass : (R : List ℕ) (i : ℕ) → ((j : ℕ) → getD R j 0 ≤ topColour) → pixelsFrom R i ≡ Answered 0
-unfolding pixelsFrom
-pixels-pass [] i h = refl
-pixels-pass (b ∷ bs) i h = rw (pixelsFrom, le-ltb topColour b (h 0)) (pixels-pass bs (i + 1) (λ j. h (suc j)))
-
 picture-readable : (n : ℕ) (R : List ℕ) → Picture n R → readableOf n R ≡ Answered 0
 unfolding readableOf
-picture-readable n R p = rw (readableOf, le-ltb topLevel n (p .top), eq-eqb (length R) (4 ^ n) (p .whole), pixels-pass R 0 (p .colours))
+picture-readable n R p = rw (readableOf, le-ltb topLevel n (p .top), eq-eqb (length R) (4 ^ n) (p .whole), pixels-pass R 0 (λ j lt. p .colours j))
 
 pub build-value : (n : ℕ) (R before : List ℕ) (o : Outcome) (after : List ℕ) → Picture n R → 6 * sizeOf (rasterTree n R) ≤ length before
     → Builds n R before o after → o ≡ Answered (sizeOf (rasterTree n R))

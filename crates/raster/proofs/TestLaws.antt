@@ -18,7 +18,7 @@ use Rattle.answer.proofs.OutcomeLaws.{then-stop, then-go, both-answer, answers-
 use Rattle.quad.specs.Numbers.{topLevel, topColour}
 use Rattle.quad.proofs.TreeLaws.{pixels-top}
 use Rattle.raster.specs.Raster.{rasterLength, pixelsFrom}
-use Rattle.raster.specs.Blocks.{Picture, readableOf}
+use Rattle.raster.specs.Blocks.{NoneAbove, Picture, readableOf}
 
 -- the length
 module _ (n bytes s : ℕ) (e : s ≡ 2 ^ n) where
@@ -43,6 +43,12 @@ module _ (R : List ℕ) where
   pixels-end i le ge =
       let e : i ≡ length R = omega arith in
       rw (e, drop-length R)
+
+-- none, where no byte is above the top colour
+pub pixels-pass : (R : List ℕ) (i : ℕ) → NoneAbove topColour R → pixelsFrom R i ≡ Answered 0
+unfolding pixelsFrom
+pixels-pass [] i h = refl
+pixels-pass (b ∷ bs) i h = rw (pixelsFrom, le-ltb topColour b (h 0 (omega arith))) (pixels-pass bs (i + 1) (λ j lt. h (suc j) (omega arith)))
 
 pub length-of : (n bytes : ℕ) → answers (rasterLength n bytes) ≡ true → bytes ≡ 4 ^ n
 length-of n bytes e = eqb-true bytes (4 ^ n) (on _ _ refl (answers-unless (not (eqb bytes (4 ^ n))) (WrongLength 1) refl e))

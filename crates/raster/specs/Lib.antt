@@ -1,5 +1,6 @@
 pub mod Raster
 pub mod Calls
 pub mod Blocks
+pub mod Kinds
 pub mod Writing
 pub mod Painting

@@ -1,32 +1,21 @@
 // A table and its raster are one picture: building and decoding.
 use answer::Outcome;
 ghost use mathlib.Core.Bool.{true};
+ghost use mathlib.Core.List.{[], _∷_};
 ghost use mathlib.Core.Path.{_≡_};
-ghost use Prim.Native.Nat.{_+_, _*_, _≤_, _^_};
+ghost use Prim.Native.Nat.{_+_, _*_, _≤_, _<_, _^_};
 ghost use lib.ListN.{length};
 ghost use lib.Seq.{sets};
-ghost use Rattle.quad.specs.Numbers.{topLevel};
-ghost use Rattle.quad.specs.Tree.{treeOf};
+ghost use Rattle.base.specs.Tab.{sum};
+ghost use Rattle.quad.specs.Numbers.{topLevel, maxWords, forkType, none};
+ghost use Rattle.quad.specs.Tree.{colour, sizeOf, treeOf};
 ghost use Rattle.table.specs.Table.{isFork};
 ghost use Rattle.raster.specs.Raster.{pictureOf, rasterLength, pixelsFrom};
 ghost use Rattle.raster.specs.Calls.{Builds, Decodes};
-ghost use Rattle.raster.specs.Blocks.{Picture, readableOf, OnSheet, Few, joinedOf, measureOf, quartersOf};
+ghost use Rattle.raster.specs.Blocks.{Picture, readableOf, OnSheet, Colours, NoneAbove};
+ghost use Rattle.raster.specs.Kinds.{rowFrom, fourSum, sixteenSum, fourOver, mixedOf};
 ghost use Rattle.raster.specs.Painting.{Filled, Painted, inBlock, coloursAt, Paintable};
-ghost use Rattle.raster.specs.Writing.{lateWords, ForkRoom, forkPut, Ready, Put};
-
-// What a block's tree comes to: its nodes, and a leaf's colour or a fork's type.
-pub struct Measured {
-    pub nodes: u32,
-    pub kind: u32,
-}
-
-// The four quarters of a block.
-pub struct Quarters {
-    pub nw: Measured,
-    pub ne: Measured,
-    pub sw: Measured,
-    pub se: Measured,
-}
+ghost use Rattle.raster.specs.Writing.{Ready, Put};
 
 // The pixel in column x and row y.
 fn pixel_at(raster: &[u8], n: u32, x: usize, y: usize) -> u32
@@ -37,121 +26,201 @@ fn pixel_at(raster: &[u8], n: u32, x: usize, y: usize) -> u32
     raster[y * across + x] as u32
 }
 
-// What the tree of one pixel comes to.
-fn leaf_at(raster: &[u8], n: u32, x: usize, y: usize) -> Measured
-    requires { ⌜ Picture n (now raster) × OnSheet n 0 x y ⌝ }
-    ensures { λ r. ⌜ r ≡ measureOf (treeOf (pictureOf n (now (raster .entry))) 0 x y) ⌝ }
+// The sum of a row of pixels.
+fn row_sum(raster: &[u8], start: usize, width: usize) -> u32
+    requires { ⌜ (start + width ≤ length (now raster)) × (width ≤ 2 ^ topLevel) × Colours (now raster) ⌝ }
+    ensures { λ r. ⌜ r ≡ sum (rowFrom (now (raster .entry)) start) width ⌝ }
 {
-    Measured {
-        nodes: 1,
-        kind: pixel_at(raster, n, x, y),
+    let mut sum = 0;
+    let mut i = 0;
+    while i < width {
+        sum += raster[start + i] as u32;
+        i += 1;
     }
+    sum
 }
 
-// What four quarters come to: one of them where they are like leaves, else a fork over them.
-fn joined(nw: Measured, ne: Measured, sw: Measured, se: Measured) -> Measured
-    requires { ⌜ Few nw × Few ne × Few sw × Few se ⌝ }
-    ensures { λ r. ⌜ r ≡ joinedOf nw ne sw se ⌝ }
-{
-    if quad::like_leaves(
-        nw.kind as usize,
-        ne.kind as usize,
-        sw.kind as usize,
-        se.kind as usize,
-    ) {
-        return nw;
-    }
-    Measured {
-        nodes: 1 + (nw.nodes + (ne.nodes + (sw.nodes + se.nodes))),
-        kind: quad::FORK as u32,
-    }
-}
-
-// What the trees of the four pixels of a block of level 1 come to.
-fn four_leaves(raster: &[u8], n: u32, x: usize, y: usize) -> Quarters
-    requires { ⌜ Picture n (now raster) × OnSheet n 1 x y ⌝ }
-    ensures { λ r. ⌜ r ≡ quartersOf (pictureOf n (now (raster .entry))) 0 x y ⌝ }
-{
-    let west = 2 * x;
-    let north = 2 * y;
-    let east = west + 1;
-    let south = north + 1;
-    let nw = leaf_at(raster, n, west, north);
-    let ne = leaf_at(raster, n, east, north);
-    let sw = leaf_at(raster, n, west, south);
-    let se = leaf_at(raster, n, east, south);
-    Quarters { nw, ne, sw, se }
-}
-
-// What the tree of a block of four pixels comes to.
-fn measure_four(raster: &[u8], n: u32, x: usize, y: usize) -> Measured
-    requires { ⌜ Picture n (now raster) × OnSheet n 1 x y ⌝ }
-    ensures { λ r. ⌜ r ≡ measureOf (treeOf (pictureOf n (now (raster .entry))) 1 x y) ⌝ }
-{
-    let q = four_leaves(raster, n, x, y);
-    joined(q.nw, q.ne, q.sw, q.se)
-}
-
-// What the tree of a block comes to, from its pixels up.
-fn measure(raster: &[u8], n: u32, level: u32, x: usize, y: usize) -> Measured
+// The type of a block: its pixels' colour where they are alike, which each row's sum tells, else a fork's.
+fn kind_by_rows(raster: &[u8], n: u32, level: u32, x: usize, y: usize) -> u32
     requires { ⌜ Picture n (now raster) × OnSheet n level x y ⌝ }
-    ensures { λ r. ⌜ r ≡ measureOf (treeOf (pictureOf n (now (raster .entry))) level x y) ⌝ }
+    ensures { λ r. ⌜ r ≡ colour (treeOf (pictureOf n (now (raster .entry))) level x y) ⌝ }
 {
-    if level == 0 {
-        return leaf_at(raster, n, x, y);
+    let across = quad::side(n) as usize;
+    let width = quad::side(level) as usize;
+    let left = x * width;
+    let top = y * width;
+    let first = pixel_at(raster, n, left, top);
+    let alike = first * (width as u32);
+    let mut row = 0;
+    while row < width {
+        if row_sum(raster, (top + row) * across + left, width) != alike {
+            return quad::FORK as u32;
+        }
+        row += 1;
     }
-    if level == 1 {
-        return measure_four(raster, n, x, y);
-    }
-    let half = level - 1;
-    let west = 2 * x;
-    let north = 2 * y;
-    let east = west + 1;
-    let south = north + 1;
-    let nw = measure(raster, n, half, west, north);
-    let ne = measure(raster, n, half, east, north);
-    let sw = measure(raster, n, half, west, south);
-    let se = measure(raster, n, half, east, south);
-    joined(nw, ne, sw, se)
+    first
 }
 
-// Writes node p where its kind is a leaf's; a fork stands there already.
+// The type of a block. The width of its rows is written out, so that a row is summed without a loop.
+fn kind_of(raster: &[u8], n: u32, level: u32, x: usize, y: usize) -> u32
+    requires { ⌜ Picture n (now raster) × OnSheet n level x y ⌝ }
+    ensures { λ r. ⌜ r ≡ colour (treeOf (pictureOf n (now (raster .entry))) level x y) ⌝ }
+{
+    if level == 3 {
+        return kind_by_rows(raster, n, 3, x, y);
+    }
+    if level == 4 {
+        return kind_by_rows(raster, n, 4, x, y);
+    }
+    if level == 5 {
+        return kind_by_rows(raster, n, 5, x, y);
+    }
+    if level == 6 {
+        return kind_by_rows(raster, n, 6, x, y);
+    }
+    if level == 7 {
+        return kind_by_rows(raster, n, 7, x, y);
+    }
+    kind_by_rows(raster, n, level, x, y)
+}
+
+// The sum of the four pixels of a block of level 1.
+fn sum_four(raster: &[u8], n: u32, x: usize, y: usize) -> u32
+    requires { ⌜ Picture n (now raster) × OnSheet n 1 x y ⌝ }
+    ensures { λ r. ⌜ (r ≡ fourSum (pictureOf n (now (raster .entry))) x y) × (r ≤ 4) ⌝ }
+{
+    let west = 2 * x;
+    let north = 2 * y;
+    let nw = pixel_at(raster, n, west, north);
+    let ne = pixel_at(raster, n, west + 1, north);
+    let sw = pixel_at(raster, n, west, north + 1);
+    let se = pixel_at(raster, n, west + 1, north + 1);
+    nw + ne + sw + se
+}
+
+// 1 where so many pixels of that sum are not alike, else 0.
+fn mixed(sum: u32, pixels: u32) -> u32
+    requires { ⌜ 0 < pixels ⌝ }
+    ensures { λ r. ⌜ (r ≡ mixedOf sum pixels) × (r ≤ 1) ⌝ }
+{
+    if sum % pixels == 0 {
+        return 0;
+    }
+    1
+}
+
+// The nodes of a block of level 2.
+fn count_sixteen(raster: &[u8], n: u32, x: usize, y: usize) -> u32
+    requires { ⌜ Picture n (now raster) × OnSheet n 2 x y ⌝ }
+    ensures { λ r. ⌜ r ≡ sizeOf (treeOf (pictureOf n (now (raster .entry))) 2 x y) ⌝ }
+{
+    let west = 2 * x;
+    let north = 2 * y;
+    let nw = sum_four(raster, n, west, north);
+    let ne = sum_four(raster, n, west + 1, north);
+    let sw = sum_four(raster, n, west, north + 1);
+    let se = sum_four(raster, n, west + 1, north + 1);
+    let quarters = mixed(nw, 4) + mixed(ne, 4) + mixed(sw, 4) + mixed(se, 4);
+    1 + 4 * (quarters + mixed(nw + ne + sw + se, 16))
+}
+
+// The nodes of a fork above level 2. A son that is a leaf is counted here, and so is one of level 2, without a call.
+fn count_fork(raster: &[u8], n: u32, level: u32, x: usize, y: usize) -> u32
+    requires { ⌜ Picture n (now raster) × OnSheet n level x y × (3 ≤ level) × (colour (treeOf (pictureOf n (now raster)) level x y) ≡ forkType) ⌝ }
+    ensures { λ r. ⌜ r ≡ sizeOf (treeOf (pictureOf n (now (raster .entry))) level x y) ⌝ }
+{
+    let half = level - 1;
+    let mut nodes = 1;
+    let mut q = 0;
+    while q < 4 {
+        let u = 2 * x + q % 2;
+        let v = 2 * y + q / 2;
+        q += 1;
+        if half == 2 {
+            nodes += count_sixteen(raster, n, u, v);
+        } else {
+            if kind_of(raster, n, half, u, v) == quad::FORK as u32 {
+                nodes += count_fork(raster, n, half, u, v);
+            } else {
+                nodes += 1;
+            }
+        }
+    }
+    nodes
+}
+
+// The nodes of a sheet whose root has that type.
+fn count(raster: &[u8], n: u32, kind: u32) -> u32
+    requires { ⌜ Picture n (now raster) × (kind ≡ colour (treeOf (pictureOf n (now raster)) n 0 0)) ⌝ }
+    ensures { λ r. ⌜ r ≡ sizeOf (treeOf (pictureOf n (now (raster .entry))) n 0 0) ⌝ }
+{
+    if kind != quad::FORK as u32 {
+        return 1;
+    }
+    if n == 1 {
+        return 5;
+    }
+    if n == 2 {
+        return count_sixteen(raster, 2, 0, 0);
+    }
+    count_fork(raster, n, n, 0, 0)
+}
+
+// Writes the six words of a leaf.
 fn put_leaf(table: &mut [u32], p: u32, father: u32, kind: u32)
     requires { ⌜ 6 * p + 6 ≤ length (now table) ⌝ }
-    ensures { λ _. ⌜ now (table .exit) ≡ sets (now (table .entry)) (6 * p) (lateWords father kind) ⌝ }
+    ensures { λ _. ⌜ now (table .exit) ≡ sets (now (table .entry)) (6 * p) (father ∷ none ∷ none ∷ none ∷ none ∷ kind ∷ []) ⌝ }
 {
-    if kind == quad::FORK as u32 {
-        return;
-    }
-    let none = quad::NONE as u32;
-    table::put_node(table, p as usize, father, none, none, none, none, kind);
+    let nobody = quad::NONE as u32;
+    table::put_node(
+        table,
+        p as usize,
+        father,
+        nobody,
+        nobody,
+        nobody,
+        nobody,
+        kind,
+    );
 }
 
-// Writes what a fork at node p still lacks once the forks among its sons stand: its leaves, and its own six words.
-fn put_fork(
+// Writes a fork over four pixels, its nodes from p on, and gives the next node.
+fn put_pixels(
+    raster: &[u8],
+    n: u32,
+    x: usize,
+    y: usize,
     table: &mut [u32],
     p: u32,
     father: u32,
-    nw: Measured,
-    ne: Measured,
-    sw: Measured,
-    se: Measured,
-)
-    requires { ⌜ ForkRoom p nw ne sw se (length (now table)) ⌝ }
-    ensures { λ _. ⌜ now (table .exit) ≡ forkPut (now (table .entry)) p father nw ne sw se ⌝ }
+) -> u32
+    requires { ⌜ Picture n (now raster) × OnSheet n 1 x y × (6 * (p + 5) ≤ length (now table)) × (p + 5 ≤ maxWords) ⌝ }
+    ensures { λ r. ⌜ Put (fourOver (pictureOf n (now (raster .entry))) 0 x y) father p (now (table .entry)) (now (table .exit)) r ⌝ }
 {
-    let a = p + 1;
-    let b = a + nw.nodes;
-    let c = b + ne.nodes;
-    let d = c + sw.nodes;
-    put_leaf(table, a, p, nw.kind);
-    put_leaf(table, b, p, ne.kind);
-    put_leaf(table, c, p, sw.kind);
-    put_leaf(table, d, p, se.kind);
-    table::put_node(table, p as usize, father, a, b, c, d, quad::FORK as u32);
+    let west = 2 * x;
+    let north = 2 * y;
+    let nw = pixel_at(raster, n, west, north);
+    let ne = pixel_at(raster, n, west + 1, north);
+    let sw = pixel_at(raster, n, west, north + 1);
+    let se = pixel_at(raster, n, west + 1, north + 1);
+    put_leaf(table, p + 1, p, nw);
+    put_leaf(table, p + 2, p, ne);
+    put_leaf(table, p + 3, p, sw);
+    put_leaf(table, p + 4, p, se);
+    table::put_node(
+        table,
+        p as usize,
+        father,
+        p + 1,
+        p + 2,
+        p + 3,
+        p + 4,
+        quad::FORK as u32,
+    );
+    p + 5
 }
 
-// Writes the tree of a block of four pixels from node p on where it is a fork, and gives what it comes to.
+// Writes a block of level 1, its nodes from p on, and gives the next node.
 fn put_four(
     raster: &[u8],
     n: u32,
@@ -160,21 +229,64 @@ fn put_four(
     table: &mut [u32],
     p: u32,
     father: u32,
-) -> Measured
-    requires { ⌜ Picture n (now raster) × OnSheet n 1 x y × Ready (treeOf (pictureOf n (now raster)) 1 x y) 1 p (length (now table)) ⌝ }
+) -> u32
+    requires { ⌜ Picture n (now raster) × OnSheet n 1 x y × Ready (treeOf (pictureOf n (now raster)) 1 x y) p (length (now table)) ⌝ }
     ensures { λ r. ⌜ Put (treeOf (pictureOf n (now (raster .entry))) 1 x y) father p (now (table .entry)) (now (table .exit)) r ⌝ }
 {
-    let q = four_leaves(raster, n, x, y);
-    let whole = joined(q.nw, q.ne, q.sw, q.se);
-    if whole.kind != quad::FORK as u32 {
-        return whole;
+    let sum = sum_four(raster, n, x, y);
+    if sum % 4 == 0 {
+        put_leaf(table, p, father, sum / 4);
+        return p + 1;
     }
-    put_fork(table, p, father, q.nw, q.ne, q.sw, q.se);
-    whole
+    put_pixels(raster, n, x, y, table, p, father)
 }
 
-// Writes a block's tree from node p on where it is a fork; a leaf is left to its father. Gives what the tree comes to.
-fn put(
+// The sum of the sixteen pixels of a block of level 2.
+fn sum_sixteen(raster: &[u8], n: u32, x: usize, y: usize) -> u32
+    requires { ⌜ Picture n (now raster) × OnSheet n 2 x y ⌝ }
+    ensures { λ r. ⌜ r ≡ sixteenSum (pictureOf n (now (raster .entry))) x y ⌝ }
+{
+    let west = 2 * x;
+    let north = 2 * y;
+    let nw = sum_four(raster, n, west, north);
+    let ne = sum_four(raster, n, west + 1, north);
+    let sw = sum_four(raster, n, west, north + 1);
+    let se = sum_four(raster, n, west + 1, north + 1);
+    nw + ne + sw + se
+}
+
+// Writes a block of level 2, its nodes from p on, and gives the next node.
+fn put_sixteen(
+    raster: &[u8],
+    n: u32,
+    x: usize,
+    y: usize,
+    table: &mut [u32],
+    p: u32,
+    father: u32,
+) -> u32
+    requires { ⌜ Picture n (now raster) × OnSheet n 2 x y × Ready (treeOf (pictureOf n (now raster)) 2 x y) p (length (now table)) ⌝ }
+    ensures { λ r. ⌜ Put (treeOf (pictureOf n (now (raster .entry))) 2 x y) father p (now (table .entry)) (now (table .exit)) r ⌝ }
+{
+    let sum = sum_sixteen(raster, n, x, y);
+    if sum % 16 == 0 {
+        put_leaf(table, p, father, sum / 16);
+        return p + 1;
+    }
+    let west = 2 * x;
+    let north = 2 * y;
+    let a = p + 1;
+    let b = put_four(raster, n, west, north, table, a, p);
+    let c = put_four(raster, n, west + 1, north, table, b, p);
+    let d = put_four(raster, n, west, north + 1, table, c, p);
+    let next = put_four(raster, n, west + 1, north + 1, table, d, p);
+    table::put_node(table, p as usize, father, a, b, c, d, quad::FORK as u32);
+    next
+}
+
+// Writes a fork above level 2, its nodes from p on, and gives the next node. Each son's number is written before the son's part, and the type last; a
+// son that is a leaf is written here, and so is one of level 2, without a call.
+fn put_fork(
     raster: &[u8],
     n: u32,
     level: u32,
@@ -183,35 +295,53 @@ fn put(
     table: &mut [u32],
     p: u32,
     father: u32,
-) -> Measured
-    requires { ⌜ Picture n (now raster) × OnSheet n level x y × Ready (treeOf (pictureOf n (now raster)) level x y) level p (length (now table)) ⌝ }
+) -> u32
+    requires { ⌜ Picture n (now raster) × OnSheet n level x y × (3 ≤ level) × (colour (treeOf (pictureOf n (now raster)) level x y) ≡ forkType) × Ready (treeOf (pictureOf n (now raster)) level x y) p (length (now table)) ⌝ }
     ensures { λ r. ⌜ Put (treeOf (pictureOf n (now (raster .entry))) level x y) father p (now (table .entry)) (now (table .exit)) r ⌝ }
 {
-    if level == 0 {
-        return leaf_at(raster, n, x, y);
-    }
-    if level == 1 {
-        return put_four(raster, n, x, y, table, p, father);
-    }
     let half = level - 1;
-    let west = 2 * x;
-    let north = 2 * y;
-    let east = west + 1;
-    let south = north + 1;
-    let a = p + 1;
-    let nw = put(raster, n, half, west, north, table, a, p);
-    let b = a + nw.nodes;
-    let ne = put(raster, n, half, east, north, table, b, p);
-    let c = b + ne.nodes;
-    let sw = put(raster, n, half, west, south, table, c, p);
-    let d = c + sw.nodes;
-    let se = put(raster, n, half, east, south, table, d, p);
-    let whole = joined(nw, ne, sw, se);
-    if whole.kind != quad::FORK as u32 {
-        return whole;
+    let own = 6 * (p as usize);
+    table[own] = father;
+    let mut next = p + 1;
+    let mut q = 0;
+    while q < 4 {
+        table[own + 1 + q] = next;
+        let u = 2 * x + q % 2;
+        let v = 2 * y + q / 2;
+        q += 1;
+        if half == 2 {
+            next = put_sixteen(raster, n, u, v, table, next, p);
+        } else {
+            let kind = kind_of(raster, n, half, u, v);
+            if kind == quad::FORK as u32 {
+                next = put_fork(raster, n, half, u, v, table, next, p);
+            } else {
+                put_leaf(table, next, p, kind);
+                next += 1;
+            }
+        }
     }
-    put_fork(table, p, father, nw, ne, sw, se);
-    whole
+    table[own + 5] = quad::FORK as u32;
+    next
+}
+
+// Writes a sheet whose root has that type, and gives its node count.
+fn put(raster: &[u8], n: u32, kind: u32, table: &mut [u32]) -> u32
+    requires { ⌜ Picture n (now raster) × (kind ≡ colour (treeOf (pictureOf n (now raster)) n 0 0)) × Ready (treeOf (pictureOf n (now raster)) n 0 0) 0 (length (now table)) ⌝ }
+    ensures { λ r. ⌜ Put (treeOf (pictureOf n (now (raster .entry))) n 0 0) none 0 (now (table .entry)) (now (table .exit)) r ⌝ }
+{
+    let nobody = quad::NONE as u32;
+    if kind != quad::FORK as u32 {
+        put_leaf(table, 0, nobody, kind);
+        return 1;
+    }
+    if n == 1 {
+        return put_four(raster, 1, 0, 0, table, 0, nobody);
+    }
+    if n == 2 {
+        return put_sixteen(raster, 2, 0, 0, table, 0, nobody);
+    }
+    put_fork(raster, n, n, 0, 0, table, 0, nobody)
 }
 
 // Whether a raster of level n has that many bytes.
@@ -226,8 +356,31 @@ fn raster_length(n: u32, bytes: usize) -> Outcome
     Outcome::Answered { value: 0 }
 }
 
+// The larger of two bytes.
+fn larger(a: u8, b: u8) -> u8
+    ensures { λ r. ⌜ (a ≤ r) × (b ≤ r) ⌝ }
+{
+    if a < b {
+        return b;
+    }
+    a
+}
+
+// A byte that no byte is above: the highest, found without a way out, so that many are looked at together.
+fn highest(raster: &[u8]) -> u8
+    ensures { λ r. ⌜ NoneAbove r (now (raster .entry)) ⌝ }
+{
+    let mut most = 0;
+    let mut i = 0;
+    while i < raster.len() {
+        most = larger(most, raster[i]);
+        i += 1;
+    }
+    most
+}
+
 // The first byte that is no colour.
-fn pixels(raster: &[u8]) -> Outcome
+fn first_bad(raster: &[u8]) -> Outcome
     requires { ⌜ length (now raster) ≤ 4 ^ topLevel ⌝ }
     ensures { λ r. ⌜ r ≡ pixelsFrom (now (raster .entry)) 0 ⌝ }
 {
@@ -237,6 +390,17 @@ fn pixels(raster: &[u8]) -> Outcome
             return Outcome::BadPixel { place: i as u32 };
         }
         i += 1;
+    }
+    Outcome::Answered { value: 0 }
+}
+
+// The first byte that is no colour, looked for only where the highest is none.
+fn pixels(raster: &[u8]) -> Outcome
+    requires { ⌜ length (now raster) ≤ 4 ^ topLevel ⌝ }
+    ensures { λ r. ⌜ r ≡ pixelsFrom (now (raster .entry)) 0 ⌝ }
+{
+    if quad::TOP_COLOUR < highest(raster) as usize {
+        return first_bad(raster);
     }
     Outcome::Answered { value: 0 }
 }
@@ -264,15 +428,14 @@ pub fn build(n: u32, raster: &[u8], table: &mut [u32]) -> Outcome
     if !answer::answered(read) {
         return read;
     }
-    let whole = measure(raster, n, n, 0, 0);
-    let needed = 6 * whole.nodes;
+    let kind = kind_of(raster, n, n, 0, 0);
+    let nodes = count(raster, n, kind);
+    let needed = 6 * nodes;
     if table.len() < needed as usize {
         return Outcome::NoRoom { needed };
     }
-    let none = quad::NONE as u32;
-    let root = put(raster, n, n, 0, 0, table, 0, none);
-    put_leaf(table, 0, none, root.kind);
-    Outcome::Answered { value: whole.nodes }
+    let value = put(raster, n, kind, table);
+    Outcome::Answered { value }
 }
 
 // Fills `width` bytes from a place on.

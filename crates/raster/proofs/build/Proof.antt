@@ -1,7 +1,9 @@
 -- `raster::build`: refusals 1, 2, 8, then 9 by the nodes counted, then the tree is written. Assumes nothing.
 use native.Mathlib.Omega.{arith}
-use Rattle.raster.proofs.BlockLaws.{measure-few}
-use Rattle.raster.proofs.WritingLaws.{some-node}
+use Rattle.raster.specs.Raster.{pictureOf}
+use Rattle.quad.specs.Tree.{treeOf}
+use Rattle.quad.proofs.TreeLaws.{size-fits}
+use Rattle.quad.proofs.PictureLaws.{tree-within}
 use Rattle.raster.proofs.BuildLaws.{builds-refused, passed-picture, builds-short, builds-done, sheet-on, sheet-ready}
 use borrow.Author.Needs.{needs}
 use Rattle.raster.proofs.build.Statement.{statement}
@@ -14,51 +16,33 @@ answered-requires : tie.Need-answered-requires
 answered-requires c κs = search needs
 
 returns : tie.Need-returns
-returns c =
-    let s = c .before .before .before .before .before .args in
-    builds-refused (s .n) (s .raster .now) (s .table .now) _ _ (c .before .before .readable .ensures) (c .before .answered .ensures) (c .if1 .taken)
+returns c = builds-refused (c .before .before .before .before .before .args .n) (c .before .before .before .before .before .args .raster .now) (c .before .before .before .before .before .args .table .now) _ _ (c .before .before .readable .ensures) (c .before .answered .ensures) (c .if1 .taken)
 
-measure-requires : tie.Need-measure-requires
-measure-requires c κs =
-    let s = c .before .before .before .before .before .args in
-    let pic = passed-picture (s .n) (s .raster .now) (s .table .now) _ _ (c .before .before .readable .ensures) (c .before .answered .ensures) (c .if1 .left) in
-    (pic, sheet-on (s .n))
+kind-of-requires : tie.Need-kind-of-requires
+kind-of-requires c κs = (passed-picture (c .before .before .before .before .before .args .n) (c .before .before .before .before .before .args .raster .now) (c .before .before .before .before .before .args .table .now) _ _ (c .before .before .readable .ensures) (c .before .answered .ensures) (c .if1 .left), sheet-on (c .before .before .before .before .before .args .n))
+
+count-requires : tie.Need-count-requires
+count-requires c κs = (passed-picture (c .before .before .before .before .before .before .args .n) (c .before .before .before .before .before .before .args .raster .now) (c .before .before .before .before .before .before .args .table .now) _ _ (c .before .before .before .readable .ensures) (c .before .before .answered .ensures) (c .before .if1 .left), c .kind-of .ensures)
 
 mul-needed : tie.Need-mul-needed
 mul-needed c =
-    let s = c .before .before .before .before .before .before .before .args in
-    let pic = passed-picture (s .n) (s .raster .now) (s .table .now) _ _ (c .before .before .before .before .readable .ensures) (c .before .before .before .answered .ensures) (c .before .before .if1 .left) in
-    record { fits = omega (arith, measure-few _ (s .n) 0 0 _ (pic .top) (c .before .measure .ensures)) }
+    let f = pictureOf (c .before .before .before .before .before .before .before .args .n) (c .before .before .before .before .before .before .before .args .raster .now) in
+    record { fits = omega (arith, size-fits (c .before .before .before .before .before .before .before .args .n) (treeOf f (c .before .before .before .before .before .before .before .args .n) 0 0) (passed-picture (c .before .before .before .before .before .before .before .args .n) (c .before .before .before .before .before .before .before .args .raster .now) (c .before .before .before .before .before .before .before .args .table .now) _ _ (c .before .before .before .before .readable .ensures) (c .before .before .before .answered .ensures) (c .before .before .if1 .left) .top) (tree-within f (c .before .before .before .before .before .before .before .args .n) 0 0), c .count .ensures) }
 
 cast-if2 : tie.Need-cast-if2
 cast-if2 c = search needs
 
 returns-2 : tie.Need-returns-2
-returns-2 c =
-    let s = c .before .before .before .before .before .before .before .before .args in
-    builds-short (s .n) (s .raster .now) (s .table .now) _ _ (c .before .before .before .before .before .readable .ensures) (c .before .before .before .before .answered .ensures) (c .before .before .before .if1 .left) _ (c .before .before .measure .ensures) (c .if2 .taken)
-
-cast-none : tie.Need-cast-none
-cast-none c = search needs
+returns-2 c = builds-short (c .before .before .before .before .before .before .before .before .args .n) (c .before .before .before .before .before .before .before .before .args .raster .now) (c .before .before .before .before .before .before .before .before .args .table .now) _ _ (c .before .before .before .before .before .readable .ensures) (c .before .before .before .before .answered .ensures) (c .before .before .before .if1 .left) _ (c .before .count .ensures) (c .if2 .taken)
 
 put-requires : tie.Need-put-requires
-put-requires c κs =
-    let s = c .before .before .before .before .before .before .before .before .before .args in
-    let pic = passed-picture (s .n) (s .raster .now) (s .table .now) _ _ (c .before .before .before .before .before .before .readable .ensures) (c .before .before .before .before .before .answered .ensures) (c .before .before .before .before .if1 .left) in
-    (pic, sheet-on (s .n), sheet-ready (s .n) (s .raster .now) (s .table .now) (pic .top) _ (c .before .before .before .measure .ensures) (c .before .if2 .left))
-
-put-leaf-requires : tie.Need-put-leaf-requires
-put-leaf-requires c κs =
-    let s = c .before .before .before .before .before .before .before .before .before .before .before .before .before .args in
-    rw (c .before .before .before .put .kept .1 .1 .1 .1 .1 .0) (omega (arith, c .before .before .before .before .before .if2 .left, some-node _ _ (c .before .before .before .before .before .before .before .measure .ensures)))
+put-requires c κs = (passed-picture (c .before .before .before .before .before .before .before .before .before .args .n) (c .before .before .before .before .before .before .before .before .before .args .raster .now) (c .before .before .before .before .before .before .before .before .before .args .table .now) _ _ (c .before .before .before .before .before .before .readable .ensures) (c .before .before .before .before .before .answered .ensures) (c .before .before .before .before .if1 .left), c .before .before .before .kind-of .ensures, sheet-ready (c .before .before .before .before .before .before .before .before .before .args .n) (c .before .before .before .before .before .before .before .before .before .args .raster .now) (c .before .before .before .before .before .before .before .before .before .args .table .now) (passed-picture (c .before .before .before .before .before .before .before .before .before .args .n) (c .before .before .before .before .before .before .before .before .before .args .raster .now) (c .before .before .before .before .before .before .before .before .before .args .table .now) _ _ (c .before .before .before .before .before .before .readable .ensures) (c .before .before .before .before .before .answered .ensures) (c .before .before .before .before .if1 .left) .top) _ (c .before .before .count .ensures) (c .before .if2 .left))
 
 same-length : tie.Need-same-length
 same-length c = search needs
 
 returns-3 : tie.Need-returns-3
-returns-3 c =
-    let s = c .before .before .before .before .before .before .before .before .before .before .before .before .before .before .before .before .args in
-    builds-done (s .n) (s .raster .now) (s .table .now) _ _ (c .before .before .before .before .before .before .before .before .before .before .before .before .before .readable .ensures) (c .before .before .before .before .before .before .before .before .before .before .before .before .answered .ensures) (c .before .before .before .before .before .before .before .before .before .before .before .if1 .left) _ (c .before .before .before .before .before .before .before .before .before .before .measure .ensures) _ _ _ (c .before .before .before .before .before .before .before .before .if2 .left) (c .before .before .before .before .before .before .put .ensures) (c .before .before .put-leaf .ensures)
+returns-3 c = builds-done (c .before .before .before .before .before .before .before .before .before .before .before .before .args .n) (c .before .before .before .before .before .before .before .before .before .before .before .before .args .raster .now) (c .before .before .before .before .before .before .before .before .before .before .before .before .args .table .now) _ _ (c .before .before .before .before .before .before .before .before .before .readable .ensures) (c .before .before .before .before .before .before .before .before .answered .ensures) (c .before .before .before .before .before .before .before .if1 .left) _ (c .before .before .before .before .before .count .ensures) _ _ (c .before .before .before .before .if2 .left) (c .before .before .put .ensures)
 
 pub build-spec : {M : Type 1} → statement M
 build-spec =
@@ -67,12 +51,11 @@ build-spec =
     readable-requires
     answered-requires
     returns
-    measure-requires
+    kind-of-requires
+    count-requires
     mul-needed
     cast-if2
     returns-2
-    cast-none
     put-requires
-    put-leaf-requires
     same-length
     returns-3)

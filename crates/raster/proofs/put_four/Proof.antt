@@ -1,64 +1,49 @@
--- `raster::put_four`: four pixels write nothing, and the fork over them, where there is one, their words and its own. Assumes nothing.
-use Prim.Native.Nat.{_+_, _*_}
+-- `raster::put_four`: a leaf, or a fork over four pixels. Assumes nothing.
+use mathlib.Core.Path.{refl}
+use Prim.Native.Nat.{_/_}
 use native.Mathlib.Omega.{arith}
 use Rattle.raster.specs.Raster.{pictureOf}
-use Rattle.raster.proofs.BlockLaws.{tree-quarters, block-coloured, parts, parts-few, measure-four}
-use Rattle.raster.proofs.WritingLaws.{put-pixel, put-uniform, put-mixed, fork-room}
+use Rattle.raster.proofs.KindLaws.{four-leaf, four-fork}
+use Rattle.raster.proofs.WritingLaws.{node-room, leaf-put, pixels-ready}
 use borrow.Author.Needs.{needs}
 use Rattle.raster.proofs.put_four.Statement.{statement}
 use Rattle.raster.proofs.put_four.Tie as tie
 
-four-leaves-requires : tie.Need-four-leaves-requires
-four-leaves-requires c κs = search needs
+sum-four-requires : tie.Need-sum-four-requires
+sum-four-requires c κs = search needs
 
-joined-requires : tie.Need-joined-requires
-joined-requires c κs =
-    let s = c .before .before .before .args in
-    let f = pictureOf (s .n) (s .raster .now) in
-    parts-few f 0 (s .x) (s .y) _ (omega arith) (c .four-leaves .ensures)
+put-leaf-requires : tie.Need-put-leaf-requires
+put-leaf-requires c κs = node-room (c .before .before .before .before .before .pre .2)
 
-cast-if1 : tie.Need-cast-if1
-cast-if1 c = search needs
-
-returns : tie.Need-returns
-returns c =
-    let s = c .before .before .before .before .before .before .args in
-    let f = pictureOf (s .n) (s .raster .now) in
-    let q = parts f 0 (s .x) (s .y) _ (c .before .before .before .four-leaves .ensures) in
-    let co = block-coloured (s .n) (s .raster .now) (c .before .before .before .before .before .before .pre .0) 0 in
-    rw (tree-quarters _ 1 (s .x) (s .y) (λ e. omega arith))
-    (put-uniform _ _ _ _ (s .father) (s .p) (co (2 * s .x) (2 * s .y)) (co (2 * s .x + 1) (2 * s .y)) (co (2 * s .x) (2 * s .y + 1)) (co (2 * s .x + 1) (2 * s .y + 1))
-    _ _ _ _ _ _ _ _ _ _ (put-pixel f _ _ _ _ _ _ (q .first)) (put-pixel f _ _ _ _ _ _ (q .second)) (put-pixel f _ _ _ _ _ _ (q .third)) (put-pixel f _ _ _ _ _ _ (q .fourth)) (c .before .before .joined .ensures) (c .if1 .taken))
-
-put-fork-requires : tie.Need-put-fork-requires
-put-fork-requires c κs =
-    let s = c .before .before .before .before .before .before .before .args in
-    let f = pictureOf (s .n) (s .raster .now) in
-    let q = parts f 0 (s .x) (s .y) _ (c .before .before .before .before .four-leaves .ensures) in
-    let w = measure-four (s .n) (s .raster .now) 1 (s .x) (s .y) (c .before .before .before .before .before .before .before .pre .0) (λ e. omega arith) _ _ _ _ _ (q .first) (q .second) (q .third) (q .fourth) (c .before .before .before .joined .ensures) in
-    fork-room f 1 (s .x) (s .y) (s .p) _ (λ e. omega arith) (c .before .before .before .before .before .before .before .pre .2) _ _ _ _ _ (q .fourth) w (c .before .before .before .joined .ensures) (c .before .if1 .left) (block-coloured (s .n) (s .raster .now) (c .before .before .before .before .before .before .before .pre .0) 1 (s .x) (s .y))
+add-result : tie.Need-add-result
+add-result c = search needs
 
 same-length : tie.Need-same-length
 same-length c = search needs
 
+returns : tie.Need-returns
+returns c = leaf-put _ _ _ _ _ _ _ (four-leaf (pictureOf (c .before .before .before .before .before .before .before .before .args .n) (c .before .before .before .before .before .before .before .before .args .raster .now)) (λ i j. c .before .before .before .before .before .before .before .before .pre .0 .colours _) (c .before .before .before .before .before .before .before .before .args .x) (c .before .before .before .before .before .before .before .before .args .y) (c .before .before .before .before .before .sum-four .result / 4) (omega (arith, c .before .before .before .before .before .sum-four .ensures .0, c .before .before .before .before .if1 .taken))) refl (c .before .before .put-leaf .ensures)
+
+put-pixels-requires : tie.Need-put-pixels-requires
+put-pixels-requires c κs =
+    let r = pixels-ready (pictureOf (c .before .before .before .before .before .args .n) (c .before .before .before .before .before .args .raster .now)) (c .before .before .before .before .before .args .x) (c .before .before .before .before .before .args .y) _ _ (rw (four-fork (pictureOf (c .before .before .before .before .before .args .n) (c .before .before .before .before .before .args .raster .now)) (λ i j. c .before .before .before .before .before .pre .0 .colours _) (c .before .before .before .before .before .args .x) (c .before .before .before .before .before .args .y) (λ z. c .before .if1 .left (omega (arith, z, c .before .before .sum-four .ensures .0)))) at (c .before .before .before .before .before .pre .2)) in
+    (c .before .before .before .before .before .pre .0, c .before .before .before .before .before .pre .1, r .0, r .1)
+
+same-length-2 : tie.Need-same-length-2
+same-length-2 c = search needs
+
 returns-2 : tie.Need-returns-2
-returns-2 c =
-    let s = c .before .before .before .before .before .before .before .before .before .before .args in
-    let f = pictureOf (s .n) (s .raster .now) in
-    let q = parts f 0 (s .x) (s .y) _ (c .before .before .before .before .before .before .before .four-leaves .ensures) in
-    let co = block-coloured (s .n) (s .raster .now) (c .before .before .before .before .before .before .before .before .before .before .pre .0) 0 in
-    rw (tree-quarters _ 1 (s .x) (s .y) (λ e. omega arith))
-    (put-mixed _ _ _ _ (s .father) (s .p) (co (2 * s .x) (2 * s .y)) (co (2 * s .x + 1) (2 * s .y)) (co (2 * s .x) (2 * s .y + 1)) (co (2 * s .x + 1) (2 * s .y + 1))
-    _ _ _ _ _ _ _ _ _ _ (put-pixel f _ _ _ _ _ _ (q .first)) (put-pixel f _ _ _ _ _ _ (q .second)) (put-pixel f _ _ _ _ _ _ (q .third)) (put-pixel f _ _ _ _ _ _ (q .fourth)) (c .before .before .before .before .before .before .joined .ensures) _ (c .before .before .before .before .if1 .left) (c .before .before .put-fork .ensures))
+returns-2 c = rw (four-fork (pictureOf (c .before .before .before .before .before .before .before .before .args .n) (c .before .before .before .before .before .before .before .before .args .raster .now)) (λ i j. c .before .before .before .before .before .before .before .before .pre .0 .colours _) (c .before .before .before .before .before .before .before .before .args .x) (c .before .before .before .before .before .before .before .before .args .y) (λ z. c .before .before .before .before .if1 .left (omega (arith, z, c .before .before .before .before .before .sum-four .ensures .0)))) (c .before .before .put-pixels .ensures)
 
 pub put-four-spec : {M : Type 1} → statement M
 put-four-spec =
     tie.close
     (tie.spec
-    four-leaves-requires
-    joined-requires
-    cast-if1
-    returns
-    put-fork-requires
+    sum-four-requires
+    put-leaf-requires
+    add-result
     same-length
+    returns
+    put-pixels-requires
+    same-length-2
     returns-2)
