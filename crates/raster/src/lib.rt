@@ -167,21 +167,12 @@ fn count(raster: &[u8], n: u32, kind: u32) -> u32
 }
 
 // Writes the six words of a leaf.
-fn put_leaf(table: &mut [u32], p: u32, father: u32, kind: u32)
+fn put_leaf(table: &mut [u32], p: usize, father: u32, kind: u32)
     requires { ⌜ 6 * p + 6 ≤ length (now table) ⌝ }
     ensures { λ _. ⌜ now (table .exit) ≡ sets (now (table .entry)) (6 * p) (father ∷ none ∷ none ∷ none ∷ none ∷ kind ∷ []) ⌝ }
 {
     let nobody = quad::NONE as u32;
-    table::put_node(
-        table,
-        p as usize,
-        father,
-        nobody,
-        nobody,
-        nobody,
-        nobody,
-        kind,
-    );
+    table::put_node(table, p, father, nobody, nobody, nobody, nobody, kind);
 }
 
 // Writes a fork over four pixels, its nodes from p on, and gives the next node.
@@ -203,10 +194,11 @@ fn put_pixels(
     let ne = pixel_at(raster, n, west + 1, north);
     let sw = pixel_at(raster, n, west, north + 1);
     let se = pixel_at(raster, n, west + 1, north + 1);
-    put_leaf(table, p + 1, p, nw);
-    put_leaf(table, p + 2, p, ne);
-    put_leaf(table, p + 3, p, sw);
-    put_leaf(table, p + 4, p, se);
+    let own = p as usize;
+    put_leaf(table, own + 1, p, nw);
+    put_leaf(table, own + 2, p, ne);
+    put_leaf(table, own + 3, p, sw);
+    put_leaf(table, own + 4, p, se);
     table::put_node(
         table,
         p as usize,
@@ -235,7 +227,7 @@ fn put_four(
 {
     let sum = sum_four(raster, n, x, y);
     if sum % 4 == 0 {
-        put_leaf(table, p, father, sum / 4);
+        put_leaf(table, p as usize, father, sum / 4);
         return p + 1;
     }
     put_pixels(raster, n, x, y, table, p, father)
@@ -270,7 +262,7 @@ fn put_sixteen(
 {
     let sum = sum_sixteen(raster, n, x, y);
     if sum % 16 == 0 {
-        put_leaf(table, p, father, sum / 16);
+        put_leaf(table, p as usize, father, sum / 16);
         return p + 1;
     }
     let west = 2 * x;
@@ -316,7 +308,7 @@ fn put_fork(
             if kind == quad::FORK as u32 {
                 next = put_fork(raster, n, half, u, v, table, next, p);
             } else {
-                put_leaf(table, next, p, kind);
+                put_leaf(table, next as usize, p, kind);
                 next += 1;
             }
         }
