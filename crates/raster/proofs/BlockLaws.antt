@@ -73,11 +73,10 @@ corner-small {n} top o =
     let small = pow-le-pow-right {n = 2} (omega arith) {i = n} {j = topLevel} top in
     (omega arith, omega arith)
 
-pub corner-on : {n l x y : ℕ} → OnSheet n l x y → OnSheet n 0 (x * 2 ^ l) (y * 2 ^ l)
-corner-on {n} {l} o =
+pub pixel-on : {n l x y : ℕ} → OnSheet n l x y → (u v : ℕ) → u < x * 2 ^ l + 2 ^ l → v < y * 2 ^ l + 2 ^ l → OnSheet n 0 u v
+pixel-on {n} {l} o u v hu hv =
     let e : n - 0 ≡ n = omega arith in
     let fit = block-fits o in
-    let some = pow-pos l in
     record { low = omega arith; across = rw e (omega arith); down = rw e (omega arith) }
 
 pub row-place : {n l x y : ℕ} → n ≤ topLevel → OnSheet n l x y → (j : ℕ) → j < 2 ^ l

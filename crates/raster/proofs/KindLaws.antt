@@ -3,7 +3,7 @@ use mathlib.Core.Bool.{Bool, true, false}
 use mathlib.Core.List.{List}
 use mathlib.Core.Logic.{⊎-elim}
 use mathlib.Core.Path.{_≡_, refl, ap, sym, _∙_}
-use Prim.Native.Nat.{ℕ, zero, suc, _+_, _*_, _/_, _%_, _^_, _≤_, _<_}
+use Prim.Native.Nat.{ℕ, zero, suc, _+_, _-_, _*_, _/_, _%_, _^_, _≤_, _<_}
 use native.Mathlib.Nat.{add-zero, eq-or-lt-of-le, le-of-suc-le-suc, mod-lt}
 use native.Mathlib.Numerals.{add-one}
 use native.Mathlib.Omega.{arith}
@@ -41,6 +41,20 @@ module _ (f : ℕ → ℕ → ℕ) (l X Y c : ℕ) where
 
   leaf-alike : treeOf f l X Y ≡ leaf c → Pixels l X Y (λ x y. f x y ≡ c)
   leaf-alike e x y hx hy = sym (tree-shade f l X Y x y hx hy) ∙ rw e (shade-leaf l c x y)
+
+-- a pixel that is not of the block's first pixel's colour
+in-block : (l X u : ℕ) → X * 2 ^ l ≤ u → u < X * 2 ^ l + 2 ^ l → u / 2 ^ l ≡ X
+in-block l X u lo hi =
+    let d : X * 2 ^ l + (u - X * 2 ^ l) ≡ u = omega arith in
+    ap (λ (j : ℕ). j / 2 ^ l) (sym d) ∙ high X l {lo = u - X * 2 ^ l} (omega arith)
+
+pub unlike-pixel : (f : ℕ → ℕ → ℕ) (l X Y c k u v : ℕ) → c ≡ f (X * 2 ^ l) (Y * 2 ^ l) → k ≡ f u v → (k ≡ c → ⊥)
+    → X * 2 ^ l ≤ u → u < X * 2 ^ l + 2 ^ l → Y * 2 ^ l ≤ v → v < Y * 2 ^ l + 2 ^ l → forkType ≡ colour (treeOf f l X Y)
+unlike-pixel f l X Y c k u v ec ek z ul uh vl vh =
+    let some = pow-pos l in
+    sym (fork-unless (treeOf f l X Y) (λ a t.
+    let p = leaf-alike f l X Y a t in
+    z (ek ∙ p u v (in-block l X u ul uh) (in-block l Y v vl vh) ∙ sym (ec ∙ p (X * 2 ^ l) (Y * 2 ^ l) (in-block l X (X * 2 ^ l) (omega arith) (omega arith)) (in-block l Y (Y * 2 ^ l) (omega arith) (omega arith))))))
 
 -- the first j rows of a block are of the colour c
 abbrev pub RowsAlike : (ℕ → ℕ → ℕ) → ℕ → ℕ → ℕ → ℕ → ℕ → Type 0

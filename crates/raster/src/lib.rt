@@ -40,11 +40,37 @@ fn row_sum(raster: &[u8], start: usize, width: usize) -> u32
     sum
 }
 
+// Whether a block's corners differ: most forks are told by them, without their rows.
+fn corners_differ(raster: &[u8], n: u32, level: u32, x: usize, y: usize) -> bool
+    requires { ⌜ Picture n (now raster) × OnSheet n level x y ⌝ }
+    ensures { λ r. ⌜ (r ≡ true → forkType ≡ colour (treeOf (pictureOf n (now (raster .entry))) level x y)) ⌝ }
+{
+    let width = quad::side(level) as usize;
+    let west = x * width;
+    let north = y * width;
+    let east = west + (width - 1);
+    let south = north + (width - 1);
+    let first = pixel_at(raster, n, west, north);
+    if pixel_at(raster, n, east, north) != first {
+        return true;
+    }
+    if pixel_at(raster, n, west, south) != first {
+        return true;
+    }
+    if pixel_at(raster, n, east, south) != first {
+        return true;
+    }
+    false
+}
+
 // The type of a block: its pixels' colour where they are alike, which each row's sum tells, else a fork's.
 fn kind_by_rows(raster: &[u8], n: u32, level: u32, x: usize, y: usize) -> u32
     requires { ⌜ Picture n (now raster) × OnSheet n level x y ⌝ }
     ensures { λ r. ⌜ r ≡ colour (treeOf (pictureOf n (now (raster .entry))) level x y) ⌝ }
 {
+    if corners_differ(raster, n, level, x, y) {
+        return quad::FORK as u32;
+    }
     let across = quad::side(n) as usize;
     let width = quad::side(level) as usize;
     let left = x * width;

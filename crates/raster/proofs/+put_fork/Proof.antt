@@ -33,7 +33,7 @@ abbrev calls : ℕ → put-fork-lts.Claims
 calls t = (put-sixteen-reads.Asked, put-sixteen-reads.Learnt, kind-of-reads.Asked, kind-of-reads.Learnt, put-fork-below t, put-fork.Post, put-leaf-reads.Asked, put-leaf-reads.Learnt)
 
 abbrev put-fork-Inv-loop : put-fork-lts.InvT-loop
-put-fork-Inv-loop raster n level x y table₀ p father half own next₀ q₀ table next q = 
+put-fork-Inv-loop raster n level x y table₀ p father half own next₀ q₀ table next q =
     (q ≤ 4) × (next ≡ sonNode p (treeOf (pictureOf n raster) level x y) q) × SonsWritten p (treeOf (pictureOf n raster) level x y) 0 q table₀ table
 
 abbrev put-fork-μ-loop : put-fork-lts.MeasureT-loop
@@ -85,14 +85,14 @@ put-fork-add-q : (t : ℕ) → put-fork-lts.Need-add-q (calls t) (put-fork-at t)
 put-fork-add-q t c = omega arith
 
 put-fork-put-sixteen-requires : (t : ℕ) → put-fork-lts.Need-put-sixteen-requires (calls t) (put-fork-at t) put-fork.Post put-fork-Inv-loop put-fork-μ-loop
-put-fork-put-sixteen-requires t c κs = 
+put-fork-put-sixteen-requires t c κs =
     (c .before .before .before .before .before .before .pre .1 .0, rw (c .before .if1 .taken) at (on-son (c .before .before .before .before .before .before .pre .1 .1) (omega arith) (2 * c .before .before .before .before .before .before .args .x + c .before .before .before .loop .q % 2) (2 * c .before .before .before .before .before .before .args .y + c .before .before .before .loop .q / 2) (omega arith) (omega arith)), son-ready (c .before .before .before .before .before .before .args .n) (c .before .before .before .before .before .before .args .level) (c .before .before .before .before .before .before .args .x) (c .before .before .before .before .before .before .args .y) (c .before .before .before .before .before .before .args .raster .now) (c .before .before .before .before .before .before .pre .1 .0) (c .before .before .before .before .before .before .pre .1 .3) (omega (arith, c .before .before .before .before .before .before .pre .1 .2)) (c .before .before .before .before .before .before .args .p) (c .before .before .before .before .before .before .args .table .now) (c .before .before .before .before .before .before .pre .1 .4) (c .before .before .before .before .before .before .args .father) _ refl (c .before .before .before .loop .q) (c .before .before .before .loop .next) (c .before .before .before .loop .table) (omega arith) (c .before .before .before .loop .inv .1) (c .before .before .before .loop .inv .2) (set (c .before .before .before .loop .table) (6 * c .before .before .before .before .before .before .args .p + 1 + c .before .before .before .loop .q) (c .before .before .before .loop .next)) refl 2 (c .before .if1 .taken))
 
 put-fork-loop-less : (t : ℕ) → put-fork-lts.Need-loop-less (calls t) (put-fork-at t) put-fork.Post put-fork-Inv-loop put-fork-μ-loop
 put-fork-loop-less t c = omega arith
 
 put-fork-loop-again : (t : ℕ) → put-fork-lts.Need-loop-again (calls t) (put-fork-at t) put-fork.Post put-fork-Inv-loop put-fork-μ-loop
-put-fork-loop-again t c = 
+put-fork-loop-again t c =
     let s = son-put (c .before .before .before .before .before .before .before .before .before .args .n) (c .before .before .before .before .before .before .before .before .before .args .level) (c .before .before .before .before .before .before .before .before .before .args .x) (c .before .before .before .before .before .before .before .before .before .args .y) (c .before .before .before .before .before .before .before .before .before .args .raster .now) (c .before .before .before .before .before .before .before .before .before .pre .1 .0) (c .before .before .before .before .before .before .before .before .before .pre .1 .3) (omega (arith, c .before .before .before .before .before .before .before .before .before .pre .1 .2)) (c .before .before .before .before .before .before .before .before .before .args .p) (c .before .before .before .before .before .before .before .before .before .args .table .now) (c .before .before .before .before .before .before .before .before .before .pre .1 .4) (c .before .before .before .before .before .before .before .before .before .args .father) _ refl (c .before .before .before .before .before .before .loop .q) (c .before .before .before .before .before .before .loop .next) (c .before .before .before .before .before .before .loop .table) (omega arith) (c .before .before .before .before .before .before .loop .inv .1) (c .before .before .before .before .before .before .loop .inv .2) (set (c .before .before .before .before .before .before .loop .table) (6 * c .before .before .before .before .before .before .before .before .before .args .p + 1 + c .before .before .before .before .before .before .loop .q) (c .before .before .before .before .before .before .loop .next)) refl 2 (c .before .before .before .before .if1 .taken) _ _ (c .before .before .put-sixteen .ensures) in
     (omega arith, s .0, s .1)
 
@@ -103,14 +103,14 @@ put-fork-cast-if2 : (t : ℕ) → put-fork-lts.Need-cast-if2 (calls t) (put-fork
 put-fork-cast-if2 t c = omega arith
 
 put-fork-put-fork-requires : (t : ℕ) → put-fork-lts.Need-put-fork-requires (calls t) (put-fork-at t) put-fork.Post put-fork-Inv-loop put-fork-μ-loop
-put-fork-put-fork-requires t c κs = 
+put-fork-put-fork-requires t c κs =
     (omega (arith, c .before .before .before .before .before .before .before .before .pre .0, c .before .before .before .before .before .before .before .before .pre .1 .2), (c .before .before .before .before .before .before .before .before .pre .1 .0, on-son (c .before .before .before .before .before .before .before .before .pre .1 .1) (omega arith) (2 * c .before .before .before .before .before .before .before .before .args .x + c .before .before .before .before .before .loop .q % 2) (2 * c .before .before .before .before .before .before .before .before .args .y + c .before .before .before .before .before .loop .q / 2) (omega arith) (omega arith), omega (arith, c .before .before .before .before .before .before .before .before .pre .1 .2, c .before .before .before .if1 .left), sym (c .before .before .kind-of .ensures) ∙ c .before .if2 .taken, son-ready (c .before .before .before .before .before .before .before .before .args .n) (c .before .before .before .before .before .before .before .before .args .level) (c .before .before .before .before .before .before .before .before .args .x) (c .before .before .before .before .before .before .before .before .args .y) (c .before .before .before .before .before .before .before .before .args .raster .now) (c .before .before .before .before .before .before .before .before .pre .1 .0) (c .before .before .before .before .before .before .before .before .pre .1 .3) (omega (arith, c .before .before .before .before .before .before .before .before .pre .1 .2)) (c .before .before .before .before .before .before .before .before .args .p) (c .before .before .before .before .before .before .before .before .args .table .now) (c .before .before .before .before .before .before .before .before .pre .1 .4) (c .before .before .before .before .before .before .before .before .args .father) _ refl (c .before .before .before .before .before .loop .q) (c .before .before .before .before .before .loop .next) (c .before .before .before .before .before .loop .table) (omega arith) (c .before .before .before .before .before .loop .inv .1) (c .before .before .before .before .before .loop .inv .2) (set (c .before .before .before .before .before .loop .table) (6 * c .before .before .before .before .before .before .before .before .args .p + 1 + c .before .before .before .before .before .loop .q) (c .before .before .before .before .before .loop .next)) refl (c .before .before .before .before .before .before .before .before .args .level - 1) refl))
 
 put-fork-loop-less-2 : (t : ℕ) → put-fork-lts.Need-loop-less-2 (calls t) (put-fork-at t) put-fork.Post put-fork-Inv-loop put-fork-μ-loop
 put-fork-loop-less-2 t c = omega arith
 
 put-fork-loop-again-2 : (t : ℕ) → put-fork-lts.Need-loop-again-2 (calls t) (put-fork-at t) put-fork.Post put-fork-Inv-loop put-fork-μ-loop
-put-fork-loop-again-2 t c = 
+put-fork-loop-again-2 t c =
     let s = son-put (c .before .before .before .before .before .before .before .before .before .before .before .args .n) (c .before .before .before .before .before .before .before .before .before .before .before .args .level) (c .before .before .before .before .before .before .before .before .before .before .before .args .x) (c .before .before .before .before .before .before .before .before .before .before .before .args .y) (c .before .before .before .before .before .before .before .before .before .before .before .args .raster .now) (c .before .before .before .before .before .before .before .before .before .before .before .pre .1 .0) (c .before .before .before .before .before .before .before .before .before .before .before .pre .1 .3) (omega (arith, c .before .before .before .before .before .before .before .before .before .before .before .pre .1 .2)) (c .before .before .before .before .before .before .before .before .before .before .before .args .p) (c .before .before .before .before .before .before .before .before .before .before .before .args .table .now) (c .before .before .before .before .before .before .before .before .before .before .before .pre .1 .4) (c .before .before .before .before .before .before .before .before .before .before .before .args .father) _ refl (c .before .before .before .before .before .before .before .before .loop .q) (c .before .before .before .before .before .before .before .before .loop .next) (c .before .before .before .before .before .before .before .before .loop .table) (omega arith) (c .before .before .before .before .before .before .before .before .loop .inv .1) (c .before .before .before .before .before .before .before .before .loop .inv .2) (set (c .before .before .before .before .before .before .before .before .loop .table) (6 * c .before .before .before .before .before .before .before .before .before .before .before .args .p + 1 + c .before .before .before .before .before .before .before .before .loop .q) (c .before .before .before .before .before .before .before .before .loop .next)) refl (c .before .before .before .before .before .before .before .before .before .before .before .args .level - 1) refl _ _ (c .before .before .put-fork .ensures) in
     (omega arith, s .0, s .1)
 
@@ -127,7 +127,7 @@ put-fork-loop-less-3 : (t : ℕ) → put-fork-lts.Need-loop-less-3 (calls t) (pu
 put-fork-loop-less-3 t c = omega arith
 
 put-fork-loop-again-3 : (t : ℕ) → put-fork-lts.Need-loop-again-3 (calls t) (put-fork-at t) put-fork.Post put-fork-Inv-loop put-fork-μ-loop
-put-fork-loop-again-3 t c = 
+put-fork-loop-again-3 t c =
     let s = son-put (c .before .before .before .before .before .before .before .before .before .before .before .args .n) (c .before .before .before .before .before .before .before .before .before .before .before .args .level) (c .before .before .before .before .before .before .before .before .before .before .before .args .x) (c .before .before .before .before .before .before .before .before .before .before .before .args .y) (c .before .before .before .before .before .before .before .before .before .before .before .args .raster .now) (c .before .before .before .before .before .before .before .before .before .before .before .pre .1 .0) (c .before .before .before .before .before .before .before .before .before .before .before .pre .1 .3) (omega (arith, c .before .before .before .before .before .before .before .before .before .before .before .pre .1 .2)) (c .before .before .before .before .before .before .before .before .before .before .before .args .p) (c .before .before .before .before .before .before .before .before .before .before .before .args .table .now) (c .before .before .before .before .before .before .before .before .before .before .before .pre .1 .4) (c .before .before .before .before .before .before .before .before .before .before .before .args .father) _ refl (c .before .before .before .before .before .before .before .before .loop .q) (c .before .before .before .before .before .before .before .before .loop .next) (c .before .before .before .before .before .before .before .before .loop .table) (omega arith) (c .before .before .before .before .before .before .before .before .loop .inv .1) (c .before .before .before .before .before .before .before .before .loop .inv .2) (set (c .before .before .before .before .before .before .before .before .loop .table) (6 * c .before .before .before .before .before .before .before .before .before .before .before .args .p + 1 + c .before .before .before .before .before .before .before .before .loop .q) (c .before .before .before .before .before .before .before .before .loop .next)) refl (c .before .before .before .before .before .before .before .before .before .before .before .args .level - 1) refl _ _ (type-put _ _ (c .before .before .before .before .before .before .before .before .loop .next) (c .before .before .before .before .before .before .before .before .before .before .before .args .p) _ (set (c .before .before .before .before .before .before .before .before .loop .table) (6 * c .before .before .before .before .before .before .before .before .before .before .before .args .p + 1 + c .before .before .before .before .before .before .before .before .loop .q) (c .before .before .before .before .before .before .before .before .loop .next)) _ (c .before .before .before .before .before .kind-of .ensures) (c .before .before .before .before .if2 .left) refl (c .before .before .put-leaf .ensures)) in
     (omega arith, s .0, s .1)
 

@@ -25,7 +25,7 @@ returns : tie.Need-returns
 returns c = leaf-put _ _ _ _ _ _ _ (four-leaf (pictureOf (c .before .before .before .before .before .before .before .before .args .n) (c .before .before .before .before .before .before .before .before .args .raster .now)) (λ i j. c .before .before .before .before .before .before .before .before .pre .0 .colours _) (c .before .before .before .before .before .before .before .before .args .x) (c .before .before .before .before .before .before .before .before .args .y) (c .before .before .before .before .before .sum-four .result / 4) (omega (arith, c .before .before .before .before .before .sum-four .ensures .0, c .before .before .before .before .if1 .taken))) refl (c .before .before .put-leaf .ensures)
 
 put-pixels-requires : tie.Need-put-pixels-requires
-put-pixels-requires c κs = 
+put-pixels-requires c κs =
     let r = pixels-ready (pictureOf (c .before .before .before .before .before .args .n) (c .before .before .before .before .before .args .raster .now)) (c .before .before .before .before .before .args .x) (c .before .before .before .before .before .args .y) _ _ (rw (four-fork (pictureOf (c .before .before .before .before .before .args .n) (c .before .before .before .before .before .args .raster .now)) (λ i j. c .before .before .before .before .before .pre .0 .colours _) (c .before .before .before .before .before .args .x) (c .before .before .before .before .before .args .y) (λ z. c .before .if1 .left (omega (arith, z, c .before .before .sum-four .ensures .0)))) at (c .before .before .before .before .before .pre .2)) in
     (c .before .before .before .before .before .pre .0, c .before .before .before .before .before .pre .1, r .0, r .1)
 

@@ -35,7 +35,7 @@ add-a : tie.Need-add-a
 add-a c = search needs
 
 put-four-requires : tie.Need-put-four-requires
-put-four-requires c κs = (c .before .before .before .before .before .pre .0, on-son (c .before .before .before .before .before .pre .1) (omega arith) _ _ (omega arith) (omega arith), (ready-first _ _ _ _ (c .before .before .before .before .before .args .p) _ (rw (sixteen-fork (pictureOf (c .before .before .before .before .before .args .n) (c .before .before .before .before .before .args .raster .now)) (λ i j. c .before .before .before .before .before .pre .0 .colours _) (c .before .before .before .before .before .args .x) (c .before .before .before .before .before .args .y) (λ z. c .before .if1 .left (omega (arith, z, c .before .before .sum-sixteen .ensures)))) at (c .before .before .before .before .before .pre .2)) ))
+put-four-requires c κs = (c .before .before .before .before .before .pre .0, on-son (c .before .before .before .before .before .pre .1) (omega arith) _ _ (omega arith) (omega arith), (ready-first _ _ _ _ (c .before .before .before .before .before .args .p) _ (rw (sixteen-fork (pictureOf (c .before .before .before .before .before .args .n) (c .before .before .before .before .before .args .raster .now)) (λ i j. c .before .before .before .before .before .pre .0 .colours _) (c .before .before .before .before .before .args .x) (c .before .before .before .before .before .args .y) (λ z. c .before .if1 .left (omega (arith, z, c .before .before .sum-sixteen .ensures)))) at (c .before .before .before .before .before .pre .2))))
 
 add-put-four : tie.Need-add-put-four
 add-put-four c = omega (arith, on-small (c .before .before .before .before .before .before .before .before .pre .0 .top) (c .before .before .before .before .before .before .before .before .pre .1))
@@ -68,7 +68,7 @@ same-length-2 : tie.Need-same-length-2
 same-length-2 c = search needs
 
 returns-2 : tie.Need-returns-2
-returns-2 c = 
+returns-2 c =
     rw (sixteen-fork (pictureOf (c .before .before .before .before .before .before .before .before .before .before .before .before .before .before .before .before .before .before .before .before .before .before .before .before .args .n) (c .before .before .before .before .before .before .before .before .before .before .before .before .before .before .before .before .before .before .before .before .before .before .before .before .args .raster .now)) (λ i j. c .before .before .before .before .before .before .before .before .before .before .before .before .before .before .before .before .before .before .before .before .before .before .before .before .pre .0 .colours _) (c .before .before .before .before .before .before .before .before .before .before .before .before .before .before .before .before .before .before .before .before .before .before .before .before .args .x) (c .before .before .before .before .before .before .before .before .before .before .before .before .before .before .before .before .before .before .before .before .before .before .before .before .args .y) (λ z. c .before .before .before .before .before .before .before .before .before .before .before .before .before .before .before .before .before .before .before .before .if1 .left (omega (arith, z, c .before .before .before .before .before .before .before .before .before .before .before .before .before .before .before .before .before .before .before .before .before .sum-sixteen .ensures))))
     (fork-put _ _ _ _ (c .before .before .before .before .before .before .before .before .before .before .before .before .before .before .before .before .before .before .before .before .before .before .before .before .args .p) _ _ _ _ _ _ _ _ _ _ _ (c .before .before .before .before .before .before .before .before .before .before .before .before .before .before .before .before .before .before .put-four .ensures) (c .before .before .before .before .before .before .before .before .before .before .before .before .before .before .put-four2 .ensures) (c .before .before .before .before .before .before .before .before .before .before .put-four3 .ensures) (c .before .before .before .before .before .before .put-four4 .ensures) (c .before .before .put-node .ensures))
 
