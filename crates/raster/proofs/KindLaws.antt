@@ -22,7 +22,7 @@ use Rattle.quad.proofs.PictureLaws.{Pixels, tree-shade, one-tree-in}
 use Rattle.raster.specs.Raster.{pictureOf}
 use Rattle.raster.specs.Blocks.{Picture}
 use Rattle.raster.proofs.BlockLaws.{tree-quarters}
-use Rattle.raster.specs.Kinds.{rowFrom, fourSum, sixteenSum, mixedOf, fourOver}
+use Rattle.raster.specs.Kinds.{rowFrom, fourPixels, fourSum, sixteenSum, mixedOf, fourOver}
 
 fork-unless : (t : Tree) → ((c : ℕ) → t ≡ leaf c → ⊥) → colour t ≡ forkType
 unfolding colour
@@ -178,6 +178,43 @@ module _ (f : ℕ → ℕ → ℕ) (few : (x y : ℕ) → f x y ≤ 1) (x y : �
       (λ (q : eqb (fourSum f x y % 4) 0 ≡ false). rw (four-fork (eqb-false (fourSum f x y % 4) 0 q)) (unfold sizeOf treeOf in refl))
       (by-bool (eqb (fourSum f x y % 4) 0))
 
+-- two rows of four pixels, added up as numbers: the sums of two blocks side by side
+carried : (a b c d : ℕ) → a ≤ 2 → b ≤ 2 → c ≤ 2 → d ≤ 2 → (s : ℕ) → s ≡ a + 256 * b + 65536 * c + 16777216 * d
+    → s + s / 256 ≡ a + b + 256 * (b + c) + 65536 * (c + d + 256 * d)
+carried a b c d ha hb hc hd s e =
+    let q : s / 256 ≡ b + 256 * c + 65536 * d = omega arith in
+    omega arith
+
+-- the low lane and the next
+low-lane : (p m q : ℕ) → p ≤ 4 → m ≤ 4 → (u : ℕ) → u ≡ p + 256 * m + 65536 * q → (u % 8 ≡ p) × (u / 65536 ≡ q)
+low-lane p m q hp hm u e = (omega arith, omega arith)
+
+high-lane : (p m q : ℕ) → p ≤ 4 → q ≡ p + 256 * m → q % 8 ≡ p
+high-lane p m q hp e = omega arith
+
+in-pairs : (a b c d : ℕ) → a + c + (b + d) ≡ a + b + c + d
+in-pairs a b c d = omega arith
+
+pub two-blocks : (f : ℕ → ℕ → ℕ) → ((x y : ℕ) → f x y ≤ 1) → (x y north south : ℕ) → north ≡ fourPixels f x (2 * y) → south ≡ fourPixels f x (2 * y + 1)
+    → ((north + south + (north + south) / 256) % 8 ≡ fourSum f (2 * x) y) × ((north + south + (north + south) / 256) / 65536 % 8 ≡ fourSum f (2 * x + 1) y)
+unfolding fourPixels fourSum
+two-blocks f few x y north south en es =
+    let a : ℕ = f (2 * (2 * x)) (2 * y) + f (2 * (2 * x)) (2 * y + 1) in
+    let b : ℕ = f (2 * (2 * x) + 1) (2 * y) + f (2 * (2 * x) + 1) (2 * y + 1) in
+    let c : ℕ = f (2 * (2 * x + 1)) (2 * y) + f (2 * (2 * x + 1)) (2 * y + 1) in
+    let d : ℕ = f (2 * (2 * x + 1) + 1) (2 * y) + f (2 * (2 * x + 1) + 1) (2 * y + 1) in
+    let ha : a ≤ 2 = omega (arith, few (2 * (2 * x)) (2 * y), few (2 * (2 * x)) (2 * y + 1)) in
+    let hb : b ≤ 2 = omega (arith, few (2 * (2 * x) + 1) (2 * y), few (2 * (2 * x) + 1) (2 * y + 1)) in
+    let hc : c ≤ 2 = omega (arith, few (2 * (2 * x + 1)) (2 * y), few (2 * (2 * x + 1)) (2 * y + 1)) in
+    let hd : d ≤ 2 = omega (arith, few (2 * (2 * x + 1) + 1) (2 * y), few (2 * (2 * x + 1) + 1) (2 * y + 1)) in
+    let s = carried a b c d ha hb hc hd (north + south) (omega arith) in
+    let lanes = low-lane (a + b) (b + c) (c + d + 256 * d) (omega arith) (omega arith) _ s in
+    (
+      lanes .0 ∙ in-pairs (f (2 * (2 * x)) (2 * y)) (f (2 * (2 * x) + 1) (2 * y)) (f (2 * (2 * x)) (2 * y + 1)) (f (2 * (2 * x) + 1) (2 * y + 1)),
+      high-lane (c + d) d _ (omega arith) (lanes .1)
+      ∙ in-pairs (f (2 * (2 * x + 1)) (2 * y)) (f (2 * (2 * x + 1) + 1) (2 * y)) (f (2 * (2 * x + 1)) (2 * y + 1)) (f (2 * (2 * x + 1) + 1) (2 * y + 1)),
+    )
+
 -- four blocks of four pixels
 module _ (f : ℕ → ℕ → ℕ) (few : (x y : ℕ) → f x y ≤ 1) (x y : ℕ) where
   sixteen-four : sixteenSum f x y ≡ fourSum f (2 * x) (2 * y) + fourSum f (2 * x + 1) (2 * y) + fourSum f (2 * x) (2 * y + 1) + fourSum f (2 * x + 1) (2 * y + 1)
@@ -228,12 +265,16 @@ module _ (f : ℕ → ℕ → ℕ) (few : (x y : ℕ) → f x y ≤ 1) (x y : �
       (omega (arith, e, four-size f few (2 * x) (2 * y), four-size f few (2 * x + 1) (2 * y), four-size f few (2 * x) (2 * y + 1), four-size f few (2 * x + 1) (2 * y + 1))))
       (by-bool (eqb (sixteenSum f x y % 16) 0))
 
+  pub sixteen-sum : (a b c d : ℕ)
+      → a ≡ fourSum f (2 * x) (2 * y) → b ≡ fourSum f (2 * x + 1) (2 * y) → c ≡ fourSum f (2 * x) (2 * y + 1) → d ≡ fourSum f (2 * x + 1) (2 * y + 1)
+      → a + b + c + d ≡ sixteenSum f x y
+  sixteen-sum a b c d ea eb ec ed = omega (arith, sixteen-four)
+
   pub sixteen-count : (a b c d ma mb mc md m : ℕ)
       → a ≡ fourSum f (2 * x) (2 * y) → b ≡ fourSum f (2 * x + 1) (2 * y) → c ≡ fourSum f (2 * x) (2 * y + 1) → d ≡ fourSum f (2 * x + 1) (2 * y + 1)
       → ma ≡ mixedOf a 4 → mb ≡ mixedOf b 4 → mc ≡ mixedOf c 4 → md ≡ mixedOf d 4 → m ≡ mixedOf (a + b + c + d) 16
       → 1 + 4 * (ma + mb + mc + md + m) ≡ sizeOf (treeOf f 2 x y)
   sixteen-count a b c d ma mb mc md m ea eb ec ed fa fb fc fd fm =
       let four : ℕ → ℕ = λ s. mixedOf s 4 in
-      let s : a + b + c + d ≡ sixteenSum f x y = omega (arith, sixteen-four) in
-      let all = fm ∙ ap (λ (s : ℕ). mixedOf s 16) s in
+      let all = fm ∙ ap (λ (s : ℕ). mixedOf s 16) (sixteen-sum a b c d ea eb ec ed) in
       omega (arith, sixteen-size (ma + mb + mc + md) (omega (arith, fa ∙ ap four ea, fb ∙ ap four eb, fc ∙ ap four ec, fd ∙ ap four ed)))

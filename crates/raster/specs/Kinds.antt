@@ -14,7 +14,11 @@ rowFrom R a i = getD R (a + i) 0
 unfoldable pub fourSum : (ℕ → ℕ → ℕ) → ℕ → ℕ → ℕ
 fourSum f x y = f (2 * x) (2 * y) + f (2 * x + 1) (2 * y) + f (2 * x) (2 * y + 1) + f (2 * x + 1) (2 * y + 1)
 
--- and of the sixteen of a block of level 2
+-- the pixels of row y in column x of the blocks of level 2, as one number
+unfoldable pub fourPixels : (ℕ → ℕ → ℕ) → ℕ → ℕ → ℕ
+fourPixels f x y = f (2 * (2 * x)) y + 256 * f (2 * (2 * x) + 1) y + 65536 * f (2 * (2 * x + 1)) y + 16777216 * f (2 * (2 * x + 1) + 1) y
+
+-- the sum of the sixteen pixels of a block of level 2
 unfoldable pub sixteenSum : (ℕ → ℕ → ℕ) → ℕ → ℕ → ℕ
 sixteenSum f x y = fourSum f (2 * x) (2 * y) + fourSum f (2 * x + 1) (2 * y) + fourSum f (2 * x) (2 * y + 1) + fourSum f (2 * x + 1) (2 * y + 1)
 

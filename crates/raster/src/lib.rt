@@ -3,7 +3,7 @@ use answer::Outcome;
 ghost use mathlib.Core.Bool.{true};
 ghost use mathlib.Core.List.{[], _∷_};
 ghost use mathlib.Core.Path.{_≡_};
-ghost use Prim.Native.Nat.{_+_, _*_, _≤_, _<_, _^_};
+ghost use Prim.Native.Nat.{_+_, _*_, _/_, _%_, _≤_, _<_, _^_};
 ghost use lib.ListN.{length};
 ghost use lib.Seq.{sets};
 ghost use Rattle.base.specs.Tab.{sum};
@@ -13,7 +13,7 @@ ghost use Rattle.table.specs.Table.{isFork};
 ghost use Rattle.raster.specs.Raster.{pictureOf, rasterLength, pixelsFrom};
 ghost use Rattle.raster.specs.Calls.{Builds, Decodes};
 ghost use Rattle.raster.specs.Blocks.{Picture, readableOf, OnSheet, Colours, NoneAbove};
-ghost use Rattle.raster.specs.Kinds.{rowFrom, fourSum, sixteenSum, fourOver, mixedOf};
+ghost use Rattle.raster.specs.Kinds.{rowFrom, fourPixels, fourSum, sixteenSum, fourOver, mixedOf};
 ghost use Rattle.raster.specs.Painting.{Filled, Painted, inBlock, coloursAt, Paintable};
 ghost use Rattle.raster.specs.Writing.{Ready, Put};
 
@@ -135,17 +135,42 @@ fn mixed(sum: u32, pixels: u32) -> u32
     1
 }
 
+// The four pixels of row y from column 4x on as one number, so that they are read together.
+fn four_pixels(raster: &[u8], n: u32, x: usize, y: usize) -> u32
+    requires { ⌜ Picture n (now raster) × OnSheet n 0 (2 * (2 * x + 1) + 1) y ⌝ }
+    ensures { λ r. ⌜ (r ≡ fourPixels (pictureOf n (now (raster .entry))) x y) × (r ≤ 16843009) ⌝ }
+{
+    let west = 2 * x;
+    let east = west + 1;
+    let a = pixel_at(raster, n, 2 * west, y);
+    let b = pixel_at(raster, n, 2 * west + 1, y);
+    let c = pixel_at(raster, n, 2 * east, y);
+    let d = pixel_at(raster, n, 2 * east + 1, y);
+    a + 256 * b + 65536 * c + 16777216 * d
+}
+
+// The sums of the blocks (2x, y) and (2x + 1, y) of level 1 in one number.
+fn two_sums(raster: &[u8], n: u32, x: usize, y: usize) -> u32
+    requires { ⌜ Picture n (now raster) × OnSheet n 1 (2 * x + 1) y ⌝ }
+    ensures { λ r. ⌜ (r % 8 ≡ fourSum (pictureOf n (now (raster .entry))) (2 * x) y) × (r / 65536 % 8 ≡ fourSum (pictureOf n (now (raster .entry))) (2 * x + 1) y) ⌝ }
+{
+    let north = four_pixels(raster, n, x, 2 * y);
+    let south = four_pixels(raster, n, x, 2 * y + 1);
+    let both = north + south;
+    both + both / 256
+}
+
 // The nodes of a block of level 2.
 fn count_sixteen(raster: &[u8], n: u32, x: usize, y: usize) -> u32
     requires { ⌜ Picture n (now raster) × OnSheet n 2 x y ⌝ }
     ensures { λ r. ⌜ r ≡ sizeOf (treeOf (pictureOf n (now (raster .entry))) 2 x y) ⌝ }
 {
-    let west = 2 * x;
-    let north = 2 * y;
-    let nw = sum_four(raster, n, west, north);
-    let ne = sum_four(raster, n, west + 1, north);
-    let sw = sum_four(raster, n, west, north + 1);
-    let se = sum_four(raster, n, west + 1, north + 1);
+    let north = two_sums(raster, n, x, 2 * y);
+    let south = two_sums(raster, n, x, 2 * y + 1);
+    let nw = north % 8;
+    let ne = north / 65536 % 8;
+    let sw = south % 8;
+    let se = south / 65536 % 8;
     let quarters = mixed(nw, 4) + mixed(ne, 4) + mixed(sw, 4) + mixed(se, 4);
     1 + 4 * (quarters + mixed(nw + ne + sw + se, 16))
 }
@@ -264,13 +289,9 @@ fn sum_sixteen(raster: &[u8], n: u32, x: usize, y: usize) -> u32
     requires { ⌜ Picture n (now raster) × OnSheet n 2 x y ⌝ }
     ensures { λ r. ⌜ r ≡ sixteenSum (pictureOf n (now (raster .entry))) x y ⌝ }
 {
-    let west = 2 * x;
-    let north = 2 * y;
-    let nw = sum_four(raster, n, west, north);
-    let ne = sum_four(raster, n, west + 1, north);
-    let sw = sum_four(raster, n, west, north + 1);
-    let se = sum_four(raster, n, west + 1, north + 1);
-    nw + ne + sw + se
+    let north = two_sums(raster, n, x, 2 * y);
+    let south = two_sums(raster, n, x, 2 * y + 1);
+    north % 8 + north / 65536 % 8 + south % 8 + south / 65536 % 8
 }
 
 // Writes a block of level 2, its nodes from p on, and gives the next node.
