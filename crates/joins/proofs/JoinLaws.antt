@@ -1,6 +1,6 @@
 -- Joining two sets: a way to a leader, halved as it is gone, and the higher leader put under the lower one, in the code's own values.
 use mathlib.Core.List.{List}
-use mathlib.Core.Path.{_≡_, refl, sym, _∙_}
+use mathlib.Core.Path.{_≡_, refl, ap, sym, _∙_}
 use Prim.Native.Nat.{ℕ, _≤_, _<_}
 use native.Mathlib.Omega.{arith}
 use lib.ListN.{length, set}
@@ -66,10 +66,10 @@ module _ (W₀ W₁ W₂ : List ℕ) (p q a b : ℕ) (low : Falling W₀) (lp : 
   own-b : wordOf W₂ b ≡ b
   own-b = rw from-q at (leader-ends W₂ falling q)
 
-  first-within : a < length W₂
+  pub first-within : a < length W₂
   first-within = omega (arith, from-p, leader-low W₂ falling p, both .long)
 
-  second-within : b < length W₂
+  pub second-within : b < length W₂
   second-within = omega (arith, from-q, leader-low W₂ falling q, both .long)
 
   from-start : (W₃ : List ℕ) → Joined W₂ W₃ p q → Joined W₀ W₃ p q
@@ -89,3 +89,13 @@ module _ (W₀ W₁ W₂ : List ℕ) (p q a b : ℕ) (low : Falling W₀) (lp : 
       from-start (set W₂ b a)
       (joined-back W₂ (set W₂ b a) p q
       (joined-under W₂ (set W₂ b a) b a falling own-b own-a (omega arith) (changed W₂ b a second-within) q p from-q from-p))
+
+-- words that are one
+pub joined-already : (W : List ℕ) (p q : ℕ) → Falling W → wordOf W p ≡ wordOf W q → Joined W W p q
+joined-already W p q low e = record {
+  long = refl;
+  less = λ i. omega arith;
+  together = λ i j h. h;
+  one = sym (leader-on W low p) ∙ (ap (leaderOf W) e ∙ leader-on W low q);
+  linked = λ n T c h. h;
+}

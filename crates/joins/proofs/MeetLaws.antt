@@ -3,23 +3,23 @@
 use mathlib.Core.Bool.{true, false}
 use mathlib.Core.List.{List}
 use mathlib.Core.Logic.{⊎-elim}
-use mathlib.Core.Path.{_≡_, refl, ap, sym, _∙_}
-use Prim.Native.Nat.{ℕ, _+_, _-_, _<_}
+use mathlib.Core.Path.{_≡_, ap, sym, _∙_}
+use Prim.Native.Nat.{ℕ, zero, suc, _+_, _-_, _*_, _≤_, _<_}
+use native.Mathlib.Nat.{zero-mul, one-mul, not-suc-le-zero}
 use native.Mathlib.Omega.{arith}
-use borrow.Author.Tests.{eq-eqb, ne-eqb}
+use borrow.Author.Tests.{ne-eqb}
 use Rattle.quad.specs.Direction.{eastStep, southStep}
 use Rattle.quad.specs.Numbers.{black, forkType}
 use Rattle.table.specs.Table.{word, son, type, isFork}
-use Rattle.table.specs.Nodes.{levelOf}
-use Rattle.table.proofs.AcceptedLaws.{fork-above, son-at}
+use Rattle.table.proofs.AcceptedLaws.{son-at}
 use Rattle.neighbour.specs.declared.Found.{Found}
 use Rattle.neighbour.specs.declared.Found.the-variants.{At, Off}
 use Rattle.neighbour.specs.Containing.{Contains, Touches}
 use Rattle.neighbour.proofs.SideLaws.{leaf-holds}
 use Rattle.neighbour.specs.SonBeside.{Forward}
 use Rattle.joins.specs.Chain.{Water, end, link}
-use Rattle.joins.specs.Joining.{leaderOf, Together, Joined, Wired, Further, Beside, Flush, Bank, MetIn, Ashore, Reached, Met, MetSides, Along, MetAlong, Facing, FacingMet}
-use Rattle.joins.proofs.LeaderLaws.{same-or-not}
+use Rattle.joins.specs.Joining.{leaderOf, Together, Joined, Wired, Further, Flush, Bank, MetIn, Ashore, Reached, Met, MetSides, Along, MetAlong}
+use Rattle.joins.proofs.LeaderLaws.{same-or-not, last-or-before}
 use Rattle.joins.proofs.BankLaws.{Side, east, south, side-of, pixel-lies, next-lies, lies-next, flush-shares, flush-first, flush-second, near}
 use Rattle.joins.proofs.BeyondLaws.{water-leaf, bank, beyond-in, beyond-on}
 
@@ -71,57 +71,39 @@ module _ {n : ℕ} {T : List ℕ} {p m l D : ℕ} (z : Bank n T p m l D) (kind :
       together = j .together;
     }
 
-  -- a fork's two sons at the near edge lie along the side too
-  module _ (fk : kind ≡ forkType) where
-    bank-fork : isFork T m ≡ true
-    bank-fork = eq-eqb (type T m) forkType (sym is ∙ fk)
+-- a fork m there: its two sons at the near edge lie along the side too
+module _ {n : ℕ} {T : List ℕ} {p m l D : ℕ} (z : Bank n T p m l D) (fk : isFork T m ≡ true) where
+  bank-son : (q : ℕ) → q < 4 → Flush n T p (son T m q) D → Bank n T p (son T m q) (l - 1) D
+  bank-son q q4 f =
+      let at = son-at (z .place) fk q q4 in
+      record {
+        water = z .water;
+        place = at;
+        way = z .way;
+        shares = flush-shares (side-of D (z .way)) p (son T m q) (z .water .node) (at .node) f;
+        flush = λ g. f;
+      }
 
-    bank-son : (q : ℕ) → q < 4 → Flush n T p (son T m q) D → Bank n T p (son T m q) (l - 1) D
-    bank-son q q4 f =
-        let at = son-at (z .place) bank-fork q q4 in
-        record {
-          water = z .water;
-          place = at;
-          way = z .way;
-          shares = flush-shares (side-of D (z .way)) p (son T m q) (z .water .node) (at .node) f;
-          flush = λ g. f;
-        }
+  bank-near : (k : ℕ) → k < 2 → Bank n T p (son T m (k * (3 - D))) (l - 1) D
+  bank-near zero h =
+      rw (zero-mul (3 - D))
+      (bank-son 0 (omega arith) (flush-first (z .place .accepted) (z .place .node) fk (side-of D (z .way)) (z .flush fk)))
+  bank-near (suc zero) h =
+      rw (one-mul (3 - D))
+      (bank-son (3 - D) (omega arith) (flush-second (z .place .accepted) (z .place .node) fk (side-of D (z .way)) (z .flush fk)))
+  bank-near (suc (suc k)) h = absurd (omega arith)
 
-    bank-first : (s : ℕ) → s ≡ word T m 1 → Bank n T p s (l - 1) D
-    bank-first s e =
-        rw e (bank-son 0 (omega arith) (flush-first (z .place .accepted) (z .place .node) bank-fork (side-of D (z .way)) (z .flush bank-fork)))
+  -- and no other son touches p
+  in-fork : (W : List ℕ) → MetIn n T W p (son T m 0) D → MetIn n T W p (son T m (3 - D)) D → MetIn n T W p m D
+  unfolding MetIn
+  in-fork W a b q x y v t c =
+      let way = side-of D (z .way) in
+      ⊎-elim
+      (λ i. a q x y v t (lies-next way (son T m 0) x y (son-at (z .place) fk 0 (omega arith) .node) i))
+      (λ i. b q x y v t (lies-next way (son T m (3 - D)) x y (son-at (z .place) fk (3 - D) (omega arith) .node) i))
+      (near (z .place .accepted) (z .place .node) fk way (z .flush fk) (pixel-lies way (t .here)) (next-lies way m x y c))
 
-    bank-second : (s far : ℕ) → far ≡ 3 - D → s ≡ word T m (1 + far) → Bank n T p s (l - 1) D
-    bank-second s far a e =
-        rw (e, a) (bank-son (3 - D) (omega arith) (flush-second (z .place .accepted) (z .place .node) bank-fork (side-of D (z .way)) (z .flush bank-fork)))
-
-    -- and no other son touches p
-    in-fork : (W : List ℕ) → MetIn n T W p (son T m 0) D → MetIn n T W p (son T m (3 - D)) D → MetIn n T W p m D
-    unfolding MetIn
-    in-fork W a b q x y v t c =
-        let way = side-of D (z .way) in
-        ⊎-elim
-        (λ i. a q x y v t (lies-next way (son T m 0) x y (son-at (z .place) bank-fork 0 (omega arith) .node) i))
-        (λ i. b q x y v t (lies-next way (son T m (3 - D)) x y (son-at (z .place) bank-fork (3 - D) (omega arith) .node) i))
-        (near (z .place .accepted) (z .place .node) bank-fork way (z .flush bank-fork) (pixel-lies way (t .here)) (next-lies way m x y c))
-
--- a fork is above the pixels, and its sons are asked one after the other
-module _ {T W : List ℕ} {p m l D : ℕ} (h : Ashore T W p m l D) (kind : ℕ) (is : kind ≡ type T m) (fk : kind ≡ forkType) where
-  pub ashore-level : 0 < l
-  ashore-level = fork-above (h .bank .place) (bank-fork (h .bank) kind is fk)
-
-  pub ashore-first : (s : ℕ) → s ≡ word T m 1 → Ashore T W p s (l - 1) D
-  ashore-first s e = record { n = h .n; bank = bank-first (h .bank) kind is fk s e; wired = h .wired }
-
-  pub ashore-second : (W' : List ℕ) (s r far : ℕ) → s ≡ word T m 1 → far ≡ 3 - D → r ≡ word T m (1 + far) → Reached T W W' p s (l - 1) D
-      → Ashore T W' p r (l - 1) D
-  ashore-second W' s r far es ef er a = record {
-    n = h .n;
-    bank = bank-second (h .bank) kind is fk r far ef er;
-    wired = a (h .n) (bank-first (h .bank) kind is fk s es) (h .wired) .0 .wired;
-  }
-
--- what going down leaves, on each sheet: at a leaf, and at a fork
+-- what going down leaves at a leaf, on each sheet
 module _ {T : List ℕ} {p m l D : ℕ} (kind : ℕ) (is : kind ≡ type T m) where
   pub reached-other : (W : List ℕ) → (kind ≡ forkType → ⊥) → (kind ≡ black → ⊥) → Reached T W W p m l D
   reached-other W nf nb n z w = (further-none n T W w, in-other z kind is W nf nb)
@@ -129,13 +111,45 @@ module _ {T : List ℕ} {p m l D : ℕ} (kind : ℕ) (is : kind ≡ type T m) wh
   pub reached-black : (W W' : List ℕ) → kind ≡ black → Joined W W' p m → Reached T W W' p m l D
   reached-black W W' b j n z w = (further-black z kind is b W W' w j, in-black z kind is b W W' j)
 
-  pub reached-fork : (W W' W'' : List ℕ) (s r far : ℕ) → kind ≡ forkType → s ≡ word T m 1 → far ≡ 3 - D → r ≡ word T m (1 + far)
-      → Reached T W W' p s (l - 1) D → Reached T W' W'' p r (l - 1) D → Reached T W W'' p m l D
-  reached-fork W W' W'' s r far fk es ef er a b n z w =
-      let first = a n (bank-first z kind is fk s es) w in
-      let second = b n (bank-second z kind is fk r far ef er) (first .0 .wired) in
-      let i = met-in-still n T W' W'' p s D (second .0 .together) (first .1) in
-      (further-on n T W W' W'' (first .0) (second .0), in-fork z kind is fk W'' (rw es at i) (rw (er, ef) at (second .1)))
+-- fork m, of whose two sons at the near edge the first k have been gone through
+abbrev pub NearMet : List ℕ → List ℕ → ℕ → ℕ → ℕ → ℕ → ℕ → List ℕ → Type 0
+NearMet T W p m l D k W' = (n : ℕ) → Bank n T p m l D → Wired n T W → Further n T W W' × ((i : ℕ) → i < k → MetIn n T W' p (son T m (i * (3 - D))) D)
+
+-- which of m's words the next one is
+pub near-small : (k far : ℕ) {D : ℕ} → k < 2 → far ≡ 3 - D → Forward D → k * far ≤ 2
+near-small zero far h e way = rw (zero-mul far) (omega arith)
+near-small (suc zero) far h e way = rw (one-mul far) (omega (arith, way .0))
+near-small (suc (suc k)) far h e way = absurd (omega arith)
+
+pub near-none : {T W : List ℕ} {p m l D : ℕ} → NearMet T W p m l D 0 W
+near-none {T} {W} n z w = (further-none n T W w, λ i lt. absurd (not-suc-le-zero lt))
+
+module _ {T W : List ℕ} {p m l D : ℕ} (fk : isFork T m ≡ true) where
+  -- the next one, c
+  module _ (k far half c : ℕ) (W' : List ℕ) (k2 : k < 2) (ef : far ≡ 3 - D) (eh : half ≡ l - 1) (is : c ≡ word T m (1 + k * far)) (met : NearMet T W p m l D k W') where
+    near-bank : {n : ℕ} → Bank n T p m l D → Bank n T p c half D
+    near-bank z = rw (is, ef, eh) (bank-near z fk k k2)
+
+    pub near-ashore : Ashore T W p m l D → Ashore T W' p c half D
+    near-ashore h = record { n = h .n; bank = near-bank (h .bank); wired = met (h .n) (h .bank) (h .wired) .0 .wired }
+
+    pub near-more : (W'' : List ℕ) → Reached T W' W'' p c half D → NearMet T W p m l D (k + 1) W''
+    near-more W'' r n z w =
+        let a = met n z w in
+        let b = r n (near-bank z) (a .0 .wired) in (
+          further-on n T W W' W'' (a .0) (b .0),
+          λ i lt.
+              last-or-before i k lt
+              (λ e. rw (e, ← ef, ← is) (b .1))
+              (λ before. met-in-still n T W' W'' p _ D (b .0 .together) (a .1 i before)),
+        )
+
+  pub near-all : (k : ℕ) (W' : List ℕ) → k ≤ 2 → 2 ≤ k → NearMet T W p m l D k W' → Reached T W W' p m l D
+  near-all k W' le ge met n z w =
+      let a = met n z w in
+      let first : MetIn n T W' p (son T m 0) D = rw (zero-mul (3 - D)) at (a .1 0 (omega arith)) in
+      let second : MetIn n T W' p (son T m (3 - D)) D = rw (one-mul (3 - D)) at (a .1 1 (omega arith)) in
+      (a .0, in-fork z fk W' first second)
 
 -- beyond side D of the black leaf p, whose neighbour there is `found`; p itself has its own leader
 module _ {T W : List ℕ} {p : ℕ} {found : Found} {D : ℕ} where
@@ -165,26 +179,7 @@ by-side : (P : ℕ → Type 0) → P 1 → P 2 → {D : ℕ} → Side D → P D
 by-side P a b east = a
 by-side P a b south = b
 
-both-sides : (n : ℕ) (T W W' W'' : List ℕ) (p : ℕ) → Further n T W W' × Met n T W' p 1 → Further n T W' W'' × Met n T W'' p 2
+pub both-sides : (n : ℕ) (T W W' W'' : List ℕ) (p : ℕ) → Further n T W W' × Met n T W' p 1 → Further n T W' W'' × Met n T W'' p 2
     → Further n T W W'' × MetSides n T W'' p
 both-sides n T W W' W'' p a b =
     (further-on n T W W' W'' (a .0) (b .0), λ v D w. by-side (Met n T W'' p) (met-still n T W' W'' p 1 (b .0 .together) (a .1)) (b .1) (side-of D w))
-
-module _ {T : List ℕ} {p kind : ℕ} (is : kind ≡ type T p) where
-  pub facing-dry : {W : List ℕ} {e s : Found} → (kind ≡ black → ⊥) → FacingMet T W W p e s
-  facing-dry {W} ne z = (further-none (z .n) T W (z .wired), sides-dry (z .n) T W p kind is ne)
-
-  module _ {W : List ℕ} {e s : Found} (b : kind ≡ black) (z : Facing T W p e s) where
-    beside : (D : ℕ) → Forward D → Beside (z .n) T p (levelOf (z .n) T p) D
-    beside D way = record { accepted = z .accepted; water = record { node = z .node; wet = sym is ∙ b }; level = refl; way = way }
-
-    pub east-along : Along T W p e 1
-    east-along = record { n = z .n; beside = beside 1 (omega arith, omega arith); is = z .east; wired = z .wired }
-
-    pub south-along : (W' : List ℕ) → MetAlong T W W' p e 1 → Along T W' p s 2
-    unfolding east-along
-    south-along W' h = record { n = z .n; beside = beside 2 (omega arith, omega arith); is = z .south; wired = h east-along .0 .wired }
-
-    pub facing-both : (W' W'' : List ℕ) → MetAlong T W W' p e 1 → MetAlong T W' W'' p s 2 → Further (z .n) T W W'' × MetSides (z .n) T W'' p
-    unfolding east-along south-along
-    facing-both W' W'' h k = both-sides (z .n) T W W' W'' p (h east-along) (k (south-along W' h))

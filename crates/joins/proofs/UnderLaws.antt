@@ -3,23 +3,26 @@
 use mathlib.Core.Bool.{true, false, false≢true}
 use mathlib.Core.List.{List}
 use mathlib.Core.Logic.{⊎-elim}
-use mathlib.Core.Path.{_≡_, sym, _∙_}
+use mathlib.Core.Path.{_≡_, refl, sym, _∙_}
 use Prim.Native.Nat.{ℕ, zero, suc, _+_, _-_, _≤_, _<_}
-use native.Mathlib.Nat.{eq-zero-or-pos, eq-or-lt-of-le, not-suc-le-zero}
+use native.Mathlib.Nat.{eq-zero-or-pos, not-suc-le-zero}
 use native.Mathlib.Omega.{arith}
-use borrow.Author.Tests.{eqb-true}
-use Rattle.quad.specs.Numbers.{forkType}
+use borrow.Author.Tests.{eqb-true, eq-eqb, ne-eqb}
+use Rattle.quad.specs.Numbers.{black, forkType}
 use Rattle.table.specs.Table.{nodes, father, son, type, isFork}
-use Rattle.table.specs.Rules.{depthTo, Accepted, AtLevel}
+use Rattle.table.specs.Rules.{Accepted, AtLevel}
 use Rattle.table.specs.Nodes.{sonType, levelOf}
 use Rattle.table.proofs.RuleLaws.{depth-root}
 use Rattle.table.proofs.AcceptedLaws.{father-below, father-fork, son-sonType, sonType-lt, depth-up, fork-deep, fork-above, root-at, son-at}
 use Rattle.neighbour.specs.declared.Found.{Found}
 use Rattle.neighbour.specs.declared.Found.the-variants.{Off}
-use Rattle.neighbour.specs.SonBeside.{besideSon}
+use Rattle.neighbour.specs.Neighbour.{neighbourFound}
+use Rattle.neighbour.specs.SonBeside.{Forward, besideSon}
 use Rattle.neighbour.proofs.BesideLaws.{beside-of-son, none-beside}
-use Rattle.joins.specs.Joining.{Together, Wired, Further, MetSides, MetUnder, MetAll, Facing, FacingMet, FacingFork, FacingUnder}
-use Rattle.joins.proofs.MeetLaws.{further-none, further-on, met-still}
+use Rattle.joins.specs.Chain.{Water}
+use Rattle.joins.specs.Joining.{Together, Wired, Further, MetSides, MetUnder, MetAll, Beside, Along, MetAlong, Facing, FacingMet}
+use Rattle.joins.proofs.LeaderLaws.{last-or-before}
+use Rattle.joins.proofs.MeetLaws.{further-none, further-on, met-still, along-off, sides-dry, both-sides}
 
 module _ (n : ℕ) (T : List ℕ) where
   -- what has been met stays so
@@ -74,91 +77,122 @@ module _ (n : ℕ) (T : List ℕ) where
 -- fork p, of level l, whose first q sons have been gone through
 abbrev pub FirstMet : List ℕ → List ℕ → ℕ → ℕ → Found → Found → ℕ → List ℕ → Type 0
 FirstMet T W p l e s q W' =
-    (z : FacingFork T W p l e s) → Further (z .facing .n) T W W' × ((i : ℕ) → i < q → MetUnder (z .facing .n) T W' (l - 1) (son T p i))
+    (z : Facing T W p l e s) → Further (z .n) T W W' × ((i : ℕ) → i < q → MetUnder (z .n) T W' (l - 1) (son T p i))
 
 pub first-none : {T W : List ℕ} {p l : ℕ} {e s : Found} → FirstMet T W p l e s 0 W
-first-none {T} {W} z = (further-none (z .facing .n) T W (z .facing .wired), λ i lt. absurd (not-suc-le-zero lt))
+first-none {T} {W} z = (further-none (z .n) T W (z .wired), λ i lt. absurd (not-suc-le-zero lt))
 
 module _ {T W : List ℕ} {p l : ℕ} {e s : Found} where
-  pub fork-at : (z : FacingFork T W p l e s) → AtLevel (z .facing .n) T p l
-  fork-at z = record { accepted = z .facing .accepted; node = z .facing .node; level = z .level }
+  -- the next son, c
+  module _ (q c half : ℕ) (W' : List ℕ) (q4 : q < 4) (is : c ≡ son T p q) (down : half ≡ l - 1) (first : FirstMet T W p l e s q W') where
+    pub next-at : (z : Facing T W p l e s) → AtLevel (z .n) T c half
+    next-at z = rw (is, down) (son-at (z .place) (z .fork) q q4)
 
-  -- the next son, c, and its neighbours
-  module _ (q c half : ℕ) (e' s' : Found) (W' : List ℕ) (q4 : q < 4) (is : c ≡ son T p q) (down : half ≡ l - 1)
-      (east : e' ≡ besideSon T p half e q 1) (south : s' ≡ besideSon T p half s q 2) (first : FirstMet T W p l e s q W') where
-    pub son-facing : FacingFork T W p l e s → Facing T W' c e' s'
-    son-facing z =
-        let at = fork-at z in
-        record {
-          n = z .facing .n;
-          accepted = z .facing .accepted;
-          node = rw is (son-at at (z .fork) q q4 .node);
-          east = rw is (east ∙ beside-of-son at 1 (omega arith, omega arith) e (z .facing .east) (z .fork) half q down q4);
-          south = rw is (south ∙ beside-of-son at 2 (omega arith, omega arith) s (z .facing .south) (z .fork) half q down q4);
-          wired = first z .0 .wired;
-        }
+    -- what it is beside, from what its father is
+    next-beside : (z : Facing T W p l e s) (D : ℕ) → Forward D → (found : Found) → found ≡ neighbourFound (z .n) T p D → (g : Found) → g ≡ besideSon T p half found q D
+        → g ≡ neighbourFound (z .n) T c D
+    next-beside z D way found ef g eg = rw is (eg ∙ beside-of-son (z .place) D way found ef (z .fork) half q down q4)
 
-    son-level : (z : FacingFork T W p l e s) → half + depthTo T (z .facing .n) c ≡ z .facing .n
-    son-level z = rw (is, down) (son-at (fork-at z) (z .fork) q q4 .level)
-
-    pub son-fork : isFork T c ≡ true → FacingFork T W p l e s → FacingFork T W' c half e' s'
-    unfolding son-facing
-    son-fork f z = record { facing = son-facing z; level = son-level z; fork = f }
-
-    -- after which it has been gone through too
-    first-more : (W'' : List ℕ) → ((z : FacingFork T W p l e s) → Further (z .facing .n) T W' W'' × MetUnder (z .facing .n) T W'' half c)
-        → FirstMet T W p l e s (q + 1) W''
-    first-more W'' h z =
-        let n : ℕ = z .facing .n in
+    next-more : (W'' : List ℕ) → ((z : Facing T W p l e s) → Further (z .n) T W' W'' × MetUnder (z .n) T W'' half c) → FirstMet T W p l e s (q + 1) W''
+    next-more W'' h z =
         let a = first z in
         let b = h z in (
-          further-on n T W W' W'' (a .0) (b .0),
+          further-on (z .n) T W W' W'' (a .0) (b .0),
           λ i lt.
-              ⊎-elim
-              (λ (ei : i ≡ q). rw (ei, ← is, ← down) (b .1))
-              (λ (l : i < q). under-still n T W' W'' _ _ (b .0 .together) (a .1 i l))
-              (eq-or-lt-of-le (omega arith)),
+              last-or-before i q lt
+              (λ ei. rw (ei, ← is, ← down) (b .1))
+              (λ before. under-still (z .n) T W' W'' _ _ (b .0 .together) (a .1 i before)),
         )
 
-    pub fork-more : (W'' : List ℕ) → isFork T c ≡ true → FacingUnder T W' W'' c half e' s' → FirstMet T W p l e s (q + 1) W''
-    unfolding son-facing son-fork
-    fork-more W'' f h = first-more W'' (λ z. h (son-fork f z))
+    module _ (e' s' : Found) (east : e' ≡ besideSon T p half e q 1) (south : s' ≡ besideSon T p half s q 2) where
+      pub fork-facing : isFork T c ≡ true → Facing T W p l e s → Facing T W' c half e' s'
+      fork-facing f z = record {
+        n = z .n;
+        place = next-at z;
+        fork = f;
+        east = next-beside z 1 (omega arith, omega arith) e (z .east) e' east;
+        south = next-beside z 2 (omega arith, omega arith) s (z .south) s' south;
+        wired = first z .0 .wired;
+      }
 
-    pub leaf-more : (W'' : List ℕ) → isFork T c ≡ false → FacingMet T W' W'' c e' s' → FirstMet T W p l e s (q + 1) W''
-    unfolding son-facing
-    leaf-more W'' f h = first-more W'' (λ z. let a = h (son-facing z) in (a .0, leaf-under (z .facing .n) T W'' half c f (a .1)))
+      pub fork-more : (W'' : List ℕ) → isFork T c ≡ true → FacingMet T W' W'' c half e' s' → FirstMet T W p l e s (q + 1) W''
+      unfolding fork-facing
+      fork-more W'' f h = next-more W'' (λ z. h (fork-facing f z))
+
+    -- a leaf
+    module _ (kind : ℕ) (ek : kind ≡ type T c) where
+      leaf-more : (W'' : List ℕ) → (kind ≡ forkType → ⊥) → ((z : Facing T W p l e s) → Further (z .n) T W' W'' × MetSides (z .n) T W'' c)
+          → FirstMet T W p l e s (q + 1) W''
+      leaf-more W'' nf h =
+          next-more W'' (λ z. let a = h z in (a .0, leaf-under (z .n) T W'' half c (ne-eqb (type T c) forkType (λ f. nf (ek ∙ f))) (a .1)))
+
+      pub other-more : (kind ≡ forkType → ⊥) → (kind ≡ black → ⊥) → FirstMet T W p l e s (q + 1) W'
+      other-more nf nb = leaf-more W' nf (λ z. (further-none (z .n) T W' (first z .0 .wired), sides-dry (z .n) T W' c kind ek nb))
+
+      module _ (b : kind ≡ black) where
+        beside : (z : Facing T W p l e s) (D : ℕ) → Forward D → Beside (z .n) T c (levelOf (z .n) T c) D
+        beside z D way = record { accepted = z .place .accepted; water = record { node = next-at z .node; wet = sym ek ∙ b }; level = refl; way = way }
+
+        module _ (e' : Found) (east : e' ≡ besideSon T p half e q 1) where
+          pub east-along : Facing T W p l e s → Along T W' c e' 1
+          east-along z = record {
+            n = z .n;
+            beside = beside z 1 (omega arith, omega arith);
+            is = next-beside z 1 (omega arith, omega arith) e (z .east) e' east;
+            wired = first z .0 .wired;
+          }
+
+          module _ (W₁ : List ℕ) (h : MetAlong T W' W₁ c e' 1) (s' : Found) (south : s' ≡ besideSon T p half s q 2) where
+            pub south-along : Facing T W p l e s → Along T W₁ c s' 2
+            unfolding east-along
+            south-along z = record {
+              n = z .n;
+              beside = beside z 2 (omega arith, omega arith);
+              is = next-beside z 2 (omega arith, omega arith) s (z .south) s' south;
+              wired = h (east-along z) .0 .wired;
+            }
+
+            pub black-more : (W₂ : List ℕ) → MetAlong T W₁ W₂ c s' 2 → FirstMet T W p l e s (q + 1) W₂
+            unfolding east-along south-along
+            black-more W₂ k =
+                leaf-more W₂ (λ f. omega (arith, f, b)) (λ z. both-sides (z .n) T W' W₁ W₂ c (h (east-along z)) (k (south-along z)))
 
   -- all four
-  pub first-all : (q : ℕ) (W' : List ℕ) → q ≤ 4 → 4 ≤ q → FirstMet T W p l e s q W' → FacingUnder T W W' p l e s
+  pub first-all : (q : ℕ) (W' : List ℕ) → q ≤ 4 → 4 ≤ q → FirstMet T W p l e s q W' → FacingMet T W W' p l e s
   first-all q W' le ge first z =
-      let n : ℕ = z .facing .n in
       let a = first z in (
         a .0,
-        fork-under n T W' l p (fork-above (fork-at z) (z .fork))
+        fork-under (z .n) T W' l p (fork-above (z .place) (z .fork))
             (λ v. absurd (omega (arith, v .wet, eqb-true (type T p) forkType (z .fork))))
             (λ i i4. a .1 i (omega arith)),
       )
 
--- the root
-module _ {n : ℕ} {T W : List ℕ} (acc : Accepted n T) (w : Wired n T W) where
-  pub root-facing : Facing T W 0 Off Off
-  root-facing = record {
-    n = n;
-    accepted = acc;
-    node = acc .sized .some;
-    east = none-beside n T acc 1 (omega arith);
-    south = none-beside n T acc 2 (omega arith);
-    wired = w;
-  }
+-- the root: nothing lies beside it
+module _ {n : ℕ} {T W : List ℕ} (acc : Accepted n T) (w : Wired n T W) (kind : ℕ) (is : kind ≡ type T 0) where
+  pub root-leaf : (kind ≡ forkType → ⊥) → Further n T W W × MetUnder n T W n 0
+  root-leaf nf =
+      let along : Water T 0 → (D : ℕ) → Forward D → Along T W 0 Off D =
+      λ v D way. record {
+        n = n;
+        beside = record { accepted = acc; water = v; level = refl; way = way };
+        is = none-beside n T acc D (omega (arith, way .1));
+        wired = w;
+      } in (
+        further-none n T W w,
+        leaf-under n T W n 0 (ne-eqb (type T 0) forkType (λ f. nf (is ∙ f))) (λ v D way. along-off refl (along v D way) .1),
+      )
 
-  pub root-fork : isFork T 0 ≡ true → FacingFork T W 0 n Off Off
-  unfolding root-facing
-  root-fork f = record { facing = root-facing; level = root-at acc .level; fork = f }
+  module _ (fk : kind ≡ forkType) where
+    pub root-facing : Facing T W 0 n Off Off
+    root-facing = record {
+      n = n;
+      place = root-at acc;
+      fork = eq-eqb (type T 0) forkType (sym is ∙ fk);
+      east = none-beside n T acc 1 (omega arith);
+      south = none-beside n T acc 2 (omega arith);
+      wired = w;
+    }
 
-  pub root-leaf-met : (W' : List ℕ) → isFork T 0 ≡ false → FacingMet T W W' 0 Off Off → Further n T W W' × MetUnder n T W' n 0
-  unfolding root-facing
-  root-leaf-met W' f h = let a = h root-facing in (a .0, leaf-under n T W' n 0 f (a .1))
-
-  pub root-fork-met : (W' : List ℕ) → isFork T 0 ≡ true → FacingUnder T W W' 0 n Off Off → Further n T W W' × MetUnder n T W' n 0
-  unfolding root-facing root-fork
-  root-fork-met W' f h = h (root-fork f)
+    pub root-met : (W' : List ℕ) → FacingMet T W W' 0 n Off Off → Further n T W W' × MetUnder n T W' n 0
+    unfolding root-facing
+    root-met W' h = h root-facing

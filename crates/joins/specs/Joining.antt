@@ -9,7 +9,7 @@ use lib.ListN.{length}
 use Rattle.quad.specs.Numbers.{black}
 use Rattle.quad.specs.Direction.{eastStep, southStep}
 use Rattle.table.specs.Table.{nodes, son, type, isFork}
-use Rattle.table.specs.Rules.{depthTo, Accepted, AtLevel}
+use Rattle.table.specs.Rules.{Accepted, AtLevel}
 use Rattle.table.specs.Nodes.{levelOf, sideOf, leftOf, topOf}
 use Rattle.neighbour.specs.declared.Found.{Found}
 use Rattle.neighbour.specs.Neighbour.{neighbourFound}
@@ -151,24 +151,15 @@ MetUnder n T W (suc l) p = MetSides n T W p × (isFork T p ≡ true → (q : ℕ
 abbrev pub MetAll : ℕ → List ℕ → List ℕ → Type 0
 MetAll n T W = (i : ℕ) → i < nodes T → MetSides n T W i
 
--- node p and its neighbours E and S, on a sheet of some level whose words are wired
-pub record Facing (T W : List ℕ) (p : ℕ) (e s : Found) : Type 0 where
+-- fork p of level l and its neighbours E and S, on a sheet of some level whose words are wired
+pub record Facing (T W : List ℕ) (p l : ℕ) (e s : Found) : Type 0 where
   pub n : ℕ
-  pub accepted : Accepted n T
-  pub node : p < nodes T
+  pub place : AtLevel n T p l
+  pub fork : isFork T p ≡ true
   pub east : e ≡ neighbourFound n T p 1
   pub south : s ≡ neighbourFound n T p 2
   pub wired : Wired n T W
 
--- p has been joined to what lies beyond its sides
-abbrev pub FacingMet : List ℕ → List ℕ → List ℕ → ℕ → Found → Found → Type 0
-FacingMet T W W' p e s = (z : Facing T W p e s) → Further (z .n) T W W' × MetSides (z .n) T W' p
-
--- the same of a fork of level l, and of what is under it
-pub record FacingFork (T W : List ℕ) (p l : ℕ) (e s : Found) : Type 0 where
-  pub facing : Facing T W p e s
-  pub level : l + depthTo T (facing .n) p ≡ facing .n
-  pub fork : isFork T p ≡ true
-
-abbrev pub FacingUnder : List ℕ → List ℕ → List ℕ → ℕ → ℕ → Found → Found → Type 0
-FacingUnder T W W' p l e s = (z : FacingFork T W p l e s) → Further (z .facing .n) T W W' × MetUnder (z .facing .n) T W' l p
+-- what is under it has been joined to what lies beyond its sides
+abbrev pub FacingMet : List ℕ → List ℕ → List ℕ → ℕ → ℕ → Found → Found → Type 0
+FacingMet T W W' p l e s = (z : Facing T W p l e s) → Further (z .n) T W W' × MetUnder (z .n) T W' l p

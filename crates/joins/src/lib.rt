@@ -3,15 +3,16 @@
 use neighbour::Found;
 use neighbour::beside::of_son;
 use table::word_at;
+ghost use mathlib.Core.Bool.{true};
 ghost use mathlib.Core.Path.{_≡_};
 ghost use Prim.Native.Nat.{_<_, _≤_};
 ghost use lib.ListN.{length};
 ghost use Rattle.base.specs.Tab.{tab};
 ghost use Rattle.quad.specs.Numbers.{maxWords};
-ghost use Rattle.table.specs.Table.{nodes, type};
+ghost use Rattle.table.specs.Table.{nodes, isFork};
 ghost use Rattle.table.specs.Rules.{Accepted};
 ghost use Rattle.joins.specs.Led.{Led};
-ghost use Rattle.joins.specs.Joining.{leaderOf, ownOf, Falling, Kept, Joined, Settled, Wired, Further, Ashore, Reached, Along, MetAlong, MetUnder, Facing, FacingMet, FacingFork, FacingUnder};
+ghost use Rattle.joins.specs.Joining.{leaderOf, ownOf, Falling, Kept, Joined, Settled, Wired, Further, Ashore, Reached, Along, MetAlong, MetUnder, Facing, FacingMet};
 
 // The word that a node begins with: a black leaf's is itself, the others' are 0.
 fn own(table: &[u32], p: usize) -> u32
@@ -50,38 +51,45 @@ fn root(words: &mut [u32], p: u32) -> u32
     q
 }
 
-// Joins the sets of p and q: the higher one of their leaders goes under the lower one.
+// Joins the sets of p and q: the higher one of their leaders goes under the lower one. Where their words are one, so are their sets.
 fn join(words: &mut [u32], p: u32, q: u32)
     requires { ⌜ (p < length (now words)) × (q < length (now words)) × Falling (now words) ⌝ }
     ensures { λ _. ⌜ Joined (now (words .entry)) (now (words .exit)) p q ⌝ }
 {
+    if words[p as usize] == words[q as usize] {
+        return;
+    }
     let a = root(words, p);
     let b = root(words, q);
+    let mut low = b;
+    let mut high = a;
     if a < b {
-        words[b as usize] = a;
-        return;
+        low = a;
+        high = b;
     }
-    words[a as usize] = b;
+    words[high as usize] = low;
 }
 
-// Joins p and the black leaves along one of its sides, E or S, in and under a node: a fork's two sons at the edge that faces p are gone down to, the NW one and
-// the one at the edge's other end. What lies behind them does not touch p.
+// Joins p and the black leaves along one of its sides, E or S, under a fork: its two sons at the edge that faces p are gone through, the NW one and the one at
+// the edge's other end. What lies behind them does not touch p.
 fn shore(table: &[u32], words: &mut [u32], p: usize, node: usize, level: u32, side: usize)
-    requires { ⌜ Ashore (now table) (now words) p node level side ⌝ }
+    requires { ⌜ Ashore (now table) (now words) p node level side × (isFork (now table) node ≡ true) ⌝ }
     ensures { λ _. ⌜ Reached (now (table .entry)) (now (words .entry)) (now (words .exit)) p node level side ⌝ }
 {
-    let kind = word_at(table, node, 5);
-    if kind == quad::FORK {
-        let half = level - 1;
-        let far = 3 - side;
-        let first = word_at(table, node, 1);
-        let second = word_at(table, node, 1 + far);
-        shore(table, words, p, first, half, side);
-        shore(table, words, p, second, half, side);
-        return;
-    }
-    if kind == quad::BLACK {
-        join(words, p as u32, node as u32);
+    let half = level - 1;
+    let far = 3 - side;
+    let mut k = 0;
+    while k < 2 {
+        let son = word_at(table, node, 1 + k * far);
+        let kind = word_at(table, son, 5);
+        k += 1;
+        if kind == quad::FORK {
+            shore(table, words, p, son, half, side);
+        } else {
+            if kind == quad::BLACK {
+                join(words, p as u32, son as u32);
+            }
+        }
     }
 }
 
@@ -93,38 +101,39 @@ fn across(table: &[u32], words: &mut [u32], p: usize, found: Found, side: usize)
     let Found::At { node, level } = found else {
         return;
     };
-    shore(table, words, p, node, level, side);
-}
-
-// Joins a leaf of that kind, if it is black, and those beyond its sides E and S. Those beyond N and W meet it from their own.
-fn around(table: &[u32], words: &mut [u32], p: usize, kind: usize, east: Found, south: Found)
-    requires { ⌜ Facing (now table) (now words) p east south × (kind ≡ type (now table) p) ⌝ }
-    ensures { λ _. ⌜ FacingMet (now (table .entry)) (now (words .entry)) (now (words .exit)) p east south ⌝ }
-{
+    let kind = word_at(table, node, 5);
+    if kind == quad::FORK {
+        shore(table, words, p, node, level, side);
+        return;
+    }
     if kind != quad::BLACK {
         return;
     }
-    across(table, words, p, east, 1);
-    across(table, words, p, south, 2);
+    join(words, p as u32, node as u32);
 }
 
-// Joins every black leaf under a fork, whose level and neighbours E and S are given, and those beyond its sides. A son's neighbours come from the fork's.
+// Joins every black leaf under a fork, whose level and neighbours E and S are given, and those beyond its own sides E and S; those beyond N and W meet it from
+// theirs. A son's neighbours come from the fork's.
 fn meet(table: &[u32], words: &mut [u32], p: usize, level: u32, east: Found, south: Found)
-    requires { ⌜ FacingFork (now table) (now words) p level east south ⌝ }
-    ensures { λ _. ⌜ FacingUnder (now (table .entry)) (now (words .entry)) (now (words .exit)) p level east south ⌝ }
+    requires { ⌜ Facing (now table) (now words) p level east south ⌝ }
+    ensures { λ _. ⌜ FacingMet (now (table .entry)) (now (words .entry)) (now (words .exit)) p level east south ⌝ }
 {
     let half = level - 1;
-    let mut q = 0;
-    while q < 4 {
+    let mut quadrant = 0;
+    while quadrant < 4 {
+        let q = quadrant;
         let son = word_at(table, p, 1 + q);
-        let e = of_son(table, p, half, east, q, 1);
-        let s = of_son(table, p, half, south, q, 2);
         let kind = word_at(table, son, 5);
-        q += 1;
+        quadrant += 1;
         if kind == quad::FORK {
+            let e = of_son(table, p, half, east, q, 1);
+            let s = of_son(table, p, half, south, q, 2);
             meet(table, words, son, half, e, s);
         } else {
-            around(table, words, son, kind, e, s);
+            if kind == quad::BLACK {
+                across(table, words, son, of_son(table, p, half, east, q, 1), 1);
+                across(table, words, son, of_son(table, p, half, south, q, 2), 2);
+            }
         }
     }
 }
@@ -134,12 +143,10 @@ fn meet_all(n: u32, table: &[u32], words: &mut [u32])
     requires { ⌜ Accepted n (now table) × Wired n (now table) (now words) ⌝ }
     ensures { λ _. ⌜ Further n (now (table .entry)) (now (words .entry)) (now (words .exit)) × MetUnder n (now (table .entry)) (now (words .exit)) n 0 ⌝ }
 {
-    let kind = word_at(table, 0, 5);
-    if kind == quad::FORK {
-        meet(table, words, 0, n, Found::Off, Found::Off);
+    if word_at(table, 0, 5) != quad::FORK {
         return;
     }
-    around(table, words, 0, kind, Found::Off, Found::Off);
+    meet(table, words, 0, n, Found::Off, Found::Off);
 }
 
 // In rising node number each word becomes its word's word: that is the leader, since the words before it are leaders already.

@@ -142,7 +142,7 @@ module _ {n : ℕ} {T : List ℕ} {p l : ℕ} (z : AtLevel n T p l) (D : ℕ) (w
       (by-bool (eqb (q / D % 2) 0))
 
 -- the code's own values
-pub part-off : (T : List ℕ) (q : ℕ) (found : Found) → found ≡ Off → found ≡ partIn T q found
+pub part-off : (T : List ℕ) (q : ℕ) (found : Found) → found ≡ Off → Off ≡ partIn T q found
 unfolding partIn
 part-off T q found e = rw e
 

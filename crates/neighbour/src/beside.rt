@@ -12,10 +12,10 @@ pub fn part(table: &[u32], found: Found, quadrant: usize) -> Found
     ensures { λ r. ⌜ r ≡ partIn (now (table .entry)) quadrant found ⌝ }
 {
     let Found::At { node, level } = found else {
-        return found;
+        return Found::Off;
     };
     if word_at(table, node, 5) != quad::FORK {
-        return found;
+        return Found::At { node, level };
     }
     Found::At {
         node: word_at(table, node, 1 + quadrant),

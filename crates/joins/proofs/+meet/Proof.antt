@@ -1,18 +1,18 @@
--- `joins::meet`: the first q sons have been gone through. The measure is the level; the loop's, the sons left. Assumes nothing.
+-- `joins::meet`: the first sons have been gone through. The measure is the level; the loop's, the sons left. Assumes nothing.
 use mathlib.Core.Path.{_≡_, refl, _∙_}
 use native.Mathlib.Omega.{arith}
 use lib.ListN.{length}
 use Rattle.table.proofs.AcceptedLaws.{fork-above}
-use Rattle.table.proofs.SeenLaws.{told-fork, told-leaf}
+use Rattle.table.proofs.SeenLaws.{told-fork}
 use Rattle.neighbour.proofs.BesideLaws.{found-in}
-use Rattle.joins.proofs.UnderLaws.{FirstMet, first-none, fork-at, son-facing, son-fork, fork-more, leaf-more, first-all}
+use Rattle.joins.proofs.UnderLaws.{FirstMet, first-none, next-at, fork-facing, fork-more, other-more, east-along, south-along, black-more, first-all}
 use Prim.Native.Nat.{ℕ, _-_, _≤_, _<_}
 use borrow.Fn.Kinds.{In}
 use borrow.Fn.PlainCycle.{Measures, is, falls, and}
 use Rattle.joins.proofs.meet.Reads as meet
 use Rattle.joins.proofs.meet.Kinds as meet-kinds
 use Rattle.joins.proofs.+meet.Lts-meet as meet-lts
-use Rattle.joins.proofs.around.Reads as around-reads
+use Rattle.joins.proofs.across.Reads as across-reads
 use Rattle.neighbour.proofs.beside.of_son.Reads as of-son-reads
 use Rattle.table.proofs.word_at.Reads as word-at-reads
 use Rattle.joins.proofs.+meet.{statement}
@@ -28,17 +28,17 @@ abbrev meet-below : ℕ → In 2 meet-kinds.ps
 meet-below t = and 2 meet-kinds.ps (falls 2 meet-kinds.ps _<_ μ-meet t) meet.Pre
 
 abbrev calls : ℕ → meet-lts.Claims
-calls t = (word-at-reads.Asked, word-at-reads.Learnt, of-son-reads.Asked, of-son-reads.Learnt, meet-below t, meet.Post, around-reads.Asked, around-reads.Learnt)
+calls t = (word-at-reads.Asked, word-at-reads.Learnt, of-son-reads.Asked, of-son-reads.Learnt, meet-below t, meet.Post, across-reads.Asked, across-reads.Learnt)
 
 abbrev meet-Inv-loop : meet-lts.InvT-loop
-meet-Inv-loop table words₀ p level east south half q₀ words q =
-    (q ≤ 4) × (length words ≡ length words₀) × (half ≡ level - 1) × FirstMet table words₀ p level east south q words
+meet-Inv-loop table words₀ p level east south half quadrant₀ words quadrant =
+    (quadrant ≤ 4) × (length words ≡ length words₀) × (half ≡ level - 1) × FirstMet table words₀ p level east south quadrant words
 
 abbrev meet-μ-loop : meet-lts.MeasureT-loop
-meet-μ-loop table words₀ p level east south half q₀ words q = 4 - q
+meet-μ-loop table words₀ p level east south half quadrant₀ words quadrant = 4 - quadrant
 
 meet-sub-half : (t : ℕ) → meet-lts.Need-sub-half (calls t) (meet-at t) meet.Post meet-Inv-loop meet-μ-loop
-meet-sub-half t c = let z = c .before .before .pre .1 in omega (arith, fork-above (fork-at z) (z .fork))
+meet-sub-half t c = let z = c .before .before .pre .1 in omega (arith, fork-above (z .place) (z .fork))
 
 meet-loop-holds : (t : ℕ) → meet-lts.Need-loop-holds (calls t) (meet-at t) meet.Post meet-Inv-loop meet-μ-loop
 meet-loop-holds t c = (omega arith, refl, refl, first-none)
@@ -47,32 +47,30 @@ meet-add-word-at : (t : ℕ) → meet-lts.Need-add-word-at (calls t) (meet-at t)
 meet-add-word-at t c = omega arith
 
 meet-word-at-requires : (t : ℕ) → meet-lts.Need-word-at-requires (calls t) (meet-at t) meet.Post meet-Inv-loop meet-μ-loop
-meet-word-at-requires t c κs = (c .before .before .before .before .pre .1 .facing .node, omega arith)
-
-meet-of-son-requires : (t : ℕ) → meet-lts.Need-of-son-requires (calls t) (meet-at t) meet.Post meet-Inv-loop meet-μ-loop
-meet-of-son-requires t c κs = let z = c .before .before .before .before .before .pre .1 in
-    (z .facing .node, found-in (fork-at z) 1 (omega arith, omega arith) _ (z .facing .east), omega arith, (omega arith, omega arith))
-
-meet-of-son-requires-2 : (t : ℕ) → meet-lts.Need-of-son-requires-2 (calls t) (meet-at t) meet.Post meet-Inv-loop meet-μ-loop
-meet-of-son-requires-2 t c κs = let z = c .before .before .before .before .before .before .pre .1 in
-    (z .facing .node, found-in (fork-at z) 2 (omega arith, omega arith) _ (z .facing .south), omega arith, (omega arith, omega arith))
+meet-word-at-requires t c κs = (c .before .before .before .before .pre .1 .place .node, omega arith)
 
 meet-word-at-requires-2 : (t : ℕ) → meet-lts.Need-word-at-requires-2 (calls t) (meet-at t) meet.Post meet-Inv-loop meet-μ-loop
-meet-word-at-requires-2 t c κs = let v = c .before .before .before .before .loop in (
-  son-facing (v .q) _ _ _ _ _ (omega arith) (c .before .before .word-at .ensures) (v .inv .2) (c .before .of-son .ensures) (c .of-son2 .ensures) (v .inv .3) (c .before .before .before .before .before .before .before .pre .1) .node,
-  omega arith,
-)
+meet-word-at-requires-2 t c κs = let v = c .before .before .loop in
+    (next-at (v .quadrant) _ _ _ (omega arith) (c .word-at .ensures) (v .inv .2) (v .inv .3) (c .before .before .before .before .before .pre .1) .node, omega arith)
 
-meet-add-q : (t : ℕ) → meet-lts.Need-add-q (calls t) (meet-at t) meet.Post meet-Inv-loop meet-μ-loop
-meet-add-q t c = omega arith
+meet-add-quadrant : (t : ℕ) → meet-lts.Need-add-quadrant (calls t) (meet-at t) meet.Post meet-Inv-loop meet-μ-loop
+meet-add-quadrant t c = omega arith
+
+meet-of-son-requires : (t : ℕ) → meet-lts.Need-of-son-requires (calls t) (meet-at t) meet.Post meet-Inv-loop meet-μ-loop
+meet-of-son-requires t c κs = let z = c .before .before .before .before .before .before .before .pre .1 in
+    (z .place .node, found-in (z .place) 1 (omega arith, omega arith) _ (z .east), omega arith, (omega arith, omega arith))
+
+meet-of-son-requires-2 : (t : ℕ) → meet-lts.Need-of-son-requires-2 (calls t) (meet-at t) meet.Post meet-Inv-loop meet-μ-loop
+meet-of-son-requires-2 t c κs = let z = c .before .before .before .before .before .before .before .before .pre .1 in
+    (z .place .node, found-in (z .place) 2 (omega arith, omega arith) _ (z .south), omega arith, (omega arith, omega arith))
 
 meet-meet-requires : (t : ℕ) → meet-lts.Need-meet-requires (calls t) (meet-at t) meet.Post meet-Inv-loop meet-μ-loop
 meet-meet-requires t c κs = let u = c .before .before .before .before .before .before .before .before .before .before .pre in
     let z = u .1 in
     let v = c .before .before .before .before .before .before .before .loop in
-    let fork = told-fork (c .before .before .before .before .before .before .before .before .before .before .args .table .now) (c .before .before .before .before .before .word-at .result) _ (c .before .before .word-at2 .ensures) (c .before .if1 .taken) in (
-      omega (arith, u .0, v .inv .2, fork-above (fork-at z) (z .fork)),
-      son-fork (v .q) _ _ _ _ _ (omega arith) (c .before .before .before .before .before .word-at .ensures) (v .inv .2) (c .before .before .before .before .of-son .ensures) (c .before .before .before .of-son2 .ensures) (v .inv .3) fork z,
+    let fork = told-fork (c .before .before .before .before .before .before .before .before .before .before .args .table .now) (c .before .before .before .before .before .word-at .result) _ (c .before .before .before .before .word-at2 .ensures) (c .before .before .before .if1 .taken) in (
+      omega (arith, u .0, v .inv .2, fork-above (z .place) (z .fork)),
+      fork-facing (v .quadrant) _ _ _ (omega arith) (c .before .before .before .before .before .word-at .ensures) (v .inv .2) (v .inv .3) _ _ (c .before .before .of-son .ensures) (c .before .of-son2 .ensures) fork z,
     )
 
 meet-loop-less : (t : ℕ) → meet-lts.Need-loop-less (calls t) (meet-at t) meet.Post meet-Inv-loop meet-μ-loop
@@ -80,36 +78,59 @@ meet-loop-less t c = omega arith
 
 meet-loop-again : (t : ℕ) → meet-lts.Need-loop-again (calls t) (meet-at t) meet.Post meet-Inv-loop meet-μ-loop
 meet-loop-again t c = let v = c .before .before .before .before .before .before .before .before .before .before .loop in
-    let fork = told-fork (c .before .before .before .before .before .before .before .before .before .before .before .before .before .args .table .now) (c .before .before .before .before .before .before .before .before .word-at .result) _ (c .before .before .before .before .before .word-at2 .ensures) (c .before .before .before .before .if1 .taken) in (
+    let fork = told-fork (c .before .before .before .before .before .before .before .before .before .before .before .before .before .args .table .now) (c .before .before .before .before .before .before .before .before .word-at .result) _ (c .before .before .before .before .before .before .before .word-at2 .ensures) (c .before .before .before .before .before .before .if1 .taken) in (
       omega arith,
       c .before .before .meet .kept .1 .0 ∙ v .inv .1,
       v .inv .2,
-      fork-more (v .q) _ _ _ _ _ (omega arith) (c .before .before .before .before .before .before .before .before .word-at .ensures) (v .inv .2) (c .before .before .before .before .before .before .before .of-son .ensures) (c .before .before .before .before .before .before .of-son2 .ensures) (v .inv .3) _ fork (c .before .before .meet .ensures),
+      fork-more (v .quadrant) _ _ _ (omega arith) (c .before .before .before .before .before .before .before .before .word-at .ensures) (v .inv .2) (v .inv .3) _ _ (c .before .before .before .before .before .of-son .ensures) (c .before .before .before .before .of-son2 .ensures) _ fork
+          (c .before .before .meet .ensures),
     )
 
-meet-around-requires : (t : ℕ) → meet-lts.Need-around-requires (calls t) (meet-at t) meet.Post meet-Inv-loop meet-μ-loop
-meet-around-requires t c κs = let v = c .before .before .before .before .before .before .before .loop in (
-  son-facing (v .q) _ _ _ _ _ (omega arith) (c .before .before .before .before .before .word-at .ensures) (v .inv .2) (c .before .before .before .before .of-son .ensures) (c .before .before .before .of-son2 .ensures) (v .inv .3) (c .before .before .before .before .before .before .before .before .before .before .pre .1),
-  c .before .before .word-at2 .ensures,
-)
+meet-of-son-requires-3 : (t : ℕ) → meet-lts.Need-of-son-requires-3 (calls t) (meet-at t) meet.Post meet-Inv-loop meet-μ-loop
+meet-of-son-requires-3 t c κs = let z = c .before .before .before .before .before .before .before .before .before .pre .1 in
+    (z .place .node, found-in (z .place) 1 (omega arith, omega arith) _ (z .east), omega arith, (omega arith, omega arith))
+
+meet-across-requires : (t : ℕ) → meet-lts.Need-across-requires (calls t) (meet-at t) meet.Post meet-Inv-loop meet-μ-loop
+meet-across-requires t c κs = let v = c .before .before .before .before .before .before .before .loop in
+    east-along (v .quadrant) _ _ _ (omega arith) (c .before .before .before .before .before .word-at .ensures) (v .inv .2) (v .inv .3) _ (c .before .before .before .before .word-at2 .ensures) (c .before .before .if2 .taken) _ (c .of-son3 .ensures) (c .before .before .before .before .before .before .before .before .before .before .pre .1)
+
+meet-of-son-requires-4 : (t : ℕ) → meet-lts.Need-of-son-requires-4 (calls t) (meet-at t) meet.Post meet-Inv-loop meet-μ-loop
+meet-of-son-requires-4 t c κs = let z = c .before .before .before .before .before .before .before .before .before .before .before .before .before .before .pre .1 in
+    (z .place .node, found-in (z .place) 2 (omega arith, omega arith) _ (z .south), omega arith, (omega arith, omega arith))
+
+meet-across-requires-2 : (t : ℕ) → meet-lts.Need-across-requires-2 (calls t) (meet-at t) meet.Post meet-Inv-loop meet-μ-loop
+meet-across-requires-2 t c κs = let v = c .before .before .before .before .before .before .before .before .before .before .before .before .loop in
+    south-along (v .quadrant) _ _ _ (omega arith) (c .before .before .before .before .before .before .before .before .before .before .word-at .ensures) (v .inv .2) (v .inv .3) _ (c .before .before .before .before .before .before .before .before .before .word-at2 .ensures) (c .before .before .before .before .before .before .before .if2 .taken) _ (c .before .before .before .before .before .of-son3 .ensures) _
+    (c .before .before .before .before .across .ensures) _ (c .of-son4 .ensures) (c .before .before .before .before .before .before .before .before .before .before .before .before .before .before .before .pre .1)
 
 meet-loop-less-2 : (t : ℕ) → meet-lts.Need-loop-less-2 (calls t) (meet-at t) meet.Post meet-Inv-loop meet-μ-loop
 meet-loop-less-2 t c = omega arith
 
 meet-loop-again-2 : (t : ℕ) → meet-lts.Need-loop-again-2 (calls t) (meet-at t) meet.Post meet-Inv-loop meet-μ-loop
-meet-loop-again-2 t c = let v = c .before .before .before .before .before .before .before .before .before .before .loop in
-    let leaf = told-leaf (c .before .before .before .before .before .before .before .before .before .before .before .before .before .args .table .now) (c .before .before .before .before .before .before .before .before .word-at .result) _ (c .before .before .before .before .before .word-at2 .ensures) (c .before .before .before .before .if1 .left) in (
-      omega arith,
-      c .before .before .around .kept .1 .0 ∙ v .inv .1,
-      v .inv .2,
-      leaf-more (v .q) _ _ _ _ _ (omega arith) (c .before .before .before .before .before .before .before .before .word-at .ensures) (v .inv .2) (c .before .before .before .before .before .before .before .of-son .ensures) (c .before .before .before .before .before .before .of-son2 .ensures) (v .inv .3) _ leaf (c .before .before .around .ensures),
-    )
+meet-loop-again-2 t c = let v = c .before .before .before .before .before .before .before .before .before .before .before .before .before .before .before .loop in (
+  omega arith,
+  c .before .before .across2 .kept .1 .0 ∙ (c .before .before .before .before .before .before .before .across .kept .1 .0 ∙ v .inv .1),
+  v .inv .2,
+  black-more (v .quadrant) _ _ _ (omega arith) (c .before .before .before .before .before .before .before .before .before .before .before .before .before .word-at .ensures) (v .inv .2) (v .inv .3) _ (c .before .before .before .before .before .before .before .before .before .before .before .before .word-at2 .ensures) (c .before .before .before .before .before .before .before .before .before .before .if2 .taken) _ (c .before .before .before .before .before .before .before .before .of-son3 .ensures) _
+      (c .before .before .before .before .before .before .before .across .ensures) _ (c .before .before .before .of-son4 .ensures) _ (c .before .before .across2 .ensures),
+)
+
+meet-loop-less-3 : (t : ℕ) → meet-lts.Need-loop-less-3 (calls t) (meet-at t) meet.Post meet-Inv-loop meet-μ-loop
+meet-loop-less-3 t c = omega arith
+
+meet-loop-again-3 : (t : ℕ) → meet-lts.Need-loop-again-3 (calls t) (meet-at t) meet.Post meet-Inv-loop meet-μ-loop
+meet-loop-again-3 t c = let v = c .before .before .before .before .before .loop in (
+  omega arith,
+  v .inv .1,
+  v .inv .2,
+  other-more (v .quadrant) _ _ _ (omega arith) (c .before .before .before .word-at .ensures) (v .inv .2) (v .inv .3) _ (c .before .before .word-at2 .ensures) (c .before .if1 .left) (c .if2 .left),
+)
 
 meet-same-length : (t : ℕ) → meet-lts.Need-same-length (calls t) (meet-at t) meet.Post meet-Inv-loop meet-μ-loop
 meet-same-length t c = c .before .loop .inv .1
 
 meet-returns : (t : ℕ) → meet-lts.Need-returns (calls t) (meet-at t) meet.Post meet-Inv-loop meet-μ-loop
-meet-returns t c = let v = c .before .loop in first-all (v .q) _ (v .inv .0) (omega arith) (v .inv .3)
+meet-returns t c = let v = c .before .loop in first-all (v .quadrant) _ (v .inv .0) (omega arith) (v .inv .3)
 
 pub +meet-spec : {M : Type 1} → statement M
 +meet-spec = close μ-meet λ t. meet-lts.spec (calls t)
@@ -121,15 +142,20 @@ pub +meet-spec : {M : Type 1} → statement M
     (meet-loop-holds t)
     (meet-add-word-at t)
     (meet-word-at-requires t)
+    (meet-word-at-requires-2 t)
+    (meet-add-quadrant t)
     (meet-of-son-requires t)
     (meet-of-son-requires-2 t)
-    (meet-word-at-requires-2 t)
-    (meet-add-q t)
     (meet-meet-requires t)
     (meet-loop-less t)
     (meet-loop-again t)
-    (meet-around-requires t)
+    (meet-of-son-requires-3 t)
+    (meet-across-requires t)
+    (meet-of-son-requires-4 t)
+    (meet-across-requires-2 t)
     (meet-loop-less-2 t)
     (meet-loop-again-2 t)
+    (meet-loop-less-3 t)
+    (meet-loop-again-3 t)
     (meet-same-length t)
     (meet-returns t)

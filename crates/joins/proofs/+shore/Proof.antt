@@ -1,11 +1,14 @@
--- `joins::shore`: a black leaf is joined, and a fork's pixels along the side are those of its two sons at the near edge. The measure is the level.
--- Assumes nothing.
-use mathlib.Core.Path.{_∙_}
-use Prim.Native.Nat.{ℕ, _<_}
+-- `joins::shore`: of the fork's two sons at the near edge the first k have been gone through. The measure is the level; the loop's, the sons left. Assumes
+-- nothing.
+use mathlib.Core.Path.{_≡_, refl, _∙_}
 use native.Mathlib.Omega.{arith}
+use lib.ListN.{length}
+use Rattle.table.proofs.AcceptedLaws.{fork-above}
+use Rattle.table.proofs.SeenLaws.{told-fork}
+use Rattle.joins.proofs.MeetLaws.{NearMet, near-small, near-none, near-ashore, near-more, near-all, reached-other, reached-black}
+use Prim.Native.Nat.{ℕ, _-_, _≤_, _<_}
 use borrow.Fn.Kinds.{In}
 use borrow.Fn.PlainCycle.{Measures, is, falls, and}
-use Rattle.joins.proofs.MeetLaws.{ashore-level, ashore-first, ashore-second, reached-other, reached-black, reached-fork}
 use Rattle.joins.proofs.shore.Reads as shore
 use Rattle.joins.proofs.shore.Kinds as shore-kinds
 use Rattle.joins.proofs.+shore.Lts-shore as shore-lts
@@ -26,94 +29,134 @@ shore-below t = and 2 shore-kinds.ps (falls 2 shore-kinds.ps _<_ μ-shore t) sho
 abbrev calls : ℕ → shore-lts.Claims
 calls t = (word-at-reads.Asked, word-at-reads.Learnt, shore-below t, shore.Post, join-reads.Asked, join-reads.Learnt)
 
-shore-word-at-requires : (t : ℕ) → shore-lts.Need-word-at-requires (calls t) (shore-at t) shore.Post
-shore-word-at-requires t c κs = (c .before .before .pre .1 .bank .place .node, omega arith)
+abbrev shore-Inv-loop : shore-lts.InvT-loop
+shore-Inv-loop table words₀ p node level side half far k₀ words k =
+    (k ≤ 2) × (length words ≡ length words₀) × (half ≡ level - 1) × (far ≡ 3 - side) × NearMet table words₀ p node level side k words
 
-shore-sub-half : (t : ℕ) → shore-lts.Need-sub-half (calls t) (shore-at t) shore.Post
-shore-sub-half t c =
-    omega (arith, ashore-level (c .before .before .before .before .pre .1) _ (c .before .word-at .ensures) (c .if1 .taken))
+abbrev shore-μ-loop : shore-lts.MeasureT-loop
+shore-μ-loop table words₀ p node level side half far k₀ words k = 2 - k
 
-shore-sub-far : (t : ℕ) → shore-lts.Need-sub-far (calls t) (shore-at t) shore.Post
-shore-sub-far t c = omega (arith, c .before .before .before .before .pre .1 .bank .way .1)
+shore-sub-half : (t : ℕ) → shore-lts.Need-sub-half (calls t) (shore-at t) shore.Post shore-Inv-loop shore-μ-loop
+shore-sub-half t c = let z = c .before .before .pre .1 in omega (arith, fork-above (z .0 .bank .place) (z .1))
 
-shore-word-at-requires-2 : (t : ℕ) → shore-lts.Need-word-at-requires-2 (calls t) (shore-at t) shore.Post
-shore-word-at-requires-2 t c κs = (c .before .before .before .before .pre .1 .bank .place .node, omega arith)
+shore-sub-far : (t : ℕ) → shore-lts.Need-sub-far (calls t) (shore-at t) shore.Post shore-Inv-loop shore-μ-loop
+shore-sub-far t c = omega (arith, c .before .before .pre .1 .0 .bank .way .1)
 
-shore-add-word-at : (t : ℕ) → shore-lts.Need-add-word-at (calls t) (shore-at t) shore.Post
-shore-add-word-at t c = omega arith
+shore-loop-holds : (t : ℕ) → shore-lts.Need-loop-holds (calls t) (shore-at t) shore.Post shore-Inv-loop shore-μ-loop
+shore-loop-holds t c = (omega arith, refl, refl, refl, near-none)
 
-shore-word-at-requires-3 : (t : ℕ) → shore-lts.Need-word-at-requires-3 (calls t) (shore-at t) shore.Post
-shore-word-at-requires-3 t c κs = let h = c .before .before .before .before .before .pre .1 .bank in (h .place .node, omega (arith, h .way .0))
+shore-mul-word-at : (t : ℕ) → shore-lts.Need-mul-word-at (calls t) (shore-at t) shore.Post shore-Inv-loop shore-μ-loop
+shore-mul-word-at t c = let v = c .before .loop in omega (arith, near-small (v .k) _ (omega arith) (v .inv .3) (c .before .before .before .before .pre .1 .0 .bank .way))
 
-shore-shore-requires : (t : ℕ) → shore-lts.Need-shore-requires (calls t) (shore-at t) shore.Post
-shore-shore-requires t c κs =
-    let w = c .before in
-    let f = w .before .before in
-    let h = f .before .before .before .before .pre in
-    let is = f .before .word-at .ensures in
-    (omega (arith, h .0, ashore-level (h .1) _ is (f .if1 .taken)), ashore-first (h .1) _ is (f .if1 .taken) _ (w .before .word-at2 .ensures))
+shore-add-word-at : (t : ℕ) → shore-lts.Need-add-word-at (calls t) (shore-at t) shore.Post shore-Inv-loop shore-μ-loop
+shore-add-word-at t c = let v = c .before .loop in omega (arith, near-small (v .k) _ (omega arith) (v .inv .3) (c .before .before .before .before .pre .1 .0 .bank .way))
 
-shore-shore-requires-2 : (t : ℕ) → shore-lts.Need-shore-requires-2 (calls t) (shore-at t) shore.Post
-shore-shore-requires-2 t c κs =
-    let w = c .before .before .before .before .before in
-    let f = w .before .before in
-    let h = f .before .before .before .before .pre in
-    let is = f .before .word-at .ensures in (
-      omega (arith, h .0, ashore-level (h .1) _ is (f .if1 .taken)),
-      ashore-second (h .1) _ is (f .if1 .taken) _ _ _ _ (w .before .word-at2 .ensures) (omega arith) (w .word-at3 .ensures)
-          (c .before .before .before .shore .ensures),
+shore-word-at-requires : (t : ℕ) → shore-lts.Need-word-at-requires (calls t) (shore-at t) shore.Post shore-Inv-loop shore-μ-loop
+shore-word-at-requires t c κs = let v = c .before .loop in
+    let z = c .before .before .before .before .pre .1 .0 .bank in
+    (z .place .node, omega (arith, near-small (v .k) _ (omega arith) (v .inv .3) (z .way)))
+
+shore-word-at-requires-2 : (t : ℕ) → shore-lts.Need-word-at-requires-2 (calls t) (shore-at t) shore.Post shore-Inv-loop shore-μ-loop
+shore-word-at-requires-2 t c κs = let v = c .before .before .loop in
+    let z = c .before .before .before .before .before .pre .1 in
+    (near-ashore (z .1) (v .k) _ _ _ _ (omega arith) (v .inv .3) (v .inv .2) (c .word-at .ensures) (v .inv .4) (z .0) .bank .place .node, omega arith)
+
+shore-add-k : (t : ℕ) → shore-lts.Need-add-k (calls t) (shore-at t) shore.Post shore-Inv-loop shore-μ-loop
+shore-add-k t c = omega arith
+
+shore-shore-requires : (t : ℕ) → shore-lts.Need-shore-requires (calls t) (shore-at t) shore.Post shore-Inv-loop shore-μ-loop
+shore-shore-requires t c κs = let u = c .before .before .before .before .before .before .before .before .pre in
+    let z = u .1 in
+    let v = c .before .before .before .before .before .loop in (
+      omega (arith, u .0, v .inv .2, fork-above (z .0 .bank .place) (z .1)),
+      (
+        near-ashore (z .1) (v .k) _ _ _ _ (omega arith) (v .inv .3) (v .inv .2) (c .before .before .before .word-at .ensures) (v .inv .4) (z .0),
+        told-fork (c .before .before .before .before .before .before .before .before .args .table .now) (c .before .before .before .word-at .result) _ (c .before .before .word-at2 .ensures) (c .before .if1 .taken),
+      ),
     )
 
-shore-same-length : (t : ℕ) → shore-lts.Need-same-length (calls t) (shore-at t) shore.Post
-shore-same-length t c = c .before .before .shore2 .kept .1 .0 ∙ c .before .before .before .before .before .before .shore .kept .1 .0
+shore-loop-less : (t : ℕ) → shore-lts.Need-loop-less (calls t) (shore-at t) shore.Post shore-Inv-loop shore-μ-loop
+shore-loop-less t c = omega arith
 
-shore-returns : (t : ℕ) → shore-lts.Need-returns (calls t) (shore-at t) shore.Post
-shore-returns t c =
-    let w = c .before .before .before .before .before .before .before .before in
-    let f = w .before .before in
-    reached-fork _ (f .before .word-at .ensures) _ _ _ _ _ _ (f .if1 .taken) (w .before .word-at2 .ensures) (omega arith) (w .word-at3 .ensures)
-    (c .before .before .before .before .before .before .shore .ensures)
-    (c .before .before .shore2 .ensures)
+shore-loop-again : (t : ℕ) → shore-lts.Need-loop-again (calls t) (shore-at t) shore.Post shore-Inv-loop shore-μ-loop
+shore-loop-again t c = let v = c .before .before .before .before .before .before .before .before .loop in (
+  omega arith,
+  c .before .before .shore .kept .1 .0 ∙ v .inv .1,
+  v .inv .2,
+  v .inv .3,
+  near-more (c .before .before .before .before .before .before .before .before .before .before .before .pre .1 .1) (v .k) _ _ _ _ (omega arith) (v .inv .3) (v .inv .2) (c .before .before .before .before .before .before .word-at .ensures) (v .inv .4) _ (c .before .before .shore .ensures),
+)
 
-shore-cast-join : (t : ℕ) → shore-lts.Need-cast-join (calls t) (shore-at t) shore.Post
-shore-cast-join t c = let h = c .before .before .before .before .before .before .pre .1 .bank in omega (arith, h .place .accepted .sized .few, h .water .node)
+shore-cast-join : (t : ℕ) → shore-lts.Need-cast-join (calls t) (shore-at t) shore.Post shore-Inv-loop shore-μ-loop
+shore-cast-join t c = let z = c .before .before .before .before .before .before .before .before .before .pre .1 .0 .bank in omega (arith, z .place .accepted .sized .few, z .water .node)
 
-shore-cast-join-2 : (t : ℕ) → shore-lts.Need-cast-join-2 (calls t) (shore-at t) shore.Post
-shore-cast-join-2 t c = let h = c .before .before .before .before .before .before .pre .1 .bank in omega (arith, h .place .accepted .sized .few, h .place .node)
+shore-cast-join-2 : (t : ℕ) → shore-lts.Need-cast-join-2 (calls t) (shore-at t) shore.Post shore-Inv-loop shore-μ-loop
+shore-cast-join-2 t c = let v = c .before .before .before .before .before .before .loop in
+    let z = c .before .before .before .before .before .before .before .before .before .pre .1 in
+    let son = near-ashore (z .1) (v .k) _ _ _ _ (omega arith) (v .inv .3) (v .inv .2) (c .before .before .before .before .word-at .ensures) (v .inv .4) (z .0) in
+    omega (arith, son .bank .place .accepted .sized .few, son .bank .place .node)
 
-shore-join-requires : (t : ℕ) → shore-lts.Need-join-requires (calls t) (shore-at t) shore.Post
-shore-join-requires t c κs =
-    let h = c .before .before .before .before .before .before .pre .1 in
-    (omega (arith, h .wired .each, h .bank .water .node), omega (arith, h .wired .each, h .bank .place .node), h .wired .falling)
+shore-join-requires : (t : ℕ) → shore-lts.Need-join-requires (calls t) (shore-at t) shore.Post shore-Inv-loop shore-μ-loop
+shore-join-requires t c κs = let v = c .before .before .before .before .before .before .loop in
+    let z = c .before .before .before .before .before .before .before .before .before .pre .1 in
+    let son = near-ashore (z .1) (v .k) _ _ _ _ (omega arith) (v .inv .3) (v .inv .2) (c .before .before .before .before .word-at .ensures) (v .inv .4) (z .0) in
+    (omega (arith, son .wired .each, son .bank .water .node), omega (arith, son .wired .each, son .bank .place .node), son .wired .falling)
 
-shore-same-length-2 : (t : ℕ) → shore-lts.Need-same-length-2 (calls t) (shore-at t) shore.Post
-shore-same-length-2 t c = c .before .before .join .kept .0
+shore-loop-less-2 : (t : ℕ) → shore-lts.Need-loop-less-2 (calls t) (shore-at t) shore.Post shore-Inv-loop shore-μ-loop
+shore-loop-less-2 t c = omega arith
 
-shore-returns-2 : (t : ℕ) → shore-lts.Need-returns-2 (calls t) (shore-at t) shore.Post
-shore-returns-2 t c =
-    let b = c .before .before .before .before in
-    reached-black _ (b .before .before .word-at .ensures) _ _ (b .if2 .taken) (c .before .before .join .ensures)
+shore-loop-again-2 : (t : ℕ) → shore-lts.Need-loop-again-2 (calls t) (shore-at t) shore.Post shore-Inv-loop shore-μ-loop
+shore-loop-again-2 t c = let v = c .before .before .before .before .before .before .before .before .before .loop in (
+  omega arith,
+  c .before .before .join .kept .0 ∙ v .inv .1,
+  v .inv .2,
+  v .inv .3,
+  near-more (c .before .before .before .before .before .before .before .before .before .before .before .before .pre .1 .1) (v .k) _ _ _ _ (omega arith) (v .inv .3) (v .inv .2) (c .before .before .before .before .before .before .before .word-at .ensures) (v .inv .4) _
+      (reached-black _ (c .before .before .before .before .before .before .word-at2 .ensures) _ _ (c .before .before .before .before .if2 .taken) (c .before .before .join .ensures)),
+)
 
-shore-returns-3 : (t : ℕ) → shore-lts.Need-returns-3 (calls t) (shore-at t) shore.Post
-shore-returns-3 t c = reached-other _ (c .before .before .word-at .ensures) _ (c .before .if1 .left) (c .if2 .left)
+shore-loop-less-3 : (t : ℕ) → shore-lts.Need-loop-less-3 (calls t) (shore-at t) shore.Post shore-Inv-loop shore-μ-loop
+shore-loop-less-3 t c = omega arith
+
+shore-loop-again-3 : (t : ℕ) → shore-lts.Need-loop-again-3 (calls t) (shore-at t) shore.Post shore-Inv-loop shore-μ-loop
+shore-loop-again-3 t c = let v = c .before .before .before .before .before .loop in (
+  omega arith,
+  v .inv .1,
+  v .inv .2,
+  v .inv .3,
+  near-more (c .before .before .before .before .before .before .before .before .pre .1 .1) (v .k) _ _ _ _ (omega arith) (v .inv .3) (v .inv .2) (c .before .before .before .word-at .ensures) (v .inv .4) _
+      (reached-other _ (c .before .before .word-at2 .ensures) _ (c .before .if1 .left) (c .if2 .left)),
+)
+
+shore-same-length : (t : ℕ) → shore-lts.Need-same-length (calls t) (shore-at t) shore.Post shore-Inv-loop shore-μ-loop
+shore-same-length t c = c .before .loop .inv .1
+
+shore-returns : (t : ℕ) → shore-lts.Need-returns (calls t) (shore-at t) shore.Post shore-Inv-loop shore-μ-loop
+shore-returns t c = let v = c .before .loop in near-all (c .before .before .before .before .pre .1 .1) (v .k) _ (v .inv .0) (omega arith) (v .inv .4)
 
 pub +shore-spec : {M : Type 1} → statement M
 +shore-spec = close μ-shore λ t. shore-lts.spec (calls t)
     (shore-at t)
     shore.Post
-    (shore-word-at-requires t)
+    shore-Inv-loop
+    shore-μ-loop
     (shore-sub-half t)
     (shore-sub-far t)
-    (shore-word-at-requires-2 t)
+    (shore-loop-holds t)
+    (shore-mul-word-at t)
     (shore-add-word-at t)
-    (shore-word-at-requires-3 t)
+    (shore-word-at-requires t)
+    (shore-word-at-requires-2 t)
+    (shore-add-k t)
     (shore-shore-requires t)
-    (shore-shore-requires-2 t)
-    (shore-same-length t)
-    (shore-returns t)
+    (shore-loop-less t)
+    (shore-loop-again t)
     (shore-cast-join t)
     (shore-cast-join-2 t)
     (shore-join-requires t)
-    (shore-same-length-2 t)
-    (shore-returns-2 t)
-    (shore-returns-3 t)
+    (shore-loop-less-2 t)
+    (shore-loop-again-2 t)
+    (shore-loop-less-3 t)
+    (shore-loop-again-3 t)
+    (shore-same-length t)
+    (shore-returns t)
