@@ -1,8 +1,8 @@
--- Meeting a leaf and settling a node, by their cases in the code.
+-- Meeting a leaf, by its cases in the code.
 use mathlib.Core.List.{List}
 use mathlib.Core.Logic.{⊎-elim}
 use mathlib.Core.Path.{_≡_, sym, _∙_}
-use Prim.Native.Nat.{ℕ, _+_, _-_, _≤_, _<_}
+use Prim.Native.Nat.{ℕ, _+_, _≤_, _<_}
 use native.Mathlib.Omega.{arith}
 use lib.ListN.{length, set}
 use borrow.Author.Tests.{eq-eqb, ne-eqb, lt-ltb, le-ltb}
@@ -10,7 +10,7 @@ use Rattle.base.proofs.BoolLaws.{lt-or-ge}
 use Rattle.quad.specs.Numbers.{black}
 use Rattle.table.specs.Table.{type}
 use Rattle.joins.specs.Led.{wordOf}
-use Rattle.ponds.specs.Counted.{leadOf, metCount, metWords, Met, Settles, settledAt}
+use Rattle.ponds.specs.Counted.{leadOf, metCount, metWords, Met}
 
 -- a leader is a node
 pub lead-below : (W : List ℕ) (p l m : ℕ) → l ≡ leadOf W p → p < m → length W ≡ m → l < length W
@@ -27,10 +27,6 @@ module _ (T W : List ℕ) (p kind : ℕ) (is : kind ≡ type T p) where
   unfolding metCount metWords
   meet-white k z = let e = ne-eqb (type T p) black (λ q. z (is ∙ q)) in record { count = rw e; words = rw e }
 
-  pub settle-white : (kind ≡ black → ⊥) → W ≡ settledAt T W p
-  unfolding settledAt
-  settle-white z = rw (ne-eqb (type T p) black (λ q. z (is ∙ q)))
-
   module _ (wet : kind ≡ black) (l : ℕ) (lead : l ≡ leadOf W p) where
     -- a black one whose leader has a number, or has none
     pub meet-old : (k : ℕ) → length W ≤ wordOf W l → Met T W p k k W
@@ -46,10 +42,3 @@ module _ (T W : List ℕ) (p kind : ℕ) (is : kind ≡ type T p) where
         let e = eq-eqb (type T p) black (sym is ∙ wet) in
         let f = lt-ltb (wordOf W (leadOf W p)) (length W) (rw lead at h) in
         record { count = rw (e, f); words = rw (e, f, lead) }
-
-    pub settle-black : set W p (wordOf W l - length W) ≡ settledAt T W p
-    unfolding settledAt
-    settle-black = rw (eq-eqb (type T p) black (sym is ∙ wet), lead)
-
-    pub settle-some : Settles T W p → length W ≤ wordOf W l
-    settle-some h = rw lead (h .some (record { node = h .node; wet = sym is ∙ wet }))

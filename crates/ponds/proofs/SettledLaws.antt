@@ -1,91 +1,63 @@
--- Settling: once every leader has its number, each black leaf's word becomes its leader's number, from the last node to the first, so that the leader's word,
+-- Settling: once every leader has its number, each word becomes its leader's number, from the last node to the first, so that the leader's word,
 -- which stands no higher, is still as it was. The numbers are then those of the sheet's ponds.
 use mathlib.Core.Bool.{true, false}
 use mathlib.Core.List.{List}
 use mathlib.Core.Logic.{⊎-elim}
 use mathlib.Core.Path.{_≡_, refl, ap, _∙_}
 use Prim.Native.Nat.{ℕ, _+_, _-_, _^_, _≤_, _<_}
-use native.Mathlib.Nat.{eq-or-lt-of-le}
+use native.Mathlib.Nat.{eq-or-lt-of-le, eq-zero-or-pos}
 use native.Mathlib.Omega.{arith}
 use lib.Dec.{eqb}
 use lib.ListN.{length, set, length-set}
 use lib.Seq.{getD-set-same, getD-set-other}
-use borrow.Author.Tests.{eqb-true, eqb-false, eq-eqb, ne-eqb}
+use borrow.Author.Tests.{eqb-true, eqb-false, lt-ltb}
 use Rattle.base.proofs.BoolLaws.{by-bool, lt-or-ge}
-use Rattle.base.proofs.CaseLaws.{cond-case}
-use Rattle.quad.specs.Numbers.{black}
-use Rattle.table.specs.Table.{nodes, type}
+use Rattle.quad.specs.Numbers.{black, forkType}
+use Rattle.table.specs.Table.{nodes, father, type, isFork}
 use Rattle.table.specs.Rules.{Accepted}
+use Rattle.table.proofs.AcceptedLaws.{father-below, father-fork}
 use Rattle.joins.specs.Chain.{Water}
 use Rattle.joins.specs.Led.{wordOf, Led}
 use Rattle.joins.proofs.ChainLaws.{chain-start, chain-end}
 use Rattle.register.specs.Entries.{leafAt, numberAt}
 use Rattle.ponds.specs.Numbered.{Numbered}
-use Rattle.ponds.specs.Counted.{leadOf, Marked, Counted, Counting, numberOf, Tells, settledAt, Settles, Settled}
+use Rattle.ponds.specs.Counted.{leadOf, Marked, Counted, Counting, numberOf, Tells, Settled}
 use Rattle.ponds.proofs.LeafLaws.{black-leaf, leaf-node, leaf-pixel}
 use Rattle.ponds.proofs.CountedLaws.{lead-is}
 
 -- no node is settled at the start
-pub settled-none : (T W : List ℕ) → length W ≡ nodes T → Settled T W W (length W)
-settled-none T W e = record { size = refl; done = λ q le lt. absurd (omega arith); left = λ q l. refl }
+pub settled-none : (W : List ℕ) → Settled W W (length W)
+settled-none W = record { size = refl; done = λ q le lt. absurd (omega arith); left = λ q l. refl }
 
 -- all are once p has fallen to 0
-pub settled-all : {T B W : List ℕ} {p : ℕ} → Settled T B W p → p ≤ 0 → Settled T B W 0
+pub settled-all : {B W : List ℕ} {p : ℕ} → Settled B W p → p ≤ 0 → Settled B W 0
 settled-all s h = record { size = s .size; done = λ q le lt. s .done q (omega arith) lt; left = λ q l. absurd (omega arith) }
 
--- the next node down
-pub next-down : {T B W : List ℕ} {p : ℕ} → Settled T B W p → 0 < p → Settled T B W (p - 1 + 1)
-next-down {p} s pos =
-    let e : p - 1 + 1 ≡ p = omega arith in
-    rw e s
+-- the next node down: its leader's word is as it was
+pub settled-one : {B W : List ℕ} {p : ℕ} → Tells B → 0 < p → p ≤ length B → (v : ℕ) → v ≡ numberOf W (p - 1) → Settled B W p → Settled B (set W (p - 1) v) (p - 1)
+unfolding numberOf leadOf
+settled-one {B} {W} {p} t pos le v e s =
+    let q : ℕ = p - 1 in
+    let lead : leadOf W q ≡ leadOf B q = rw (s .left q (omega arith), s .size) in
+    let is : v ≡ numberOf B q = e ∙ rw (lead, s .left (leadOf B q) (omega (arith, t .low q (omega arith))), s .size) in
+    record {
+      size = length-set W q v ∙ s .size;
+      done = λ r le lr.
+          ⊎-elim
+          (λ (same : q ≡ r). rw (← same) (getD-set-same W q v 0 (rw (s .size) (omega arith)) ∙ is))
+          (λ (l : q < r). getD-set-other W q r v 0 (λ z. omega arith) ∙ s .done r (omega arith) lr)
+          (eq-or-lt-of-le le);
+      left = λ r l. getD-set-other W q r v 0 (λ z. omega arith) ∙ s .left r (omega arith);
+    }
 
--- one node more, from the last to the first
-module _ (T B W : List ℕ) (p : ℕ) (t : Tells T B) (lt : p < nodes T) (s : Settled T B W (p + 1)) where
-  same-lead : leadOf W p ≡ leadOf B p
-  unfolding leadOf
-  same-lead = rw (s .left p (omega arith), s .size)
+-- a number, by the code's cases
+pub number-none : (W : List ℕ) (p l : ℕ) → l ≡ leadOf W p → wordOf W l < length W → 0 ≡ numberOf W p
+unfolding numberOf
+number-none W p l e h = rw (← e) (omega arith)
 
-  -- its leader's word is as it was
-  lead-word : Water T p → wordOf W (leadOf W p) ≡ wordOf B (leadOf B p)
-  lead-word w = rw same-lead (s .left (leadOf B p) (omega (arith, t .low p w)))
-
-  pub settles : Settles T W p
-  settles = record { node = lt; size = s .size ∙ t .size; few = t .few; some = λ w. rw (lead-word w, s .size) (t .some p w) }
-
-  settled-black : (type T p ≡ black) → Settled T B (set W p (wordOf W (leadOf W p) - length W)) p
-  unfolding numberOf
-  settled-black e =
-      let w : Water T p = record { node = lt; wet = e } in
-      let v : ℕ = wordOf W (leadOf W p) - length W in
-      record {
-        size = length-set W p v ∙ s .size;
-        done = λ q le lq.
-            ⊎-elim
-            (λ (same : p ≡ q).
-            rw (← same) (getD-set-same W p v 0 (rw (s .size, t .size) lt) ∙ rw (eq-eqb (type T p) black e, lead-word w, s .size)))
-            (λ (l : p < q). getD-set-other W p q v 0 (λ z. omega arith) ∙ s .done q (omega arith) lq)
-            (eq-or-lt-of-le le);
-        left = λ q l. getD-set-other W p q v 0 (λ z. omega arith) ∙ s .left q (omega arith);
-      }
-
-  settled-dry : (type T p ≡ black → ⊥) → Settled T B W p
-  unfolding numberOf
-  settled-dry z = record {
-    size = s .size;
-    done = λ q le lq.
-        ⊎-elim
-        (λ (same : p ≡ q). rw (← same) (rw (ne-eqb (type T p) black z) (s .left p (omega arith) ∙ t .dry p lt z)))
-        (λ (l : p < q). s .done q (omega arith) lq)
-        (eq-or-lt-of-le le);
-    left = λ q l. s .left q (omega arith);
-  }
-
-  pub settled-one : Settled T B (settledAt T W p) p
-  unfolding settledAt
-  settled-one =
-      cond-case (λ (U : List ℕ). Settled T B U p) (eqb (type T p) black) _ _
-      (λ e. settled-black (eqb-true (type T p) black e))
-      (λ e. settled-dry (eqb-false (type T p) black e))
+pub number-some : (W : List ℕ) (p l : ℕ) → l ≡ leadOf W p → wordOf W l - length W ≡ numberOf W p
+unfolding numberOf
+number-some W p l e = rw e
 
 -- when all pixels are passed
 module _ (n : ℕ) (T first W : List ℕ) (k : ℕ) (acc : Accepted n T) (led : Led n T first) (c : Counted n T first W (4 ^ n) k) where
@@ -104,26 +76,49 @@ module _ (n : ℕ) (T first W : List ℕ) (k : ℕ) (acc : Accepted n T) (led : 
       (λ (g : nodes T ≤ wordOf W p). absurd (z (c .above p lt g .water .wet)))
       (lt-or-ge (wordOf W p) (nodes T))
 
-  all-tell : Tells T W
+  -- and so tells the root
+  tells-root : (p : ℕ) → p < nodes T → (type T p ≡ black → ⊥) → leadOf W p ≡ 0
+  unfolding leadOf
+  tells-root p lt z = rw (stays-dry p lt z, lt-ltb 0 (length W) (omega (arith, c .size)))
+
+  all-tell : Tells W
   all-tell = record {
-    size = c .size;
-    few = omega (arith, acc .sized .few);
-    dry = stays-dry;
-    low = λ p w. rw (lead-is n T first led W (4 ^ n) k c p w) (led .low p w);
-    some = λ p w. rw (lead-is n T first led W (4 ^ n) k c p w, c .size) (omega (arith, has-number p w .some));
+    few = omega (arith, acc .sized .few, c .size);
+    low = λ p lt.
+        ⊎-elim
+        (λ (e : eqb (type T p) black ≡ true).
+        let w : Water T p = record { node = omega (arith, c .size); wet = eqb-true (type T p) black e } in
+        rw (lead-is n T first led W (4 ^ n) k c p w) (led .low p w))
+        (λ (e : eqb (type T p) black ≡ false). omega (arith, tells-root p (omega (arith, c .size)) (eqb-false (type T p) black e)))
+        (by-bool (eqb (type T p) black));
   }
 
-  module _ (numbers : List ℕ) (s : Settled T W numbers 0) where
-    water-word : (p : ℕ) → Water T p → wordOf numbers p + nodes T ≡ wordOf W (wordOf first p)
+  -- the root of more than one node is a fork, and has no number; nor has the one node where it is white
+  root-word : (p : ℕ) → p < nodes T → (type T p ≡ black → ⊥) → wordOf W 0 < length W
+  root-word p lt z =
+      let dry : type T 0 ≡ black → ⊥ =
+      λ b.
+      ⊎-elim
+      (λ (e : p ≡ 0). z (ap (type T) e ∙ b))
+      (λ (pos : 0 < p).
+      let up : father T 1 ≡ 0 = omega (arith, father-below n T acc 1 (omega arith) (omega arith)) in
+      let f : isFork T 0 ≡ true = rw up at (father-fork n T acc 1 (omega arith) (omega arith)) in
+      omega (arith, b, eqb-true (type T 0) forkType f))
+      (eq-zero-or-pos p) in
+      omega (arith, stays-dry 0 (omega arith) dry, c .size)
+
+  module _ (numbers : List ℕ) (s : Settled W numbers 0) where
+    number-is : (p : ℕ) → p < nodes T → wordOf numbers p ≡ wordOf W (leadOf W p) - nodes T
     unfolding numberOf
+    number-is p lt = s .done p (omega arith) (omega (arith, c .size)) ∙ rw (c .size)
+
+    water-word : (p : ℕ) → Water T p → wordOf numbers p + nodes T ≡ wordOf W (wordOf first p)
     water-word p w =
-        let e : wordOf numbers p ≡ wordOf W (wordOf first p) - nodes T =
-        s .done p (omega arith) (w .node) ∙ rw (eq-eqb (type T p) black (w .wet), lead-is n T first led W (4 ^ n) k c p w, c .size) in
+        let e : wordOf numbers p ≡ wordOf W (wordOf first p) - nodes T = number-is p (w .node) ∙ rw (lead-is n T first led W (4 ^ n) k c p w) in
         omega (arith, has-number p w .some)
 
     dry-word : (p : ℕ) → p < nodes T → (type T p ≡ black → ⊥) → wordOf numbers p ≡ 0
-    unfolding numberOf
-    dry-word p lt z = s .done p (omega arith) lt ∙ rw (ne-eqb (type T p) black z)
+    dry-word p lt z = number-is p lt ∙ rw (tells-root p lt z) (omega (arith, root-word p lt z, c .size))
 
     in-order : (i a : ℕ) → i < 4 ^ n → 0 < a → a < numberAt n T numbers i → (j : ℕ) × (j < i) × (numberAt n T numbers j ≡ a)
     in-order i a lt pos h =
@@ -155,8 +150,8 @@ module _ (n : ℕ) (T first W : List ℕ) (k : ℕ) (acc : Accepted n T) (led : 
     }
 
 -- the same of words that numbering by rows left
-pub tells : {n : ℕ} {T W : List ℕ} {k : ℕ} → Accepted n T → Counting n T W (4 ^ n) k → Tells T W
+pub tells : {n : ℕ} {T W : List ℕ} {k : ℕ} → Accepted n T → Counting n T W (4 ^ n) k → Tells W
 tells {n} {T} {W} {k} acc h = all-tell n T (h .first) W k acc (h .led) (h .counted)
 
-pub numbered-all : {n : ℕ} {T W numbers : List ℕ} {k : ℕ} → Accepted n T → Counting n T W (4 ^ n) k → Settled T W numbers 0 → Numbered n T numbers k
+pub numbered-all : {n : ℕ} {T W numbers : List ℕ} {k : ℕ} → Accepted n T → Counting n T W (4 ^ n) k → Settled W numbers 0 → Numbered n T numbers k
 numbered-all {n} {T} {W} {numbers} {k} acc h s = all-numbered n T (h .first) W k acc (h .led) (h .counted) numbers s

@@ -1,5 +1,5 @@
 -- How the numbers are given (document 02, No. 1): row by row the pixels are passed, and a leader's word becomes N + k when its pond's first pixel is met as
--- the k-th; then each black leaf's word becomes its leader's, less N. No other word changes, so the words tell a leaf's leader all the while.
+-- the k-th; then each word becomes its leader's, less N. No other word changes, so the words tell a leaf's leader all the while.
 use mathlib.Core.Bool.{Bool, false, cond}
 use mathlib.Core.List.{List}
 use mathlib.Core.Path.{_≡_}
@@ -116,31 +116,17 @@ pub record Reached (T words : List ℕ) (p above k : ℕ) : Type 0 where
 pub record Passes (T : List ℕ) (p above : ℕ) (before : List ℕ) (k : ℕ) (after : List ℕ) (r : ℕ) : Type 0 where
   pub on : (n l y : ℕ) → Crossed n T p l y above → Counting n T before (startOf n T p y) k → Counting n T after (startOf n T p y + 2 ^ l) r
 
--- a node's number once all are given: its leader's word less N for a black leaf
-unfoldable pub numberOf : List ℕ → List ℕ → ℕ → ℕ
-numberOf T words p = cond (eqb (type T p) black) (wordOf words (leadOf words p) - length words) 0
+-- a node's number once all are given: its leader's word less N. A white leaf and a fork have word 0, and so the root's word, which is below N
+unfoldable pub numberOf : List ℕ → ℕ → ℕ
+numberOf words p = wordOf words (leadOf words p) - length words
 
--- words of which each tells a leader that stands no higher and has a number, or is a white leaf's or a fork's 0
-pub record Tells (T words : List ℕ) : Type 0 where
-  pub size : length words ≡ nodes T
-  pub few : nodes T < 2 ^ 32
-  pub dry : (p : ℕ) → p < nodes T → (type T p ≡ black → ⊥) → wordOf words p ≡ 0
-  pub low : (p : ℕ) → Water T p → leadOf words p ≤ p
-  pub some : (p : ℕ) → Water T p → length words ≤ wordOf words (leadOf words p)
-
--- the words once node p's is its number
-unfoldable pub settledAt : List ℕ → List ℕ → ℕ → List ℕ
-settledAt T words p = cond (eqb (type T p) black) (set words p (wordOf words (leadOf words p) - length words)) words
-
--- node p's leader has its number
-pub record Settles (T words : List ℕ) (p : ℕ) : Type 0 where
-  pub node : p < nodes T
-  pub size : length words ≡ nodes T
-  pub few : nodes T < 2 ^ 32
-  pub some : Water T p → length words ≤ wordOf words (leadOf words p)
+-- words of which each tells a leader that stands no higher
+pub record Tells (words : List ℕ) : Type 0 where
+  pub few : length words < 2 ^ 32
+  pub low : (p : ℕ) → p < length words → leadOf words p ≤ p
 
 -- the words from node p on are numbers, those below it are as they were
-pub record Settled (T before words : List ℕ) (p : ℕ) : Type 0 where
+pub record Settled (before words : List ℕ) (p : ℕ) : Type 0 where
   pub size : length words ≡ length before
-  pub done : (q : ℕ) → p ≤ q → q < nodes T → wordOf words q ≡ numberOf T before q
+  pub done : (q : ℕ) → p ≤ q → q < length before → wordOf words q ≡ numberOf before q
   pub left : (q : ℕ) → q < p → wordOf words q ≡ wordOf before q

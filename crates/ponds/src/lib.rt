@@ -13,7 +13,7 @@ ghost use Rattle.table.specs.Table.{nodes, type, isFork};
 ghost use Rattle.table.specs.Rules.{one, Accepted};
 ghost use Rattle.joins.specs.Led.{wordOf, Led};
 ghost use Rattle.ponds.specs.Numbered.{Numbered};
-ghost use Rattle.ponds.specs.Counted.{leadOf, leaders, Fresh, Meets, Met, Counting, partAbove, Reached, Passes, settledAt, Settles, Tells, Settled};
+ghost use Rattle.ponds.specs.Counted.{leadOf, leaders, Fresh, Meets, Met, Counting, partAbove, Reached, Passes, numberOf, Tells, Settled};
 ghost use Rattle.ponds.specs.Calls.{blackLeaves, pondsTest, FindsInWords, FindsInEntries};
 ghost use Rattle.ponds.specs.Found.{Found};
 
@@ -147,27 +147,28 @@ fn rows(n: u32, table: &[u32], words: &mut [u32]) -> u32
     count
 }
 
-// Node p's word becomes its number.
-fn settle_at(table: &[u32], words: &mut [u32], p: usize)
-    requires { ⌜ Settles (now table) (now words) p ⌝ }
-    ensures { λ _. ⌜ now (words .exit) ≡ settledAt (now (table .entry)) (now (words .entry)) p ⌝ }
+// Node p's number, once every leader has its own: what its leader's word has from N on. A leader that is no pond's has no number yet, and so gives 0.
+fn number_of(words: &[u32], p: usize) -> u32
+    requires { ⌜ (p < length (now words)) × (length (now words) < 2 ^ 32) ⌝ }
+    ensures { λ r. ⌜ r ≡ numberOf (now (words .entry)) p ⌝ }
 {
-    if word_at(table, p, 5) != quad::BLACK {
-        return;
+    let word = words[leader(words, p)];
+    let nodes = words.len() as u32;
+    if word < nodes {
+        return 0;
     }
-    let l = leader(words, p);
-    words[p] = words[l] - words.len() as u32;
+    word - nodes
 }
 
 // Every word becomes its node's number, from the last node to the first.
-fn settle(table: &[u32], words: &mut [u32])
-    requires { ⌜ Tells (now table) (now words) ⌝ }
-    ensures { λ _. ⌜ Settled (now (table .entry)) (now (words .entry)) (now (words .exit)) 0 ⌝ }
+fn settle(words: &mut [u32])
+    requires { ⌜ Tells (now words) ⌝ }
+    ensures { λ _. ⌜ Settled (now (words .entry)) (now (words .exit)) 0 ⌝ }
 {
     let mut p = words.len();
     while 0 < p {
         p -= 1;
-        settle_at(table, words, p);
+        words[p] = number_of(words, p);
     }
 }
 
@@ -177,7 +178,7 @@ fn number(n: u32, table: &[u32], words: &mut [u32]) -> u32
     ensures { λ r. ⌜ Numbered n (now (table .entry)) (now (words .exit)) r ⌝ }
 {
     let count = rows(n, table, words);
-    settle(table, words);
+    settle(words);
     count
 }
 

@@ -1,43 +1,38 @@
 -- `ponds::settle`: the words from p on are their nodes' numbers. The measure is p. Assumes nothing.
-use Prim.Native.Nat.{_-_, _≤_}
+use Prim.Native.Nat.{_≤_}
 use native.Mathlib.Omega.{arith}
-use borrow.Author.Needs.{needs}
-use Rattle.table.specs.Table.{nodes}
+use lib.ListN.{length}
 use Rattle.ponds.specs.Counted.{Settled}
-use Rattle.ponds.proofs.SettledLaws.{settled-none, next-down, settles, settled-one, settled-all}
+use Rattle.ponds.proofs.SettledLaws.{settled-none, settled-one, settled-all}
 use Rattle.ponds.proofs.settle.Statement.{statement}
 use Rattle.ponds.proofs.settle.Tie as tie
 
 abbrev Inv-loop : tie.InvT-loop
-Inv-loop table words₀ p₀ words p = (p ≤ nodes table) × Settled table words₀ words p
+Inv-loop words₀ p₀ words p = (p ≤ length words₀) × Settled words₀ words p
 
 abbrev μ-loop : tie.MeasureT-loop
-μ-loop table words₀ p₀ words p = p
+μ-loop words₀ p₀ words p = p
 
 loop-holds : tie.Need-loop-holds Inv-loop μ-loop
-loop-holds c = (omega (arith, c .before .before .pre .size), settled-none _ _ (c .before .before .pre .size))
+loop-holds c = (omega arith, settled-none _)
 
 sub-p : tie.Need-sub-p Inv-loop μ-loop
-sub-p c = search needs
+sub-p c = omega arith
 
-settle-at-requires : tie.Need-settle-at-requires Inv-loop μ-loop
-settle-at-requires c κs =
-    let t = c .before in
-    let v = t .before .loop in
-    let h = t .before .before .before .before .pre in
-    settles _ _ _ (v .p - 1) h (omega (arith, v .inv .0, t .loop-test .taken)) (next-down (v .inv .1) (t .loop-test .taken))
+number-of-requires : tie.Need-number-of-requires Inv-loop μ-loop
+number-of-requires c κs = let v = c .before .before .loop .inv in (omega (arith, v .0, v .1 .size), omega (arith, c .before .before .before .before .pre .few, v .1 .size))
+
+mul-words : tie.Need-mul-words Inv-loop μ-loop
+mul-words c = let v = c .before .before .before .loop .inv in omega (arith, v .0, c .before .before .before .before .before .pre .few)
+
+slice-write-words : tie.Need-slice-write-words Inv-loop μ-loop
+slice-write-words c = let v = c .before .before .before .loop .inv in omega (arith, v .0, v .1 .size)
 
 loop-less : tie.Need-loop-less Inv-loop μ-loop
-loop-less c = search needs
+loop-less c = omega arith
 
 loop-again : tie.Need-loop-again Inv-loop μ-loop
-loop-again c =
-    let s = c .before .before .settle-at in
-    let t = c .before .before .before .before in
-    let v = t .before .loop in
-    let h = t .before .before .before .before .pre in
-    let one = settled-one _ _ _ (v .p - 1) h (omega (arith, v .inv .0, t .loop-test .taken)) (next-down (v .inv .1) (t .loop-test .taken)) in
-    (omega (arith, v .inv .0), rw (s .ensures) one)
+loop-again c = let v = c .before .before .before .loop .inv in (omega (arith, v .0), settled-one (c .before .before .before .before .before .pre) (c .before .before .loop-test .taken) (v .0) _ (c .number-of .ensures) (v .1))
 
 same-length : tie.Need-same-length Inv-loop μ-loop
 same-length c = c .before .loop .inv .1 .size
@@ -53,7 +48,9 @@ settle-spec =
     μ-loop
     loop-holds
     sub-p
-    settle-at-requires
+    number-of-requires
+    mul-words
+    slice-write-words
     loop-less
     loop-again
     same-length
