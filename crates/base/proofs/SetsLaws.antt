@@ -4,8 +4,8 @@ use mathlib.Core.Path.{_≡_, refl, ap, _∙_}
 use Prim.Native.Nat.{ℕ, suc, _+_, _≤_, _<_}
 use native.Mathlib.Nat.{zero-add}
 use native.Mathlib.Omega.{arith}
-use lib.ListN.{length, drop, set, length-append, length-drop, drop-of-length-le}
-use lib.Seq.{sets, set-comm, sets-eq, drop-append-seam}
+use lib.ListN.{length, set, length-append, length-drop, drop-of-length-le}
+use lib.Seq.{sets, set-comm, sets-eq}
 use Rattle.base.specs.Tab.{overlay}
 
 -- stores right after others, stores right before others, and stores at places apart
@@ -46,7 +46,3 @@ overlay-length new old h = simp (length-append, length-drop) (omega arith)
 
 pub overlay-all : (new old : List ℕ) → length old ≡ length new → overlay new old ≡ new
 overlay-all new old e = rw (drop-of-length-le old {i = length new} (omega arith)) (append-nil new)
-
--- what is written over as much as was written
-pub overlay-over : (new new' old : List ℕ) → length new ≡ length new' → overlay new (overlay new' old) ≡ overlay new old
-overlay-over new new' old e = rw e (ap (λ (rest : List ℕ). new ++ rest) (drop-append-seam new' (drop (length new') old)))

@@ -5,6 +5,7 @@ use mathlib.Core.Path.{_≡_, sym, _∙_}
 use Prim.Native.Nat.{ℕ, _+_, _≤_, _<_}
 use native.Mathlib.Omega.{arith}
 use lib.ListN.{length, set}
+use lib.Seq.{set-getD}
 use borrow.Author.Tests.{eq-eqb, ne-eqb, lt-ltb, le-ltb}
 use Rattle.base.proofs.BoolLaws.{lt-or-ge}
 use Rattle.quad.specs.Numbers.{black}
@@ -29,12 +30,12 @@ module _ (T W : List ℕ) (p kind : ℕ) (is : kind ≡ type T p) where
 
   module _ (wet : kind ≡ black) (l : ℕ) (lead : l ≡ leadOf W p) where
     -- a black one whose leader has a number, or has none
-    pub meet-old : (k : ℕ) → length W ≤ wordOf W l → Met T W p k k W
+    pub meet-old : (k : ℕ) → length W ≤ wordOf W l → Met T W p k k (set W l (wordOf W l))
     unfolding metCount metWords
     meet-old k h =
         let e = eq-eqb (type T p) black (sym is ∙ wet) in
         let f = le-ltb (wordOf W (leadOf W p)) (length W) (rw lead at h) in
-        record { count = rw (e, f); words = rw (e, f) }
+        record { count = rw (e, f); words = rw (e, f) (set-getD W l 0) }
 
     pub meet-new : (k : ℕ) → wordOf W l < length W → Met T W p k (k + 1) (set W l (length W + k + 1))
     unfolding metCount metWords

@@ -65,11 +65,14 @@ fn meet(table: &[u32], words: &mut [u32], p: usize, count: u32) -> u32
     }
     let l = leader(words, p);
     let nodes = words.len() as u32;
-    if nodes <= words[l] {
-        return count;
+    let mut word = words[l];
+    let mut met = count;
+    if word < nodes {
+        word = nodes + count + 1;
+        met = count + 1;
     }
-    words[l] = nodes + count + 1;
-    count + 1
+    words[l] = word;
+    met
 }
 
 // The part of a sheet that lies above row y, in 2 ^ 32nds of its side.

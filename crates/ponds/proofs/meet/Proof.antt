@@ -1,7 +1,8 @@
--- `ponds::meet`: a white leaf, a black leaf whose leader has a number, and one whose leader has none. Assumes nothing.
+-- `ponds::meet`: a white leaf, a black leaf whose leader has no number, and one whose leader has one. Assumes nothing.
+use mathlib.Core.Logic.{⊎-elim}
 use native.Mathlib.Omega.{arith}
-use borrow.Author.Needs.{needs}
 use Rattle.ponds.proofs.MeetLaws.{lead-below, meet-white, meet-old, meet-new}
+use borrow.Author.Needs.{needs}
 use Rattle.ponds.proofs.meet.Statement.{statement}
 use Rattle.ponds.proofs.meet.Tie as tie
 
@@ -17,41 +18,36 @@ leader-requires c κs = search needs
 cast-nodes : tie.Need-cast-nodes
 cast-nodes c = search needs
 
-mul-if2 : tie.Need-mul-if2
-mul-if2 c = search (lead-below, needs)
+mul-word : tie.Need-mul-word
+mul-word c = let h = c .before .before .before .before .before .before .pre in omega (arith, lead-below _ _ _ _ (c .leader .ensures) (h .node) (h .size), h .size, h .room)
 
-slice-read-if2 : tie.Need-slice-read-if2
-slice-read-if2 c = search (lead-below, needs)
+slice-read-word : tie.Need-slice-read-word
+slice-read-word c = let h = c .before .before .before .before .before .before .before .pre in omega (arith, lead-below _ _ _ _ (c .before .leader .ensures) (h .node) (h .size))
+
+add-word : tie.Need-add-word
+add-word c = search needs
+
+add-word-2 : tie.Need-add-word-2
+add-word-2 c = search needs
+
+add-met : tie.Need-add-met
+add-met c = search needs
+
+mul-words : tie.Need-mul-words
+mul-words c = let h = c .before .before .before .before .before .before .before .before .pre in omega (arith, lead-below _ _ _ _ (c .before .before .leader .ensures) (h .node) (h .size), h .size, h .room)
+
+slice-write-words : tie.Need-slice-write-words
+slice-write-words c = let h = c .before .before .before .before .before .before .before .before .pre in omega (arith, lead-below _ _ _ _ (c .before .before .leader .ensures) (h .node) (h .size))
 
 same-length : tie.Need-same-length
 same-length c = search needs
 
 returns-2 : tie.Need-returns-2
-returns-2 c = search (meet-old, needs)
-
-add-words : tie.Need-add-words
-add-words c = search needs
-
-add-words-2 : tie.Need-add-words-2
-add-words-2 c = search needs
-
-mul-words : tie.Need-mul-words
-mul-words c =
-    let l = c .before .before in
-    let h = l .before .before .before .before .before .before .pre in
-    omega (arith, lead-below _ _ _ _ (l .leader .ensures) (h .node) (h .size), h .size, h .room)
-
-slice-write-words : tie.Need-slice-write-words
-slice-write-words c = search (lead-below, needs)
-
-add-result : tie.Need-add-result
-add-result c = search needs
-
-same-length-2 : tie.Need-same-length-2
-same-length-2 c = search needs
-
-returns-3 : tie.Need-returns-3
-returns-3 c = search (meet-new, needs)
+returns-2 c = let w = c .before .before .before .before .before .word-at .ensures in
+    ⊎-elim
+    (λ m. rw (m .1, m .2) (meet-new _ _ _ _ w (omega (arith, c .before .before .before .before .if1 .left)) _ (c .before .before .leader .ensures) _ (m .0 .taken)))
+    (λ m. rw (m .1, m .2) (meet-old _ _ _ _ w (omega (arith, c .before .before .before .before .if1 .left)) _ (c .before .before .leader .ensures) _ (m .0 .left)))
+    (c .if2 .came)
 
 pub meet-spec : {M : Type 1} → statement M
 meet-spec =
@@ -61,14 +57,12 @@ meet-spec =
     returns
     leader-requires
     cast-nodes
-    mul-if2
-    slice-read-if2
-    same-length
-    returns-2
-    add-words
-    add-words-2
+    mul-word
+    slice-read-word
+    add-word
+    add-word-2
+    add-met
     mul-words
     slice-write-words
-    add-result
-    same-length-2
-    returns-3)
+    same-length
+    returns-2)
