@@ -202,6 +202,15 @@ module _ {T numbers : List ℕ} {p : ℕ} {b : Block} {words : List ℕ} (z : En
       ap (λ (c : Block). grownAt (getD numbers p 0) c (z .E) k) (z .block)
       ∙ leaf-gives (z .n) T numbers (b .level) p k (z .E) f (z .top k) (z .left k))))
 
+  -- a pixel is a leaf
+  pub pixel-entered : (words' : List ℕ) → b .level ≡ 0 → words' ≡ passedOf b (getD numbers p 0) words
+      → words' ≡ registerOf (z .count) (z .before) (withUnder (z .n) T numbers (b .level) p (z .E))
+  pixel-entered words' low e =
+      ⊎-elim
+      (λ (f : isFork T p ≡ true). absurd (omega (arith, fork-above entering-at f)))
+      (λ (f : isFork T p ≡ false). leaf-entered words' f e)
+      (by-bool (isFork T p))
+
   module _ (f : isFork T p ≡ true) where
     pub parted : Parted b
     parted = record { level = fork-above entering-at f; column = fits 0 .column; row = fits 0 .row }

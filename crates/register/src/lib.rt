@@ -134,11 +134,28 @@ fn pass(numbers: &[u32], reg: &mut [u32], p: usize, b: Block)
     grow_at(reg, number - 1, b);
 }
 
+// Adds the four pixels of a fork of level 1, whose block is given, to the entries of their numbers.
+fn pass_pixels(table: &[u32], numbers: &[u32], reg: &mut [u32], p: usize, b: Block)
+    requires { ⌜ Entering (now table) (now numbers) p b (now reg) × (isFork (now table) p ≡ true) × (b .level ≡ 1) ⌝ }
+    ensures { λ _. ⌜ Entered (now (table .entry)) (now (numbers .entry)) p b (now (reg .entry)) (now (reg .exit)) ⌝ }
+{
+    let mut quadrant = 0;
+    while quadrant < 4 {
+        let pixel = word_at(table, p, 1 + quadrant);
+        pass(numbers, reg, pixel, part(b, quadrant));
+        quadrant += 1;
+    }
+}
+
 // Adds the leaves under a fork, whose block is given, to the entries of their numbers.
 fn pass_fork(table: &[u32], numbers: &[u32], reg: &mut [u32], p: usize, b: Block)
     requires { ⌜ Entering (now table) (now numbers) p b (now reg) × (isFork (now table) p ≡ true) ⌝ }
     ensures { λ _. ⌜ Entered (now (table .entry)) (now (numbers .entry)) p b (now (reg .entry)) (now (reg .exit)) ⌝ }
 {
+    if b.level == 1 {
+        pass_pixels(table, numbers, reg, p, b);
+        return;
+    }
     let mut q = 0;
     while q < 4 {
         let son = word_at(table, p, 1 + q);
