@@ -1,11 +1,9 @@
--- The code's tables of directions, entry by entry: the nearest quarter, the next one, and the directions in which the quarters are searched.
+-- The code's digits of directions, one by one: the nearest quarter, the next one, and the directions in which the quarters are searched.
 use mathlib.Core.Bool.{Bool, true, false, cond, _&&_}
-use mathlib.Core.List.{[], _∷_}
 use mathlib.Core.Path.{_≡_, refl}
-use Prim.Native.Nat.{ℕ, zero, suc, _<_}
+use Prim.Native.Nat.{ℕ, zero, suc, _*_, _/_, _%_, _^_, _<_}
 use native.Mathlib.Omega.{arith}
 use lib.Dec.{eqb, ltb}
-use lib.ListN.{getD}
 use borrow.Author.Tests.{eqb-true, ltb-true}
 use Rattle.base.specs.All.{all}
 use Rattle.base.proofs.AllLaws.{all-at}
@@ -14,15 +12,19 @@ use Rattle.quad.specs.Direction.{eastStep, southStep}
 use Rattle.neighbour.specs.Search.{stay}
 use Rattle.distance.specs.Search.{nearQuarter, nextQuarter, NextWay, OtherWay}
 
-pub near-rule : (D : ℕ) → D < stay → getD (2 ∷ 0 ∷ 0 ∷ 1 ∷ 3 ∷ 2 ∷ 1 ∷ 0 ∷ []) D 0 ≡ nearQuarter (eastStep D) (southStep D)
+-- the digit of direction D
+abbrev digit : ℕ → ℕ → ℕ
+digit digits D = digits / 2 ^ (4 * D) % 16
+
+pub near-rule : (D : ℕ) → D < stay → digit 19075074 D ≡ nearQuarter (eastStep D) (southStep D)
 unfolding eastStep southStep nearQuarter
 near-rule D d =
-    eqb-true _ _ (all-at (λ (D : ℕ). eqb (getD (2 ∷ 0 ∷ 0 ∷ 1 ∷ 3 ∷ 2 ∷ 1 ∷ 0 ∷ []) D 0) (nearQuarter (eastStep D) (southStep D))) 8 refl D d)
+    eqb-true _ _ (all-at (λ (D : ℕ). eqb (digit 19075074 D) (nearQuarter (eastStep D) (southStep D))) 8 refl D d)
 
-pub next-rule : (D : ℕ) → D < stay → getD (3 ∷ 2 ∷ 1 ∷ 3 ∷ 1 ∷ 0 ∷ 3 ∷ 2 ∷ []) D 0 ≡ nextQuarter (eastStep D) (southStep D)
+pub next-rule : (D : ℕ) → D < stay → digit 587280675 D ≡ nextQuarter (eastStep D) (southStep D)
 unfolding eastStep southStep nextQuarter
 next-rule D d =
-    eqb-true _ _ (all-at (λ (D : ℕ). eqb (getD (3 ∷ 2 ∷ 1 ∷ 3 ∷ 1 ∷ 0 ∷ 3 ∷ 2 ∷ []) D 0) (nextQuarter (eastStep D) (southStep D))) 8 refl D d)
+    eqb-true _ _ (all-at (λ (D : ℕ). eqb (digit 587280675 D) (nextQuarter (eastStep D) (southStep D))) 8 refl D d)
 
 -- a direction that goes by two given steps
 abbrev by-steps : ℕ → ℕ → ℕ → Bool
@@ -42,10 +44,10 @@ module _ (way east south : ℕ) (h : by-steps way east south ≡ true) where
   by-down = eqb-true (southStep way) south (and-right (eqb (eastStep way) east) (eqb (southStep way) south) steps)
 
 abbrev nextWay : ℕ → ℕ
-nextWay D = getD (0 ∷ 1 ∷ 2 ∷ 3 ∷ 0 ∷ 0 ∷ 2 ∷ 2 ∷ []) D 0
+nextWay D = digit 570438160 D
 
 abbrev otherWay : ℕ → ℕ
-otherWay D = getD (0 ∷ 1 ∷ 2 ∷ 3 ∷ 3 ∷ 1 ∷ 3 ∷ 1 ∷ []) D 0
+otherWay D = digit 320025104 D
 
 next-steps : all (λ D. by-steps (nextWay D) (cond (ltb D 4) (eastStep D) 1) (southStep D)) 8 ≡ true
 unfolding eastStep southStep

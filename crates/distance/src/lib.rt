@@ -6,7 +6,7 @@ use table::word_at;
 ghost use mathlib.Core.Path.{_≡_};
 ghost use mathlib.Core.Bool.{true, false};
 ghost use lib.ListN.{length};
-ghost use Prim.Native.Nat.{_+_, _*_, _^_, _<_, _≤_, min};
+ghost use Prim.Native.Nat.{_+_, _*_, _/_, _%_, _^_, _<_, _≤_, min};
 ghost use Rattle.quad.specs.Numbers.{topLevel};
 ghost use Rattle.quad.specs.Direction.{eastStep, southStep};
 ghost use Rattle.table.specs.Table.{nodes, son, isFork};
@@ -22,22 +22,30 @@ ghost use Rattle.distance.specs.Search.{nearQuarter, nextQuarter, NextWa
 // The mark where no pixel is white.
 const MARK: u32 = quad::NONE as u32;
 
-// By the direction in which a block is searched: its quarter at the near edges, and the quarter that is taken next.
-const NEAR: [u8; 8] = [2, 0, 0, 1, 3, 2, 1, 0];
+// By the direction in which a block is searched, a hexadecimal digit each, direction 0's the last: its quarter at the near edges, and the quarter that is taken next.
+const NEAR: usize = 0x01231002;
 
-const NEXT: [u8; 8] = [3, 2, 1, 3, 1, 0, 3, 2];
+const NEXT: usize = 0x23013123;
 
 // The direction in which that quarter is searched, and the one for the quarter opposite to it: a corner's quarters down and across lie beyond a side.
-const NEXT_WAY: [u8; 8] = [0, 1, 2, 3, 0, 0, 2, 2];
+const NEXT_WAY: usize = 0x22003210;
 
-const OTHER_WAY: [u8; 8] = [0, 1, 2, 3, 3, 1, 3, 1];
+const OTHER_WAY: usize = 0x13133210;
+
+// A direction's digit.
+fn digit(digits: usize, direction: usize) -> usize
+    requires { ⌜ direction < stay ⌝ }
+    ensures { λ r. ⌜ r ≡ digits / 2 ^ (4 * direction) % 16 ⌝ }
+{
+    (digits >> (4 * direction)) % 16
+}
 
 // The quarter of a block that lies nearest.
 fn near_quarter(direction: usize) -> usize
     requires { ⌜ direction < stay ⌝ }
     ensures { λ r. ⌜ r ≡ nearQuarter (eastStep direction) (southStep direction) ⌝ }
 {
-    quad::wide(NEAR[direction])
+    digit(NEAR, direction)
 }
 
 // The quarter that lies nearest but for that one.
@@ -45,7 +53,7 @@ fn next_quarter(direction: usize) -> usize
     requires { ⌜ direction < stay ⌝ }
     ensures { λ r. ⌜ r ≡ nextQuarter (eastStep direction) (southStep direction) ⌝ }
 {
-    quad::wide(NEXT[direction])
+    digit(NEXT, direction)
 }
 
 // The direction in which the next quarter is searched.
@@ -53,7 +61,7 @@ fn next_way(direction: usize) -> usize
     requires { ⌜ direction < stay ⌝ }
     ensures { λ r. ⌜ NextWay direction r ⌝ }
 {
-    quad::wide(NEXT_WAY[direction])
+    digit(NEXT_WAY, direction)
 }
 
 // The direction in which the quarter opposite to the next one is searched.
@@ -61,7 +69,7 @@ fn other_way(direction: usize) -> usize
     requires { ⌜ direction < stay ⌝ }
     ensures { λ r. ⌜ OtherWay direction r ⌝ }
 {
-    quad::wide(OTHER_WAY[direction])
+    digit(OTHER_WAY, direction)
 }
 
 // Where the next quarter begins: beside the nearest one along a side, and farther on at a corner.

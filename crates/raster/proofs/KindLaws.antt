@@ -208,11 +208,10 @@ two-blocks f few x y north south en es =
     let hc : c ≤ 2 = omega (arith, few (2 * (2 * x + 1)) (2 * y), few (2 * (2 * x + 1)) (2 * y + 1)) in
     let hd : d ≤ 2 = omega (arith, few (2 * (2 * x + 1) + 1) (2 * y), few (2 * (2 * x + 1) + 1) (2 * y + 1)) in
     let s = carried a b c d ha hb hc hd (north + south) (omega arith) in
-    let lanes = low-lane (a + b) (b + c) (c + d + 256 * d) (omega arith) (omega arith) _ s in
-    (
+    let lanes = low-lane (a + b) (b + c) (c + d + 256 * d) (omega arith) (omega arith) _ s in (
       lanes .0 ∙ in-pairs (f (2 * (2 * x)) (2 * y)) (f (2 * (2 * x) + 1) (2 * y)) (f (2 * (2 * x)) (2 * y + 1)) (f (2 * (2 * x) + 1) (2 * y + 1)),
       high-lane (c + d) d _ (omega arith) (lanes .1)
-      ∙ in-pairs (f (2 * (2 * x + 1)) (2 * y)) (f (2 * (2 * x + 1) + 1) (2 * y)) (f (2 * (2 * x + 1)) (2 * y + 1)) (f (2 * (2 * x + 1) + 1) (2 * y + 1)),
+          ∙ in-pairs (f (2 * (2 * x + 1)) (2 * y)) (f (2 * (2 * x + 1) + 1) (2 * y)) (f (2 * (2 * x + 1)) (2 * y + 1)) (f (2 * (2 * x + 1) + 1) (2 * y + 1)),
     )
 
 -- four blocks of four pixels

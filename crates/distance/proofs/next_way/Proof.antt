@@ -1,17 +1,14 @@
--- `distance::next_way` reads the table, whose rule holds of every entry. Assumes nothing.
+-- `distance::next_way` reads a digit, whose rule holds of every direction. Assumes nothing.
 use borrow.Author.Needs.{needs}
 use Rattle.distance.proofs.WayLaws.{next-way-rule}
 use Rattle.distance.proofs.next_way.Statement.{statement}
 use Rattle.distance.proofs.next_way.Tie as tie
 
-array-read-wide : tie.Need-array-read-wide
-array-read-wide c = search needs
-
-wide-requires : tie.Need-wide-requires
-wide-requires c κs = search needs
+digit-requires : tie.Need-digit-requires
+digit-requires c κs = search needs
 
 returns : tie.Need-returns
-returns c = rw (c .wide .ensures) (next-way-rule (c .before .args .direction) (search needs))
+returns c = rw (c .digit .ensures) (next-way-rule (c .before .args .direction) (search needs))
 
 pub next-way-spec : {M : Type 1} → statement M
-next-way-spec = tie.close (tie.spec array-read-wide wide-requires returns)
+next-way-spec = tie.close (tie.spec digit-requires returns)

@@ -65,7 +65,7 @@ add-result-2 : tie.Need-add-result-2
 add-result-2 c = search needs
 
 returns : tie.Need-returns
-returns c = 
+returns c =
     sixteen-count (pictureOf (c .before .before .before .before .before .before .before .before .args .n) (c .before .before .before .before .before .before .before .before .args .raster .now)) (λ i j. c .before .before .before .before .before .before .before .before .pre .0 .colours _) (c .before .before .before .before .before .before .before .before .args .x) (c .before .before .before .before .before .before .before .before .args .y) _ _ _ _ _ _ _ _ _ (c .before .before .before .before .before .before .two-sums .ensures .0) (c .before .before .before .before .before .before .two-sums .ensures .1) (c .before .before .before .before .before .two-sums2 .ensures .0) (c .before .before .before .before .before .two-sums2 .ensures .1)
     (c .before .before .before .before .mixed .ensures .0) (c .before .before .before .mixed2 .ensures .0) (c .before .before .mixed3 .ensures .0) (c .before .mixed4 .ensures .0) (c .mixed5 .ensures .0)
 
