@@ -1,5 +1,4 @@
--- The pass down the tree: what a leaf and a fork's four sons leave, in the code's own values. From the root it comes to every node, since a node is a son of its
--- father.
+-- The pass down the tree: what a leaf and a fork's four sons leave, in the code's own values. From the root it comes to every node.
 use mathlib.Core.Bool.{true, false, false≢true}
 use mathlib.Core.List.{List}
 use mathlib.Core.Logic.{⊎-elim}
@@ -9,11 +8,11 @@ use native.Mathlib.Nat.{eq-zero-or-pos, not-suc-le-zero}
 use native.Mathlib.Omega.{arith}
 use borrow.Author.Tests.{eqb-true, eq-eqb, ne-eqb}
 use Rattle.quad.specs.Numbers.{black, forkType}
-use Rattle.table.specs.Table.{nodes, father, son, type, isFork}
+use Rattle.table.specs.Table.{nodes, son, type, isFork}
 use Rattle.table.specs.Rules.{Accepted, AtLevel}
-use Rattle.table.specs.Nodes.{sonType, levelOf}
-use Rattle.table.proofs.RuleLaws.{depth-root}
-use Rattle.table.proofs.AcceptedLaws.{father-below, father-fork, son-sonType, sonType-lt, depth-up, fork-deep, fork-above, root-at, son-at}
+use Rattle.table.specs.Nodes.{levelOf}
+use Rattle.table.proofs.AcceptedLaws.{fork-above, root-at, son-at}
+use Rattle.table.proofs.UnderLaws.{under-still, under-leaf, under-fork, under-all}
 use Rattle.neighbour.specs.declared.Found.{Found}
 use Rattle.neighbour.specs.declared.Found.the-variants.{Off}
 use Rattle.neighbour.specs.Neighbour.{neighbourFound}
@@ -29,50 +28,11 @@ module _ (n : ℕ) (T : List ℕ) where
   sides-still : (W W' : List ℕ) (p : ℕ) → Together W W' → MetSides n T W p → MetSides n T W' p
   sides-still W W' p t h v D w = met-still n T W W' p D t (h v D w)
 
-  under-still : (W W' : List ℕ) (l p : ℕ) → Together W W' → MetUnder n T W l p → MetUnder n T W' l p
-  unfolding MetUnder
-  under-still W W' zero p t h = sides-still W W' p t h
-  under-still W W' (suc l) p t h = (sides-still W W' p t (h .0), λ f q q4. under-still W W' l (son T p q) t (h .1 f q q4))
-
-  sides-under : (W : List ℕ) (l p : ℕ) → MetUnder n T W l p → MetSides n T W p
-  unfolding MetUnder
-  sides-under W zero p h = h
-  sides-under W (suc l) p h = h .0
-
-  -- a leaf has nothing under it
-  leaf-under : (W : List ℕ) (l p : ℕ) → isFork T p ≡ false → MetSides n T W p → MetUnder n T W l p
-  unfolding MetUnder
-  leaf-under W zero p f h = h
-  leaf-under W (suc l) p f h = (h, λ t. absurd (false≢true (sym f ∙ t)))
-
-  -- a fork has its sons
-  fork-under : (W : List ℕ) (l p : ℕ) → 0 < l → MetSides n T W p → ((q : ℕ) → q < 4 → MetUnder n T W (l - 1) (son T p q)) → MetUnder n T W l p
-  unfolding MetUnder
-  fork-under W zero p pos h s = absurd (omega arith)
-  fork-under W (suc l) p pos h s =
-      let e : suc l - 1 ≡ l = omega arith in
-      (h, λ f q q4. rw e at (s q q4))
-
-  -- from the root, each node's father has been gone through
-  fathers : Accepted n T → (W : List ℕ) → MetUnder n T W n 0 → (k i : ℕ) → i < k → i < nodes T → MetUnder n T W (levelOf n T i) i
-  unfolding MetUnder
-  fathers acc W h zero i l lt = absurd (omega arith)
-  fathers acc W h (suc k) i l lt =
-      ⊎-elim
-      (λ (e : i ≡ 0).
-      let top : n - 0 ≡ n = omega arith in
-      rw (e, depth-root T n, top) h)
-      (λ (pos : 0 < i).
-      let f : ℕ = father T i in
-      let below = father-below n T acc i lt pos in
-      let fk = father-fork n T acc i lt pos in
-      let e : levelOf n T f ≡ suc (levelOf n T i) = omega (arith, depth-up n T acc i lt pos, fork-deep n T acc f (omega arith) fk) in
-      let u : MetUnder n T W (suc (levelOf n T i)) f = rw e at (fathers acc W h k f (omega arith) (omega arith)) in
-      rw (son-sonType n T acc i lt pos) at (u .1 fk (sonType T i) (sonType-lt n T acc i lt pos)))
-      (eq-zero-or-pos i)
+  met-still-under : (W W' : List ℕ) (l p : ℕ) → Together W W' → MetUnder n T W l p → MetUnder n T W' l p
+  met-still-under W W' l p t h = under-still T (MetSides n T W) (MetSides n T W') (λ i m. sides-still W W' i t m) l p h
 
   pub met-all : Accepted n T → (W : List ℕ) → MetUnder n T W n 0 → MetAll n T W
-  met-all acc W h i lt = sides-under W (levelOf n T i) i (fathers acc W h (suc i) i (omega arith) lt)
+  met-all acc W h i lt = under-all T (MetSides n T W) n acc h i lt
 
 -- fork p, of level l, whose first q sons have been gone through
 abbrev pub FirstMet : List ℕ → List ℕ → ℕ → ℕ → Found → Found → ℕ → List ℕ → Type 0
@@ -101,7 +61,7 @@ module _ {T W : List ℕ} {p l : ℕ} {e s : Found} where
           λ i lt.
               last-or-before i q lt
               (λ ei. rw (ei, ← is, ← down) (b .1))
-              (λ before. under-still (z .n) T W' W'' _ _ (b .0 .together) (a .1 i before)),
+              (λ before. met-still-under (z .n) T W' W'' _ _ (b .0 .together) (a .1 i before)),
         )
 
     module _ (e' s' : Found) (east : e' ≡ besideSon T p half e q 1) (south : s' ≡ besideSon T p half s q 2) where
@@ -124,7 +84,7 @@ module _ {T W : List ℕ} {p l : ℕ} {e s : Found} where
       leaf-more : (W'' : List ℕ) → (kind ≡ forkType → ⊥) → ((z : Facing T W p l e s) → Further (z .n) T W' W'' × MetSides (z .n) T W'' c)
           → FirstMet T W p l e s (q + 1) W''
       leaf-more W'' nf h =
-          next-more W'' (λ z. let a = h z in (a .0, leaf-under (z .n) T W'' half c (ne-eqb (type T c) forkType (λ f. nf (ek ∙ f))) (a .1)))
+          next-more W'' (λ z. let a = h z in (a .0, under-leaf T (MetSides (z .n) T W'') half c (ne-eqb (type T c) forkType (λ f. nf (ek ∙ f))) (a .1)))
 
       pub other-more : (kind ≡ forkType → ⊥) → (kind ≡ black → ⊥) → FirstMet T W p l e s (q + 1) W'
       other-more nf nb = leaf-more W' nf (λ z. (further-none (z .n) T W' (first z .0 .wired), sides-dry (z .n) T W' c kind ek nb))
@@ -162,7 +122,7 @@ module _ {T W : List ℕ} {p l : ℕ} {e s : Found} where
   first-all q W' le ge first z =
       let a = first z in (
         a .0,
-        fork-under (z .n) T W' l p (fork-above (z .place) (z .fork))
+        under-fork T (MetSides (z .n) T W') l p (fork-above (z .place) (z .fork))
             (λ v. absurd (omega (arith, v .wet, eqb-true (type T p) forkType (z .fork))))
             (λ i i4. a .1 i (omega arith)),
       )
@@ -179,7 +139,7 @@ module _ {n : ℕ} {T W : List ℕ} (acc : Accepted n T) (w : Wired n T W) (kind
         wired = w;
       } in (
         further-none n T W w,
-        leaf-under n T W n 0 (ne-eqb (type T 0) forkType (λ f. nf (is ∙ f))) (λ v D way. along-off refl (along v D way) .1),
+        under-leaf T (MetSides n T W) n 0 (ne-eqb (type T 0) forkType (λ f. nf (is ∙ f))) (λ v D way. along-off refl (along v D way) .1),
       )
 
   module _ (fk : kind ≡ forkType) where

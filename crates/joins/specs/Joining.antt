@@ -9,6 +9,7 @@ use lib.ListN.{length}
 use Rattle.quad.specs.Numbers.{black}
 use Rattle.quad.specs.Direction.{eastStep, southStep}
 use Rattle.table.specs.Table.{nodes, son, type, isFork}
+use Rattle.table.specs.Under.{Under}
 use Rattle.table.specs.Rules.{Accepted, AtLevel}
 use Rattle.table.specs.Nodes.{levelOf, sideOf, leftOf, topOf}
 use Rattle.neighbour.specs.declared.Found.{Found}
@@ -143,9 +144,8 @@ abbrev pub MetSides : ℕ → List ℕ → List ℕ → ℕ → Type 0
 MetSides n T W p = Water T p → (D : ℕ) → Forward D → Met n T W p D
 
 -- so every node in or under p, which has l levels below it
-unfoldable pub MetUnder : ℕ → List ℕ → List ℕ → ℕ → ℕ → Type 0
-MetUnder n T W zero p = MetSides n T W p
-MetUnder n T W (suc l) p = MetSides n T W p × (isFork T p ≡ true → (q : ℕ) → q < 4 → MetUnder n T W l (son T p q))
+abbrev pub MetUnder : ℕ → List ℕ → List ℕ → ℕ → ℕ → Type 0
+MetUnder n T W l p = Under T (MetSides n T W) l p
 
 -- and so every node
 abbrev pub MetAll : ℕ → List ℕ → List ℕ → Type 0
