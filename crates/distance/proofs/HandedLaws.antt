@@ -8,13 +8,13 @@ use Prim.Native.Nat.{ℕ, _+_, _-_, _*_, _^_, _≤_, _<_}
 use native.Mathlib.Nat.{zero-add, eq-or-lt-of-le, le-of-suc-le-suc}
 use native.Mathlib.Numerals.{add-one}
 use native.Mathlib.Omega.{arith}
-use lib.ListN.{length, getD, set, length-set, replicate}
+use lib.ListN.{length, set, length-set, replicate}
 use lib.Seq.{getD-set-same, getD-set-other, ext-getD}
 use lib.Dec.{eqb}
 use borrow.Author.Tests.{eq-eqb, ne-eqb, eqb-true, eqb-false}
 use Rattle.base.proofs.BoolLaws.{by-bool}
 use Rattle.base.proofs.TabLaws.{tab-at, tab-length}
-use Rattle.quad.specs.Numbers.{white, black, none, forkType, topLevel}
+use Rattle.quad.specs.Numbers.{white, black, forkType, topLevel}
 use Rattle.table.specs.Table.{nodes, son, type, isFork}
 use Rattle.table.specs.Rules.{Accepted, AtLevel}
 use Rattle.table.specs.Nodes.{levelOf}

@@ -1,14 +1,13 @@
 -- The pass down the tree: what a leaf and a fork's four sons leave, in the code's own values. From the root it comes to every node.
-use mathlib.Core.Bool.{true, false, false≢true}
+use mathlib.Core.Bool.{true}
 use mathlib.Core.List.{List}
-use mathlib.Core.Logic.{⊎-elim}
 use mathlib.Core.Path.{_≡_, refl, sym, _∙_}
-use Prim.Native.Nat.{ℕ, zero, suc, _+_, _-_, _≤_, _<_}
-use native.Mathlib.Nat.{eq-zero-or-pos, not-suc-le-zero}
+use Prim.Native.Nat.{ℕ, _+_, _-_, _≤_, _<_}
+use native.Mathlib.Nat.{not-suc-le-zero}
 use native.Mathlib.Omega.{arith}
 use borrow.Author.Tests.{eqb-true, eq-eqb, ne-eqb}
 use Rattle.quad.specs.Numbers.{black, forkType}
-use Rattle.table.specs.Table.{nodes, son, type, isFork}
+use Rattle.table.specs.Table.{son, type, isFork}
 use Rattle.table.specs.Rules.{Accepted, AtLevel}
 use Rattle.table.specs.Nodes.{levelOf}
 use Rattle.table.proofs.AcceptedLaws.{fork-above, root-at, son-at}

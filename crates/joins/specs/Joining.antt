@@ -8,7 +8,7 @@ use lib.Dec.{eqb}
 use lib.ListN.{length}
 use Rattle.quad.specs.Numbers.{black}
 use Rattle.quad.specs.Direction.{eastStep, southStep}
-use Rattle.table.specs.Table.{nodes, son, type, isFork}
+use Rattle.table.specs.Table.{nodes, type, isFork}
 use Rattle.table.specs.Under.{Under}
 use Rattle.table.specs.Rules.{Accepted, AtLevel}
 use Rattle.table.specs.Nodes.{levelOf, sideOf, leftOf, topOf}

@@ -1,18 +1,18 @@
 -- A table in preorder, as the pass that knows each number beforehand goes through it: the sons passed so far stand one after the other, each behind all that is seen
 -- from its brother (`Passing`). Where all four are passed, they are what a fork's sons must be, and the fork is seen with all below it.
-use mathlib.Core.Bool.{Bool, true, false, not, cond, true≢false}
+use mathlib.Core.Bool.{Bool, true, false, not, true≢false}
 use mathlib.Core.List.{List}
 use mathlib.Core.Logic.{⊎-elim}
 use mathlib.Core.Path.{_≡_, refl, ap, sym, _∙_}
-use Prim.Native.Nat.{ℕ, zero, suc, _+_, _-_, _*_, _≤_, _<_}
+use Prim.Native.Nat.{ℕ, _+_, _-_, _*_, _≤_, _<_}
 use native.Mathlib.Nat.{eq-or-lt-of-le, le-of-suc-le-suc}
 use native.Mathlib.Numerals.{add-one}
 use native.Mathlib.Omega.{arith}
 use lib.Dec.{ltb, eqb}
-use lib.ListN.{length, getD}
+use lib.ListN.{getD}
 use borrow.Author.Tests.{eq-eqb, ne-eqb, eqb-true, eqb-false, ltb-false, le-ltb}
 use Rattle.base.specs.Tab.{sum}
-use Rattle.base.proofs.BoolLaws.{by-bool, on, lt-or-ge}
+use Rattle.base.proofs.BoolLaws.{by-bool, on}
 use Rattle.base.proofs.CaseLaws.{past, through}
 use Rattle.quad.specs.Tree.{likeTypes}
 use Rattle.quad.proofs.TreeLaws.{by-quadrant}

@@ -1,9 +1,7 @@
 -- `distance::below` and `sons`: a fork's own word, then a son's after the other; a word that is written is right. The measure is twice the level, and one more where a
 -- son's nodes around it are still to be found; the loop's, the sons left. Assumes nothing.
-use mathlib.Core.Path.{_≡_, refl, ap, sym, _∙_}
+use mathlib.Core.Path.{refl}
 use native.Mathlib.Omega.{arith}
-use lib.ListN.{length-set}
-use borrow.Author.Needs.{needs}
 use Rattle.table.proofs.AcceptedLaws.{fork-above}
 use Rattle.distance.proofs.HandedLaws.{Filling, filling-none, filling-all, fork-son, filling-fork, filling-leaf, handed-nodes, son-fork-at, son-handed-at, fills-at, handed-half, son-fork, son-leaf}
 use Prim.Native.Nat.{ℕ, _+_, _-_, _*_, _<_}

@@ -9,11 +9,6 @@ use Rattle.distance.specs.Around.{leastAround}
 use Rattle.distance.proofs.AroundLaws.{around-none, around-more, around-zero, around-all, around-white}
 use Rattle.distance.proofs.around.Statement.{statement}
 use Rattle.distance.proofs.around.Tie as tie
-use Rattle.distance.proofs.around.Reads as reads
-use Rattle.distance.proofs.around.Lts as lts
-use Rattle.distance.proofs.beside.Reads as beside-reads
-use Rattle.distance.proofs.some_white.Reads as some-white-reads
-use Rattle.quad.proofs.side.Reads as side-reads
 
 abbrev Inv-loop : tie.InvT-loop
 Inv-loop table level near best₀ direction₀ best direction = (direction ≤ stay) × (best ≡ leastAround table level near direction)

@@ -6,10 +6,6 @@ use Rattle.distance.proofs.SearchLaws.{at-white, at-black}
 use borrow.Author.Needs.{needs}
 use Rattle.distance.proofs.beside.Statement.{statement}
 use Rattle.distance.proofs.beside.Tie as tie
-use Rattle.distance.proofs.beside.Reads as reads
-use Rattle.distance.proofs.beside.Lts as lts
-use Rattle.distance.proofs.seek.Reads as seek-reads
-use Rattle.table.proofs.word_at.Reads as word-at-reads
 
 word-at-requires : tie.Need-word-at-requires
 word-at-requires c κs = search needs

@@ -7,11 +7,6 @@ use Rattle.distance.proofs.HandedLaws.{root-handed, whole-filled, leaf-
 use borrow.Author.Needs.{needs}
 use Rattle.distance.proofs.fill.Statement.{statement}
 use Rattle.distance.proofs.fill.Tie as tie
-use Rattle.distance.proofs.fill.Reads as reads
-use Rattle.distance.proofs.fill.Lts as lts
-use Rattle.distance.proofs.outside.Reads as outside-reads
-use Rattle.distance.proofs.sons.Reads as sons-reads
-use Rattle.table.proofs.word_at.Reads as word-at-reads
 
 word-at-requires : tie.Need-word-at-requires
 word-at-requires c κs = search needs

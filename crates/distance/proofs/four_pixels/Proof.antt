@@ -1,14 +1,9 @@
 -- `distance::four_pixels`: the fork's own word, then a pixel's after the other. The measure is the pixels left. Assumes nothing.
 use Prim.Native.Nat.{_-_}
 use native.Mathlib.Omega.{arith}
-use lib.ListN.{length-set}
-use borrow.Author.Needs.{needs}
 use Rattle.distance.proofs.HandedLaws.{Filling, filling-none, filling-all, fork-son, filling-pixel}
 use Rattle.distance.proofs.four_pixels.Statement.{statement}
 use Rattle.distance.proofs.four_pixels.Tie as tie
-use Rattle.distance.proofs.four_pixels.Reads as reads
-use Rattle.distance.proofs.four_pixels.Lts as lts
-use Rattle.table.proofs.word_at.Reads as word-at-reads
 
 abbrev Inv-loop : tie.InvT-loop
 Inv-loop n table p out₀ q₀ out q = Filling n table out₀ out 1 p q

@@ -5,13 +5,6 @@ use Rattle.distance.proofs.HandedLaws.{fork-son, handed-nodes, leaf-whi
 use borrow.Author.Needs.{needs}
 use Rattle.distance.proofs.leaf_distance.Statement.{statement}
 use Rattle.distance.proofs.leaf_distance.Tie as tie
-use Rattle.distance.proofs.leaf_distance.Reads as reads
-use Rattle.distance.proofs.leaf_distance.Lts as lts
-use Rattle.distance.proofs.around.Reads as around-reads
-use Rattle.distance.proofs.to_edge.Reads as to-edge-reads
-use Rattle.neighbour.proofs.around.of_son.Reads as of-son-reads
-use Rattle.quad.proofs.side.Reads as side-reads
-use Rattle.table.proofs.word_at.Reads as word-at-reads
 
 add-word-at : tie.Need-add-word-at
 add-word-at c = search needs

@@ -8,10 +8,6 @@ use Rattle.table.specs.Table.{type}
 use Rattle.distance.proofs.HandedLaws.{land-black, land-last, none-more}
 use Rattle.distance.proofs.outside.Statement.{statement}
 use Rattle.distance.proofs.outside.Tie as tie
-use Rattle.distance.proofs.outside.Reads as reads
-use Rattle.distance.proofs.outside.Lts as lts
-use Rattle.table.proofs.node_count.Reads as node-count-reads
-use Rattle.table.proofs.word_at.Reads as word-at-reads
 
 abbrev Inv-loop : tie.InvT-loop
 Inv-loop n table last p₀ p = (p ≤ last) × ((j : ℕ) → j < p → type table j ≡ black → ⊥)

@@ -6,9 +6,6 @@ use native.Mathlib.Omega.{arith}
 use Rattle.neighbour.specs.Search.{stay}
 use Rattle.distance.proofs.some_white.Statement.{statement}
 use Rattle.distance.proofs.some_white.Tie as tie
-use Rattle.distance.proofs.some_white.Reads as reads
-use Rattle.distance.proofs.some_white.Lts as lts
-use Rattle.table.proofs.word_at.Reads as word-at-reads
 
 abbrev Inv-loop : tie.InvT-loop
 Inv-loop table near way₀ way = way ≤ stay

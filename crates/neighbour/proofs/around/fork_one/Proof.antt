@@ -3,8 +3,6 @@ use native.Mathlib.Omega.{arith}
 use Rattle.neighbour.proofs.SurroundLaws.{fork-counts, leaf-counts}
 use Rattle.neighbour.proofs.around.fork_one.Statement.{statement}
 use Rattle.neighbour.proofs.around.fork_one.Tie as tie
-use Rattle.neighbour.proofs.around.fork_one.Reads as reads
-use Rattle.neighbour.proofs.around.fork_one.Lts as lts
 
 returns : tie.Need-returns
 returns c = (fork-counts _ (c .if1 .taken), omega arith)

@@ -5,9 +5,6 @@ use Rattle.neighbour.proofs.SurroundLaws.{sons-placed}
 use borrow.Author.Needs.{needs}
 use Rattle.neighbour.proofs.around.of_son.Statement.{statement}
 use Rattle.neighbour.proofs.around.of_son.Tie as tie
-use Rattle.neighbour.proofs.around.of_son.Reads as reads
-use Rattle.neighbour.proofs.around.of_son.Lts as lts
-use Rattle.neighbour.proofs.around.quarter.Reads as quarter-reads
 
 mul-side : tie.Need-mul-side
 mul-side c = search needs

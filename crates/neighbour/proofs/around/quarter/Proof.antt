@@ -3,10 +3,6 @@ use Rattle.neighbour.proofs.SurroundLaws.{quarter-picked}
 use borrow.Author.Needs.{needs}
 use Rattle.neighbour.proofs.around.quarter.Statement.{statement}
 use Rattle.neighbour.proofs.around.quarter.Tie as tie
-use Rattle.neighbour.proofs.around.quarter.Reads as reads
-use Rattle.neighbour.proofs.around.quarter.Lts as lts
-use Rattle.neighbour.proofs.around.fork_one.Reads as fork-one-reads
-use Rattle.table.proofs.word_at.Reads as word-at-reads
 
 word-at-requires : tie.Need-word-at-requires
 word-at-requires c κs = search needs

@@ -4,9 +4,6 @@ use Rattle.table.specs.Order.{leafFrom}
 use borrow.Author.Needs.{needs}
 use Rattle.table.proofs.order.is_leaf_of.Statement.{statement}
 use Rattle.table.proofs.order.is_leaf_of.Tie as tie
-use Rattle.table.proofs.order.is_leaf_of.Reads as reads
-use Rattle.table.proofs.order.is_leaf_of.Lts as lts
-use Rattle.table.proofs.order.two_are.Reads as two-are-reads
 
 -- src/order.rt:29:16
 cast-none : tie.Need-cast-none

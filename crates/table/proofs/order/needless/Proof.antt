@@ -5,10 +5,6 @@ use Rattle.table.proofs.OrderLaws.{needless-words}
 use borrow.Author.Needs.{needs}
 use Rattle.table.proofs.order.needless.Statement.{statement}
 use Rattle.table.proofs.order.needless.Tie as tie
-use Rattle.table.proofs.order.needless.Reads as reads
-use Rattle.table.proofs.order.needless.Lts as lts
-use Rattle.table.proofs.seen.are_like.Reads as are-like-reads
-use Rattle.table.proofs.word_at.Reads as word-at-reads
 
 add-if1 : tie.Need-add-if1
 add-if1 c = search needs

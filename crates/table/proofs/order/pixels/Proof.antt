@@ -3,11 +3,6 @@ use Rattle.table.proofs.OrderLaws.{pixels-passed}
 use borrow.Author.Needs.{needs}
 use Rattle.table.proofs.order.pixels.Statement.{statement}
 use Rattle.table.proofs.order.pixels.Tie as tie
-use Rattle.table.proofs.order.pixels.Reads as reads
-use Rattle.table.proofs.order.pixels.Lts as lts
-use Rattle.table.proofs.order.is_leaf_of.Reads as is-leaf-of-reads
-use Rattle.table.proofs.order.two_are.Reads as two-are-reads
-use Rattle.table.proofs.seen.are_like.Reads as are-like-reads
 
 -- src/order.rt:48:16
 add-next : tie.Need-add-next

@@ -3,9 +3,6 @@ use Rattle.table.proofs.OrderLaws.{two-joined}
 use borrow.Author.Needs.{needs}
 use Rattle.table.proofs.order.two_are.Statement.{statement}
 use Rattle.table.proofs.order.two_are.Tie as tie
-use Rattle.table.proofs.order.two_are.Reads as reads
-use Rattle.table.proofs.order.two_are.Lts as lts
-use Rattle.table.proofs.order.joined.Reads as joined-reads
 
 -- src/order.rt:21:12
 mul-joined : tie.Need-mul-joined

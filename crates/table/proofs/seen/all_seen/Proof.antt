@@ -3,10 +3,6 @@ use Rattle.table.proofs.OrderLaws.{order-whole, seen-whole}
 use borrow.Author.Needs.{needs}
 use Rattle.table.proofs.seen.all_seen.Statement.{statement}
 use Rattle.table.proofs.seen.all_seen.Tie as tie
-use Rattle.table.proofs.seen.all_seen.Reads as reads
-use Rattle.table.proofs.seen.all_seen.Lts as lts
-use Rattle.table.proofs.order.in_order.Reads as in-order-reads
-use Rattle.table.proofs.seen.seen.Reads as seen-reads
 
 cast-all : tie.Need-cast-all
 cast-all c = search needs
