@@ -67,11 +67,24 @@ static void draw_node(struct question *q, struct dice *d)
     q->numbers[1] = corners[q->numbers[0] % 4][dice_below(d, 2)];
 }
 
+/* The lone pixel of a sparse sheet lies anywhere, so that no call finds it by looking
+ * at a corner. */
+static void draw_picture(enum picture_kind kind, uint32_t level, struct dice *d)
+{
+    uint32_t side = UINT32_C(1) << level;
+    if (kind == PICTURE_LONE_PIXEL) {
+        uint32_t x = dice_below(d, side);
+        picture_draw_lone_pixel(&pic, level, x, dice_below(d, side));
+    } else {
+        picture_draw(&pic, kind, level, d);
+    }
+}
+
 /* The sheets are the same in either numbering. */
 static void draw_sheet(enum picture_kind kind, uint32_t level, int at_random, struct dice *d)
 {
     do {
-        picture_draw(&pic, kind, level, d);
+        draw_picture(kind, level, d);
         table_of_picture(&table, &pic);
     } while (table.length == SHEET_NODE_WORDS);
     if (at_random) {
