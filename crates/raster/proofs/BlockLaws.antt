@@ -43,15 +43,6 @@ place-lt {n} {x} {y} o =
 pub place-fits : {n x y : ℕ} → n ≤ topLevel → OnSheet n 0 x y → y * 2 ^ n + x < 4 ^ topLevel
 place-fits {n} top o = omega (arith, place-lt o, pixels-top n top)
 
--- a block's tree is the join of its quarters'
-pub tree-quarters : (f : ℕ → ℕ → ℕ) (l x y : ℕ) → (l ≡ 0 → ⊥) → treeOf f l x y ≡ join (treeOf f (l - 1) (2 * x) (2 * y))
-    (treeOf f (l - 1) (2 * x + 1) (2 * y)) (treeOf f (l - 1) (2 * x) (2 * y + 1)) (treeOf f (l - 1) (2 * x + 1) (2 * y + 1))
-unfolding treeOf
-tree-quarters f zero x y z = absurd (z refl)
-tree-quarters f (suc l) x y z =
-    let e : suc l - 1 ≡ l = omega arith in
-    rw e
-
 module _ (n : ℕ) (R : List ℕ) (pic : Picture n R) where
   pub block-coloured : (l x y : ℕ) → Coloured (treeOf (pictureOf n R) l x y)
   block-coloured l x y = tree-coloured (pictureOf n R) l x y (λ i j hi hj. pic .colours (j * 2 ^ n + i))

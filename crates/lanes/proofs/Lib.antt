@@ -1,0 +1,4 @@
+pub mod KindLaws
+pub mod LaneLaws
+pub mod WindowLaws
+pub mod TellLaws
