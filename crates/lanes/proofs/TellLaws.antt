@@ -2,21 +2,20 @@
 use mathlib.Core.Bool.{Bool, true, false}
 use mathlib.Core.List.{List}
 use mathlib.Core.Logic.{⊎-elim}
-use mathlib.Core.Path.{_≡_, refl, ap, sym, _∙_}
+use mathlib.Core.Path.{_≡_, refl, sym, _∙_}
 use Prim.Native.Nat.{ℕ, zero, suc, _+_, _-_, _*_, _/_, _%_, _^_, _≤_, _<_}
-use native.Mathlib.Nat.{add-zero, mul-add, add-mul, mul-assoc}
 use native.Mathlib.Omega.{arith}
 use lib.Dec.{eqb}
-use lib.ListN.{getD}
-use borrow.Author.Tests.{eq-eqb, ne-eqb, eqb-true, eqb-false}
+use borrow.Author.Tests.{eqb-true, eqb-false}
 use Rattle.base.proofs.BoolLaws.{by-bool}
 use Rattle.quad.specs.Numbers.{forkType}
-use Rattle.quad.specs.Tree.{Tree, leaf, fork, sonOf, colour, Coloured, sameLeaf, join, treeOf}
-use Rattle.quad.proofs.PictureLaws.{Pixels, same-picture, tree-son}
-use Rattle.lanes.specs.Sums.{Colours}
+use Rattle.quad.specs.Tree.{Tree, leaf, fork, sonOf, colour, Coloured, sizeOf, treeOf}
+use Rattle.quad.proofs.PictureLaws.{tree-son, tree-within, tree-coloured}
+use Rattle.quad.proofs.TreeLaws.{leaf-by-type, size-le}
+use Rattle.lanes.specs.Sums.{Colours, fourSum, sixteenSum}
 use Rattle.lanes.specs.Lanes.{window, blackRow, twoRows, fourRows, eightRows, kindOf}
-use Rattle.lanes.proofs.KindLaws.{alike-leaf, leaf-alike, fork-unless, quarters-alike}
-use Rattle.lanes.proofs.WindowLaws.{rowOf, eight-row, window-few, tree-moved}
+use Rattle.lanes.proofs.KindLaws.{four-few, four-leaf, leaf-four, alike-leaf, leaf-alike, fork-unless, quarters-alike}
+use Rattle.lanes.proofs.WindowLaws.{rowOf, eight-row, window-few, window-moved}
 
 -- the sum s, which is m for black pixels, tells the tree t
 pub record Tells (t : Tree) (m s : ℕ) : Type 0 where
@@ -56,6 +55,22 @@ told-four f l x y m i j k n a b c d = record {
   where
     part : (h : ℕ) → treeOf f (suc l) x y ≡ leaf h → (q : ℕ) → q < 4 → (u v : ℕ) → 2 * x + q % 2 ≡ u → 2 * y + q / 2 ≡ v → treeOf f l u v ≡ leaf h
     part h e q lt u v eu ev = rw (← eu, ← ev) (sym (tree-son f l x y q lt) ∙ rw e (unfold sonOf in refl))
+
+-- four pixels, and sixteen
+module _ (f : ℕ → ℕ → ℕ) (few : (x y : ℕ) → f x y ≤ 1) (x y : ℕ) where
+  pub told-pixels : Tells (treeOf f 1 x y) 4 (fourSum f x y)
+  told-pixels = record {
+    most = four-few f few x y;
+    white = λ e. four-leaf f few x y 0 e;
+    black = λ e. four-leaf f few x y 1 e;
+    none = λ e. leaf-four f few x y 0 e;
+    all = λ e. leaf-four f few x y 1 e;
+  }
+
+pub told-sixteen : (f : ℕ → ℕ → ℕ) → ((x y : ℕ) → f x y ≤ 1) → (x y : ℕ) → Tells (treeOf f 2 x y) 16 (sixteenSum f x y)
+unfolding sixteenSum
+told-sixteen f few x y =
+    told-four f 1 x y 4 _ _ _ _ (told-pixels f few (2 * x) (2 * y)) (told-pixels f few (2 * x + 1) (2 * y)) (told-pixels f few (2 * x) (2 * y + 1)) (told-pixels f few (2 * x + 1) (2 * y + 1))
 
 by-eight : (P : ℕ → Type 0) → P 0 → P 1 → P 2 → P 3 → P 4 → P 5 → P 6 → P 7 → (i : ℕ) → i < 8 → P i
 by-eight P a b c d e f g h zero lt = a
@@ -144,3 +159,26 @@ module _ (R : List ℕ) (w a : ℕ) (colours : Colours R) where
             let row : (j : ℕ) → j < 8 → rowOf pixel j ≡ blackRow = λ j hj. row-all pixel few j (λ i hi. its-pixels 1 e j i hi hj) in
             omega (arith, row 0 (omega arith), row 1 (omega arith), row 2 (omega arith), row 3 (omega arith), row 4 (omega arith), row 5 (omega arith), row 6 (omega arith), row 7 (omega arith));
       }
+
+  pub window-coloured : (l x y : ℕ) → Coloured (treeOf pixel l x y)
+  window-coloured l x y = tree-coloured pixel l x y (λ i j hi hj. few i j)
+
+  pub block-kind : (k s : ℕ) → s ≡ eightRows R w a → k ≡ kindOf s (8 * blackRow) → k ≡ colour (treeOf pixel 3 0 0)
+  block-kind k s e h = h ∙ rw e (told-kind _ _ _ (window-coloured 3 0 0) told-eight)
+
+-- the four quarters of a block of level 4
+pub told-quarters : (R : List ℕ) (w a : ℕ) → Colours R
+    → Tells (treeOf (window R w a) 4 0 0) (32 * blackRow) (eightRows R w a + eightRows R w (a + 8) + eightRows R w (a + 8 * w) + eightRows R w (a + 8 * w + 8))
+told-quarters R w a colours =
+    told-four (window R w a) 3 0 0 (8 * blackRow) _ _ _ _
+    (told-eight R w a colours)
+    (rw (← window-moved R w a (a + 8) 3 1 0 (omega arith)) (told-eight R w (a + 8) colours))
+    (rw (← window-moved R w a (a + 8 * w) 3 0 1 (omega arith)) (told-eight R w (a + 8 * w) colours))
+    (rw (← window-moved R w a (a + 8 * w + 8) 3 1 1 (omega arith)) (told-eight R w (a + 8 * w + 8) colours))
+
+pub leaf-nodes : (t : Tree) → (colour t ≡ forkType → ⊥) → 1 ≡ sizeOf t
+unfolding sizeOf
+leaf-nodes t z = rw (leaf-by-type t z)
+
+pub block-few : (f : ℕ → ℕ → ℕ) (x y : ℕ) → sizeOf (treeOf f 3 x y) ≤ 85
+block-few f x y = omega (arith, size-le 3 (treeOf f 3 x y) (tree-within f 3 x y))

@@ -108,12 +108,18 @@ pub nodes-are : (R : List ℕ) (w a : ℕ) → Colours R → colour (treeOf (win
 nodes-are R w a colours k n s en es =
     omega (arith, en, es, ap sizeOf (below-is R w a 0), ap sizeOf (below-is R w a 1), fork-nodes (window R w a) (window-few R w a colours) 2 0 0 k)
 
--- a window that opens on a block of a sheet of that width
+-- a window further on opens on a block of the first
+pub window-moved : (R : List ℕ) (w a b l x y : ℕ) → b ≡ a + y * 2 ^ l * w + x * 2 ^ l → treeOf (window R w b) l 0 0 ≡ treeOf (window R w a) l x y
+window-moved R w a b l x y e =
+    let pixel : (i j : ℕ) → window R w b i j ≡ window R w a (x * 2 ^ l + i) (y * 2 ^ l + j) =
+    λ i j. unfold window in ap (λ (k : ℕ). getD R k 0) (rw (e, add-mul (y * 2 ^ l) j w) (omega arith)) in
+    same-picture (window R w b) (λ i j. window R w a (x * 2 ^ l + i) (y * 2 ^ l + j)) l 0 0 (λ i j hi hj. pixel i j)
+    ∙ tree-moved (window R w a) x y l 0 0
+    ∙ rw (add-zero, add-zero)
+
+-- and a window on a picture on one of its blocks
 pub window-tree : (R : List ℕ) (f : ℕ → ℕ → ℕ) (w a l x y : ℕ) → ((i j : ℕ) → f i j ≡ getD R (j * w + i) 0) → a ≡ y * 2 ^ l * w + x * 2 ^ l
     → treeOf (window R w a) l 0 0 ≡ treeOf f l x y
 window-tree R f w a l x y is e =
-    let pixel : (i j : ℕ) → window R w a i j ≡ f (x * 2 ^ l + i) (y * 2 ^ l + j) =
-    λ i j. unfold window in ap (λ (k : ℕ). getD R k 0) (rw (e, add-mul (y * 2 ^ l) j w) (omega arith)) ∙ sym (is (x * 2 ^ l + i) (y * 2 ^ l + j)) in
-    same-picture (window R w a) (λ i j. f (x * 2 ^ l + i) (y * 2 ^ l + j)) l 0 0 (λ i j hi hj. pixel i j)
-    ∙ tree-moved f x y l 0 0
-    ∙ rw (add-zero, add-zero)
+    let first : (i j : ℕ) → window R w 0 i j ≡ f i j = λ i j. unfold window in ap (λ (k : ℕ). getD R k 0) (omega arith) ∙ sym (is i j) in
+    window-moved R w 0 a l x y (omega arith) ∙ same-picture (window R w 0) f l x y (λ i j hi hj. first i j)

@@ -8,6 +8,8 @@ ghost use Rattle.quad.specs.Tree.{colour, sizeOf, treeOf};
 ghost use Rattle.lanes.specs.Sums.{Colours};
 ghost use Rattle.lanes.specs.Lanes.{window, twoAt, fourAt, eightAt, blackRow, twoRows, fourRows, eightRows, kindOf, packed, apartOf, fourthsOf, mixedLanes, laneSum, mixedTwo, forksOf, FourSums, sumsFrom};
 
+pub mod notes;
+
 // A pixel.
 fn byte_at(raster: &[u8], at: usize) -> u64
     requires { ⌜ (at < length (now raster)) × Colours (now raster) ⌝ }

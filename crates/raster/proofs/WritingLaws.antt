@@ -11,7 +11,7 @@ use Rattle.quad.proofs.TreeLaws.{leaf-by-type, size-pos}
 use Rattle.table.proofs.PreorderLaws.{sonNode, SonsWritten, number-written, part-written, sons-length, sons-written, written-leaf, written-fork, written-length}
 use Rattle.raster.specs.Raster.{pictureOf}
 use Rattle.raster.specs.Blocks.{Picture}
-use Rattle.raster.specs.Kinds.{fourOver}
+use Rattle.lanes.specs.Sums.{fourOver}
 use Rattle.raster.specs.Writing.{Ready, Put}
 use Rattle.raster.proofs.ForkLaws.{son-tree, Forked, block-forked, son-end, sons-end}
 

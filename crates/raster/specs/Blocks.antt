@@ -7,16 +7,13 @@ use lib.ListN.{length, getD}
 use Rattle.answer.specs.declared.Outcome.{Outcome}
 use Rattle.answer.specs.declared.Outcome.the-variants.{BadLevel}
 use Rattle.answer.specs.Numbers.{andThen, unless}
-use Rattle.quad.specs.Numbers.{topLevel, topColour}
+use Rattle.quad.specs.Numbers.{topLevel}
+use Rattle.lanes.specs.Sums.{Colours}
 use Rattle.raster.specs.Raster.{rasterLength, pixelsFrom}
 
 -- no byte is above m
 abbrev pub NoneAbove : ℕ → List ℕ → Type 0
 NoneAbove m R = (i : ℕ) → i < length R → getD R i 0 ≤ m
-
--- every byte is a colour
-abbrev pub Colours : List ℕ → Type 0
-Colours R = (i : ℕ) → getD R i 0 ≤ topColour
 
 -- a raster of level n that is not refused: 4 ^ n bytes, all of them colours
 pub record Picture (n : ℕ) (R : List ℕ) : Type 0 where

@@ -1,31 +1,15 @@
--- How building tells a block's type by sums of pixels: so many pixels that are 0 or 1 are alike where their sum is 0 or their number.
-use mathlib.Core.Bool.{cond}
+-- How building reads four pixels at once, and what it knows of a block whose type, and those of the blocks below it, are noted.
 use mathlib.Core.List.{List}
-use Prim.Native.Nat.{ℕ, _+_, _*_, _%_}
-use lib.Dec.{eqb}
-use lib.ListN.{getD}
-use Rattle.quad.specs.Tree.{Tree, fork, treeOf}
-
--- the bytes from a place on
-abbrev pub rowFrom : List ℕ → ℕ → ℕ → ℕ
-rowFrom R a i = getD R (a + i) 0
-
--- the sum of the four pixels of the block (x, y) of level 1
-unfoldable pub fourSum : (ℕ → ℕ → ℕ) → ℕ → ℕ → ℕ
-fourSum f x y = f (2 * x) (2 * y) + f (2 * x + 1) (2 * y) + f (2 * x) (2 * y + 1) + f (2 * x + 1) (2 * y + 1)
+use mathlib.Core.Path.{_≡_}
+use Prim.Native.Nat.{ℕ, _+_, _-_, _*_, _^_, _≤_}
+use Rattle.lanes.specs.Notes.{slotsOf, Noted}
 
 -- the pixels of row y in column x of the blocks of level 2, as one number
 unfoldable pub fourPixels : (ℕ → ℕ → ℕ) → ℕ → ℕ → ℕ
 fourPixels f x y = f (2 * (2 * x)) y + 256 * f (2 * (2 * x) + 1) y + 65536 * f (2 * (2 * x + 1)) y + 16777216 * f (2 * (2 * x + 1) + 1) y
 
--- the sum of the sixteen pixels of a block of level 2
-unfoldable pub sixteenSum : (ℕ → ℕ → ℕ) → ℕ → ℕ → ℕ
-sixteenSum f x y = fourSum f (2 * x) (2 * y) + fourSum f (2 * x + 1) (2 * y) + fourSum f (2 * x) (2 * y + 1) + fourSum f (2 * x + 1) (2 * y + 1)
-
--- a fork over the four quarters of the block (x, y), which are of level l
-abbrev pub fourOver : (ℕ → ℕ → ℕ) → ℕ → ℕ → ℕ → Tree
-fourOver f l x y = fork (treeOf f l (2 * x) (2 * y)) (treeOf f l (2 * x + 1) (2 * y)) (treeOf f l (2 * x) (2 * y + 1)) (treeOf f l (2 * x + 1) (2 * y + 1))
-
--- 1 where k pixels of the sum s are not alike
-unfoldable pub mixedOf : ℕ → ℕ → ℕ
-mixedOf s k = cond (eqb (s % k) 0) 0 1
+-- the block (x, y) of level l on the sheet R of level n is noted in K, in t slots from slot s on
+pub record Known (n : ℕ) (R K : List ℕ) (l x y s t : ℕ) : Type 0 where
+  pub noted : Noted R (2 ^ n) K (l - 3) l s (y * 2 ^ l * 2 ^ n + x * 2 ^ l)
+  pub slots : t ≡ slotsOf (l - 3)
+  pub room : s + t ≤ 341

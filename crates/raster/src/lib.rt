@@ -3,17 +3,18 @@ use answer::Outcome;
 ghost use mathlib.Core.Bool.{true};
 ghost use mathlib.Core.List.{[], _∷_};
 ghost use mathlib.Core.Path.{_≡_};
-ghost use Prim.Native.Nat.{_+_, _*_, _/_, _%_, _≤_, _<_, _^_};
+ghost use Prim.Native.Nat.{_+_, _-_, _*_, _/_, _%_, _≤_, _<_, _^_};
 ghost use lib.ListN.{length};
 ghost use lib.Seq.{sets};
-ghost use Rattle.base.specs.Tab.{sum};
 ghost use Rattle.quad.specs.Numbers.{topLevel, maxWords, forkType, none};
 ghost use Rattle.quad.specs.Tree.{colour, sizeOf, treeOf};
 ghost use Rattle.table.specs.Table.{isFork};
 ghost use Rattle.raster.specs.Raster.{pictureOf, rasterLength, pixelsFrom};
 ghost use Rattle.raster.specs.Calls.{Builds, Decodes};
-ghost use Rattle.raster.specs.Blocks.{Picture, readableOf, OnSheet, Colours, NoneAbove};
-ghost use Rattle.raster.specs.Kinds.{rowFrom, fourPixels, fourSum, sixteenSum, fourOver, mixedOf};
+ghost use Rattle.lanes.specs.Sums.{fourSum, sixteenSum, mixedOf, fourOver};
+ghost use Rattle.lanes.specs.Notes.{Noted, Tallied};
+ghost use Rattle.raster.specs.Blocks.{Picture, readableOf, OnSheet, NoneAbove};
+ghost use Rattle.raster.specs.Kinds.{fourPixels, Known};
 ghost use Rattle.raster.specs.Painting.{Filled, Painted, inBlock, coloursAt, Paintable};
 ghost use Rattle.raster.specs.Writing.{Ready, Put};
 
@@ -24,90 +25,6 @@ fn pixel_at(raster: &[u8], n: u32, x: usize, y: usize) -> u32
 {
     let across = quad::side(n) as usize;
     raster[y * across + x] as u32
-}
-
-// The sum of a row of pixels.
-fn row_sum(raster: &[u8], start: usize, width: usize) -> u32
-    requires { ⌜ (start + width ≤ length (now raster)) × (width ≤ 2 ^ topLevel) × Colours (now raster) ⌝ }
-    ensures { λ r. ⌜ r ≡ sum (rowFrom (now (raster .entry)) start) width ⌝ }
-{
-    let mut sum = 0;
-    let mut i = 0;
-    while i < width {
-        sum += raster[start + i] as u32;
-        i += 1;
-    }
-    sum
-}
-
-// Whether a block's corners differ: most forks are told by them, without their rows.
-fn corners_differ(raster: &[u8], n: u32, level: u32, x: usize, y: usize) -> bool
-    requires { ⌜ Picture n (now raster) × OnSheet n level x y ⌝ }
-    ensures { λ r. ⌜ (r ≡ true → forkType ≡ colour (treeOf (pictureOf n (now (raster .entry))) level x y)) ⌝ }
-{
-    let width = quad::side(level) as usize;
-    let west = x * width;
-    let north = y * width;
-    let east = west + (width - 1);
-    let south = north + (width - 1);
-    let first = pixel_at(raster, n, west, north);
-    if pixel_at(raster, n, east, north) != first {
-        return true;
-    }
-    if pixel_at(raster, n, west, south) != first {
-        return true;
-    }
-    if pixel_at(raster, n, east, south) != first {
-        return true;
-    }
-    false
-}
-
-// The type of a block: its pixels' colour where they are alike, which each row's sum tells, else a fork's.
-fn kind_by_rows(raster: &[u8], n: u32, level: u32, x: usize, y: usize) -> u32
-    requires { ⌜ Picture n (now raster) × OnSheet n level x y ⌝ }
-    ensures { λ r. ⌜ r ≡ colour (treeOf (pictureOf n (now (raster .entry))) level x y) ⌝ }
-{
-    if corners_differ(raster, n, level, x, y) {
-        return quad::FORK as u32;
-    }
-    let across = quad::side(n) as usize;
-    let width = quad::side(level) as usize;
-    let left = x * width;
-    let top = y * width;
-    let first = pixel_at(raster, n, left, top);
-    let alike = first * (width as u32);
-    let mut row = 0;
-    while row < width {
-        if row_sum(raster, (top + row) * across + left, width) != alike {
-            return quad::FORK as u32;
-        }
-        row += 1;
-    }
-    first
-}
-
-// The type of a block. The width of its rows is written out, so that a row is summed without a loop.
-fn kind_of(raster: &[u8], n: u32, level: u32, x: usize, y: usize) -> u32
-    requires { ⌜ Picture n (now raster) × OnSheet n level x y ⌝ }
-    ensures { λ r. ⌜ r ≡ colour (treeOf (pictureOf n (now (raster .entry))) level x y) ⌝ }
-{
-    if level == 3 {
-        return kind_by_rows(raster, n, 3, x, y);
-    }
-    if level == 4 {
-        return kind_by_rows(raster, n, 4, x, y);
-    }
-    if level == 5 {
-        return kind_by_rows(raster, n, 5, x, y);
-    }
-    if level == 6 {
-        return kind_by_rows(raster, n, 6, x, y);
-    }
-    if level == 7 {
-        return kind_by_rows(raster, n, 7, x, y);
-    }
-    kind_by_rows(raster, n, level, x, y)
 }
 
 // The sum of the four pixels of a block of level 1.
@@ -175,46 +92,46 @@ fn count_sixteen(raster: &[u8], n: u32, x: usize, y: usize) -> u32
     1 + 4 * (quarters + mixed(nw + ne + sw + se, 16))
 }
 
-// The nodes of a fork above level 2. A son that is a leaf is counted here, and so is one of level 2, without a call.
-fn count_fork(raster: &[u8], n: u32, level: u32, x: usize, y: usize) -> u32
-    requires { ⌜ Picture n (now raster) × OnSheet n level x y × (3 ≤ level) × (colour (treeOf (pictureOf n (now raster)) level x y) ≡ forkType) ⌝ }
-    ensures { λ r. ⌜ r ≡ sizeOf (treeOf (pictureOf n (now (raster .entry))) level x y) ⌝ }
+// The type of a sheet below level 3.
+fn small_kind(raster: &[u8], n: u32) -> u32
+    requires { ⌜ Picture n (now raster) × (n < 3) ⌝ }
+    ensures { λ r. ⌜ r ≡ colour (treeOf (pictureOf n (now (raster .entry))) n 0 0) ⌝ }
 {
-    let half = level - 1;
-    let mut nodes = 1;
-    let mut q = 0;
-    while q < 4 {
-        let u = 2 * x + q % 2;
-        let v = 2 * y + q / 2;
-        q += 1;
-        if half == 2 {
-            nodes += count_sixteen(raster, n, u, v);
-        } else {
-            if kind_of(raster, n, half, u, v) == quad::FORK as u32 {
-                nodes += count_fork(raster, n, half, u, v);
-            } else {
-                nodes += 1;
-            }
-        }
+    if n == 0 {
+        return pixel_at(raster, 0, 0, 0);
     }
-    nodes
+    if n == 1 {
+        return lanes::kind(sum_four(raster, 1, 0, 0) as u64, 4);
+    }
+    lanes::kind(sum_sixteen(raster, 2, 0, 0) as u64, 16)
 }
 
-// The nodes of a sheet whose root has that type.
-fn count(raster: &[u8], n: u32, kind: u32) -> u32
-    requires { ⌜ Picture n (now raster) × (kind ≡ colour (treeOf (pictureOf n (now raster)) n 0 0)) ⌝ }
-    ensures { λ r. ⌜ r ≡ sizeOf (treeOf (pictureOf n (now (raster .entry))) n 0 0) ⌝ }
+// The nodes of a sheet below level 3; its type is noted.
+fn count_small(raster: &[u8], n: u32, kinds: &mut [u32; 341]) -> u32
+    requires { ⌜ Picture n (now raster) × (n < 3) × (length (now kinds) ≡ 341) ⌝ }
+    ensures { λ r. ⌜ Tallied (now (raster .entry)) (2 ^ n) 0 n 0 (now (kinds .entry)) (now (kinds .exit)) r ⌝ }
 {
+    let kind = small_kind(raster, n);
+    kinds[0] = kind;
     if kind != quad::FORK as u32 {
         return 1;
     }
     if n == 1 {
         return 5;
     }
-    if n == 2 {
-        return count_sixteen(raster, 2, 0, 0);
+    count_sixteen(raster, 2, 0, 0)
+}
+
+// The nodes of a sheet; the types of its blocks from level 3 up are noted.
+fn count(raster: &[u8], n: u32, kinds: &mut [u32; 341]) -> u32
+    requires { ⌜ Picture n (now raster) × (length (now kinds) ≡ 341) ⌝ }
+    ensures { λ r. ⌜ Tallied (now (raster .entry)) (2 ^ n) 0 n 0 (now (kinds .entry)) (now (kinds .exit)) r ⌝ }
+{
+    if n < 3 {
+        return count_small(raster, n, kinds);
     }
-    count_fork(raster, n, n, 0, 0)
+    let across = quad::side(n) as usize;
+    lanes::notes::block(raster, across, 0, n, 0, lanes::notes::slots(n), kinds)
 }
 
 // Writes the six words of a leaf.
@@ -307,7 +224,7 @@ fn put_sixteen(
     requires { ⌜ Picture n (now raster) × OnSheet n 2 x y × Ready (treeOf (pictureOf n (now raster)) 2 x y) p (length (now table)) ⌝ }
     ensures { λ r. ⌜ Put (treeOf (pictureOf n (now (raster .entry))) 2 x y) father p (now (table .entry)) (now (table .exit)) r ⌝ }
 {
-    let sum = sum_sixteen(raster, n, x, y);
+    let sum = sum_sixteen(&*raster, n, x, y);
     if sum % 16 == 0 {
         put_leaf(table, p as usize, father, sum / 16);
         return p + 1;
@@ -315,10 +232,10 @@ fn put_sixteen(
     let west = 2 * x;
     let north = 2 * y;
     let a = p + 1;
-    let b = put_four(raster, n, west, north, table, a, p);
-    let c = put_four(raster, n, west + 1, north, table, b, p);
-    let d = put_four(raster, n, west, north + 1, table, c, p);
-    let next = put_four(raster, n, west + 1, north + 1, table, d, p);
+    let b = put_four(&*raster, n, west, north, table, a, p);
+    let c = put_four(&*raster, n, west + 1, north, table, b, p);
+    let d = put_four(&*raster, n, west, north + 1, table, c, p);
+    let next = put_four(&*raster, n, west + 1, north + 1, table, d, p);
     table::put_node(table, p as usize, father, a, b, c, d, quad::FORK as u32);
     next
 }
@@ -331,14 +248,18 @@ fn put_fork(
     level: u32,
     x: usize,
     y: usize,
+    slot: usize,
+    slots: usize,
+    kinds: &[u32; 341],
     table: &mut [u32],
     p: u32,
     father: u32,
 ) -> u32
-    requires { ⌜ Picture n (now raster) × OnSheet n level x y × (3 ≤ level) × (colour (treeOf (pictureOf n (now raster)) level x y) ≡ forkType) × Ready (treeOf (pictureOf n (now raster)) level x y) p (length (now table)) ⌝ }
+    requires { ⌜ Picture n (now raster) × OnSheet n level x y × (3 ≤ level) × (colour (treeOf (pictureOf n (now raster)) level x y) ≡ forkType) × Ready (treeOf (pictureOf n (now raster)) level x y) p (length (now table)) × Known n (now raster) (now kinds) level x y slot slots ⌝ }
     ensures { λ r. ⌜ Put (treeOf (pictureOf n (now (raster .entry))) level x y) father p (now (table .entry)) (now (table .exit)) r ⌝ }
 {
     let half = level - 1;
+    let apart = slots / 4;
     let own = 6 * (p as usize);
     table[own] = father;
     let mut next = p + 1;
@@ -347,13 +268,14 @@ fn put_fork(
         table[own + 1 + q] = next;
         let u = 2 * x + q % 2;
         let v = 2 * y + q / 2;
+        let its = slot + 1 + q * apart;
         q += 1;
         if half == 2 {
-            next = put_sixteen(raster, n, u, v, table, next, p);
+            next = put_sixteen(&*raster, n, u, v, table, next, p);
         } else {
-            let kind = kind_of(raster, n, half, u, v);
+            let kind = kinds[its];
             if kind == quad::FORK as u32 {
-                next = put_fork(raster, n, half, u, v, table, next, p);
+                next = put_fork(&*raster, n, half, u, v, its, apart, kinds, table, next, p);
             } else {
                 put_leaf(table, next as usize, p, kind);
                 next += 1;
@@ -364,12 +286,13 @@ fn put_fork(
     next
 }
 
-// Writes a sheet whose root has that type, and gives its node count.
-fn put(raster: &[u8], n: u32, kind: u32, table: &mut [u32]) -> u32
-    requires { ⌜ Picture n (now raster) × (kind ≡ colour (treeOf (pictureOf n (now raster)) n 0 0)) × Ready (treeOf (pictureOf n (now raster)) n 0 0) 0 (length (now table)) ⌝ }
+// Writes a sheet whose types are noted, and gives its node count.
+fn put(raster: &[u8], n: u32, kinds: &[u32; 341], table: &mut [u32]) -> u32
+    requires { ⌜ Picture n (now raster) × Noted (now raster) (2 ^ n) (now kinds) (n - 3) n 0 0 × Ready (treeOf (pictureOf n (now raster)) n 0 0) 0 (length (now table)) ⌝ }
     ensures { λ r. ⌜ Put (treeOf (pictureOf n (now (raster .entry))) n 0 0) none 0 (now (table .entry)) (now (table .exit)) r ⌝ }
 {
     let nobody = quad::NONE as u32;
+    let kind = kinds[0];
     if kind != quad::FORK as u32 {
         put_leaf(table, 0, nobody, kind);
         return 1;
@@ -380,7 +303,7 @@ fn put(raster: &[u8], n: u32, kind: u32, table: &mut [u32]) -> u32
     if n == 2 {
         return put_sixteen(raster, 2, 0, 0, table, 0, nobody);
     }
-    put_fork(raster, n, n, 0, 0, table, 0, nobody)
+    put_fork(raster, n, n, 0, 0, 0, lanes::notes::slots(n), kinds, table, 0, nobody)
 }
 
 // Whether a raster of level n has that many bytes.
@@ -405,14 +328,18 @@ fn larger(a: u8, b: u8) -> u8
     a
 }
 
-// A byte that no byte is above: the highest, found without a way out, so that many are looked at together.
+// A byte that no byte of a raster of four parts is above: the highest, found without a way out, so that many are looked at together, from all four parts.
 fn highest(raster: &[u8]) -> u8
+    requires { ⌜ length (now raster) % 4 ≡ 0 ⌝ }
     ensures { λ r. ⌜ NoneAbove r (now (raster .entry)) ⌝ }
 {
+    let part = raster.len() / 4;
     let mut most = 0;
     let mut i = 0;
-    while i < raster.len() {
-        most = larger(most, raster[i]);
+    while i < part {
+        let north = larger(raster[i], raster[part + i]);
+        let south = larger(raster[2 * part + i], raster[3 * part + i]);
+        most = larger(most, larger(north, south));
         i += 1;
     }
     most
@@ -433,11 +360,14 @@ fn first_bad(raster: &[u8]) -> Outcome
     Outcome::Answered { value: 0 }
 }
 
-// The first byte that is no colour, looked for only where the highest is none.
+// The first byte that is no colour, looked for only where the highest is none, or where there is one byte.
 fn pixels(raster: &[u8]) -> Outcome
     requires { ⌜ length (now raster) ≤ 4 ^ topLevel ⌝ }
     ensures { λ r. ⌜ r ≡ pixelsFrom (now (raster .entry)) 0 ⌝ }
 {
+    if raster.len() % 4 != 0 {
+        return first_bad(raster);
+    }
     if quad::TOP_COLOUR < highest(raster) as usize {
         return first_bad(raster);
     }
@@ -467,13 +397,13 @@ pub fn build(n: u32, raster: &[u8], table: &mut [u32]) -> Outcome
     if !answer::answered(read) {
         return read;
     }
-    let kind = kind_of(raster, n, n, 0, 0);
-    let nodes = count(raster, n, kind);
+    let mut kinds: [u32; 341] = [0; 341];
+    let nodes = count(raster, n, &mut kinds);
     let needed = 6 * nodes;
     if table.len() < needed as usize {
         return Outcome::NoRoom { needed };
     }
-    let value = put(raster, n, kind, table);
+    let value = put(raster, n, &kinds, table);
     Outcome::Answered { value }
 }
 

@@ -2,7 +2,7 @@
 use native.Mathlib.Omega.{arith}
 use Rattle.raster.specs.Raster.{pictureOf}
 use Rattle.raster.proofs.BlockLaws.{on-small, on-son}
-use Rattle.raster.proofs.KindLaws.{sixteen-count}
+use Rattle.lanes.proofs.KindLaws.{sixteen-count}
 use borrow.Author.Needs.{needs}
 use Rattle.raster.proofs.count_sixteen.Statement.{statement}
 use Rattle.raster.proofs.count_sixteen.Tie as tie

@@ -1,7 +1,7 @@
 -- `raster::mixed`: by the rest of the sum. Assumes nothing.
 use native.Mathlib.Omega.{arith}
 use borrow.Author.Tests.{eq-eqb, ne-eqb}
-use Rattle.raster.specs.Kinds.{mixedOf}
+use Rattle.lanes.specs.Sums.{mixedOf}
 use borrow.Author.Needs.{needs}
 use Rattle.raster.proofs.mixed.Statement.{statement}
 use Rattle.raster.proofs.mixed.Tie as tie

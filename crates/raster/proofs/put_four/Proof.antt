@@ -3,7 +3,7 @@ use mathlib.Core.Path.{refl}
 use Prim.Native.Nat.{_/_}
 use native.Mathlib.Omega.{arith}
 use Rattle.raster.specs.Raster.{pictureOf}
-use Rattle.raster.proofs.KindLaws.{four-leaf, four-fork}
+use Rattle.lanes.proofs.KindLaws.{four-leaf, four-fork}
 use Rattle.raster.proofs.WritingLaws.{node-room, leaf-put, pixels-ready}
 use borrow.Author.Needs.{needs}
 use Rattle.raster.proofs.put_four.Statement.{statement}

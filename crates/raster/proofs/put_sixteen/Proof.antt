@@ -4,7 +4,7 @@ use Prim.Native.Nat.{_/_}
 use native.Mathlib.Omega.{arith}
 use Rattle.raster.specs.Raster.{pictureOf}
 use Rattle.raster.proofs.BlockLaws.{on-small, on-son}
-use Rattle.raster.proofs.KindLaws.{sixteen-leaf, sixteen-fork}
+use Rattle.lanes.proofs.KindLaws.{sixteen-leaf, sixteen-fork}
 use Rattle.raster.proofs.WritingLaws.{node-room, leaf-put, ready-first, ready-second, ready-third, ready-fourth, fork-put}
 use borrow.Author.Needs.{needs}
 use Rattle.raster.proofs.put_sixteen.Statement.{statement}

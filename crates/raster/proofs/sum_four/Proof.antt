@@ -1,6 +1,6 @@
 -- `raster::sum_four`: four pixels, none above 1. Assumes nothing.
 use native.Mathlib.Omega.{arith}
-use Rattle.raster.specs.Kinds.{fourSum}
+use Rattle.lanes.specs.Sums.{fourSum}
 use Rattle.raster.proofs.BlockLaws.{on-small, on-son}
 use Rattle.raster.proofs.KindLaws.{pixel-few}
 use Rattle.raster.proofs.sum_four.Statement.{statement}
