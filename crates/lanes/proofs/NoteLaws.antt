@@ -51,13 +51,13 @@ four-slots l s t el et le =
     omega arith
 
 -- a quarter's slots
-pub slots-part : (l t : ℕ) → 5 ≤ l → t ≡ slotsOf (l - 3) → t / 4 ≡ slotsOf (l - 1 - 3)
+pub slots-part : (l t : ℕ) → 4 ≤ l → t ≡ slotsOf (l - 3) → t / 4 ≡ slotsOf (l - 1 - 3)
 slots-part l t le e =
     let s : l - 3 ≡ suc (l - 1 - 3) = omega arith in
     let f : t ≡ 4 * slotsOf (l - 1 - 3) + 1 = e ∙ rw s (unfold slotsOf in refl) in
     omega arith
 
-pub slots-four : (l t : ℕ) → 5 ≤ l → t ≡ slotsOf (l - 3) → t ≡ 4 * (t / 4) + 1
+pub slots-four : (l t : ℕ) → 4 ≤ l → t ≡ slotsOf (l - 3) → t ≡ 4 * (t / 4) + 1
 slots-four l t le e =
     let s : l - 3 ≡ suc (l - 1 - 3) = omega arith in
     let f : t ≡ 4 * slotsOf (l - 1 - 3) + 1 = e ∙ rw s (unfold slotsOf in refl) in
@@ -118,15 +118,21 @@ leaf-noted R w a l s k K lt e z = record {
   long = length-set K s k;
 }
 
--- a block of level 3
+-- a block below which nothing is noted
+pub alone-noted : (R : List ℕ) (w a l s r k : ℕ) (K : List ℕ) → l ≤ 3 → s < length K → r ≡ sizeOf (treeOf (window R w a) l 0 0)
+    → k ≡ colour (treeOf (window R w a) l 0 0) → Tallied R w a l s K (set K s k) r
+alone-noted R w a l s r k K low lt er e =
+    let d : l - 3 ≡ 0 = omega arith in
+    record {
+      nodes = er;
+      noted = rw d (unfold Noted in getD-set-same K s k 0 lt ∙ e);
+      kept = λ i out. getD-set-other K s i k 0 (λ q. out (omega arith) (omega (arith, slots-some (l - 3))));
+      long = length-set K s k;
+    }
+
 pub block-noted : (R : List ℕ) (w a s r : ℕ) (K K′ : List ℕ) → s < length K → r ≡ sizeOf (treeOf (window R w a) 3 0 0)
     → K′ ≡ set K s (colour (treeOf (window R w a) 3 0 0)) → Tallied R w a 3 s K K′ r
-block-noted R w a s r K K′ lt er e = rw e (record {
-  nodes = er;
-  noted = unfold Noted in getD-set-same K s _ 0 lt;
-  kept = λ i out. getD-set-other K s i _ 0 (λ q. out (omega arith) (unfold slotsOf in omega arith));
-  long = length-set K s _;
-})
+block-noted R w a s r K K′ lt er e = rw e (alone-noted R w a 3 s r _ K (omega arith) lt er refl)
 
 -- the types of like quarters
 chosen : (a : ℕ) (u v x : Bool) → a ≡ forkType → cond u (cond v (cond x a forkType) forkType) forkType ≡ forkType
@@ -325,14 +331,14 @@ module _ (R : List ℕ) (w a l s q h p t : ℕ) (low : 5 ≤ l) (lt : q < 4) (eh
   pub part-called : Lies R w a l → s + t ≤ 341 → (Lies R w p (l - 1)) × (s + 1 + q * (t / 4) + t / 4 ≤ 341)
   part-called lies room = (
     rw (ep, eh) (part-lies R w a l lies (omega arith) q lt),
-    omega (arith, times-below q 4 (t / 4) lt, slots-part l t low et, slots-four l t low et),
+    omega (arith, times-below q 4 (t / 4) lt, slots-part l t (omega arith) et, slots-four l t (omega arith) et),
   )
 
   pub part-tallied : (m r : ℕ) (K K′ : List ℕ) → l - 1 ≡ m → Tallied R w p m (s + 1 + q * (t / 4)) K K′ r
       → Tallied R w (partAt w a (2 ^ (l - 1)) q) (l - 1) (s + 1 + q * slotsOf (l - 1 - 3)) K K′ r
   part-tallied m r K K′ em ta =
       let its : Tallied R w p (l - 1) (s + 1 + q * (t / 4)) K K′ r = rw em ta in
-      rw (← slots-part l t low et, ← eh, ← ep) its
+      rw (← slots-part l t (omega arith) et, ← eh, ← ep) its
 
 pub parts-all : (R : List ℕ) (w a l s q : ℕ) (K₀ K : List ℕ) (nodes : ℕ) → Parts R w a l s q K₀ K nodes → 4 ≤ q → Parts R w a l s 4 K₀ K nodes
 parts-all R w a l s q K₀ K nodes ps le =
@@ -344,5 +350,5 @@ pub parts-joined : (R : List ℕ) (w a l s t : ℕ) (low : 5 ≤ l) (K₀ : List
     → k ≡ joinedOf (getD K (s + 1) 0) (getD K (s + 1 + t / 4) 0) (getD K (s + 1 + 2 * (t / 4)) 0) (getD K (s + 1 + 3 * (t / 4)) 0)
     → k ≡ colour (treeOf (window R w a) l 0 0)
 parts-joined R w a l s t low K₀ colours nodes K ps room et k e =
-    let part = slots-part l t low et in
+    let part = slots-part l t (omega arith) et in
     parts-kind R w a l s (omega arith) K₀ colours nodes K ps room k _ _ _ _ refl (rw part) (rw part) (rw part) e

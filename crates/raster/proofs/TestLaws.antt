@@ -1,15 +1,17 @@
 -- The refusals of building in their order: the raster's length, its first byte that is no colour; and what is known of a raster that passes.
 use mathlib.Core.Bool.{Bool, true, false, not, false≢true}
 use mathlib.Core.List.{List, [], _∷_}
+use mathlib.Core.Logic.{⊎-elim}
 use mathlib.Core.Path.{_≡_, refl, ap, sym, _∙_}
-use Prim.Native.Nat.{ℕ, zero, suc, _+_, _*_, _^_, _≤_, _<_}
+use Prim.Native.Nat.{ℕ, zero, suc, _+_, _-_, _*_, _^_, _≤_, _<_}
+use native.Mathlib.Nat.{eq-or-lt-of-le, le-of-suc-le-suc}
 use native.Mathlib.Numerals.{add-one}
 use native.Mathlib.Omega.{arith}
 use lib.Dec.{eqb, ltb}
 use lib.ListN.{length, getD, drop}
 use lib.Seq.{drop-cons, drop-length}
-use borrow.Author.Tests.{eq-eqb, ne-eqb, eqb-true, lt-ltb, le-ltb, ltb-false}
-use Rattle.base.proofs.BoolLaws.{on}
+use borrow.Author.Tests.{eq-eqb, ne-eqb, eqb-true, lt-ltb, le-ltb, ltb-true, ltb-false}
+use Rattle.base.proofs.BoolLaws.{on, by-bool}
 use Rattle.base.proofs.PowLaws.{four-pow}
 use Rattle.answer.specs.declared.Outcome.{Outcome}
 use Rattle.answer.specs.declared.Outcome.the-variants.{Answered, BadLevel, WrongLength, BadPixel}
@@ -94,3 +96,35 @@ module _ (n : ℕ) (R : List ℕ) where
         whole = length-of n (length R) (h .0);
         colours = λ i. pixels-good R 0 i (h .1);
       }
+
+-- four parts of p bytes each, looked at together: none of their first i is above m
+module _ (R : List ℕ) (p : ℕ) where
+  abbrev Below : ℕ → ℕ → Type 0
+  Below m j = (getD R j 0 ≤ m) × (getD R (p + j) 0 ≤ m) × (getD R (2 * p + j) 0 ≤ m) × (getD R (3 * p + j) 0 ≤ m)
+
+  pub none-above-next : (m k i : ℕ) → ((j : ℕ) → j < i → Below m j) → m ≤ k → Below k i → (j : ℕ) → j < i + 1 → Below k j
+  none-above-next m k i h le now j lt =
+      ⊎-elim
+      (λ (e : j ≡ i). rw e now)
+      (λ (less : j < i). let b = h j less in (omega arith, omega arith, omega arith, omega arith))
+      (eq-or-lt-of-le (le-of-suc-le-suc (rw add-one at lt)))
+
+  pub none-above-all : (m : ℕ) → length R ≡ 4 * p → ((j : ℕ) → j < p → Below m j) → NoneAbove m R
+  none-above-all m long h i lt =
+      ⊎-elim
+      (λ (a : ltb i p ≡ true). h i (ltb-true i p a) .0)
+      (λ (a : ltb i p ≡ false).
+      let a₁ = ltb-false i p a in
+      ⊎-elim
+      (λ (b : ltb i (2 * p) ≡ true). let b₁ = ltb-true i (2 * p) b in rw (back i p a₁) at (h (i - p) (omega arith) .1))
+      (λ (b : ltb i (2 * p) ≡ false).
+      let b₁ = ltb-false i (2 * p) b in
+      ⊎-elim
+      (λ (c : ltb i (3 * p) ≡ true). let c₁ = ltb-true i (3 * p) c in rw (back i (2 * p) b₁) at (h (i - 2 * p) (omega arith) .2))
+      (λ (c : ltb i (3 * p) ≡ false). let c₁ = ltb-false i (3 * p) c in rw (back i (3 * p) c₁) at (h (i - 3 * p) (omega arith) .3))
+      (by-bool (ltb i (3 * p))))
+      (by-bool (ltb i (2 * p))))
+      (by-bool (ltb i p))
+    where
+      back : (i k : ℕ) → k ≤ i → k + (i - k) ≡ i
+      back i k le = omega arith

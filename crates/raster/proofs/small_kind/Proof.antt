@@ -1,52 +1,42 @@
+-- `raster::small_kind`: by the sum of all its pixels. Assumes nothing.
+use mathlib.Core.Path.{_≡_}
+use native.Mathlib.Omega.{arith}
+use Rattle.quad.specs.Tree.{colour, treeOf}
+use Rattle.raster.proofs.BuildLaws.{sheet-on}
+use Rattle.raster.proofs.NotedLaws.{four-told, sixteen-told}
 use borrow.Author.Needs.{needs}
 use Rattle.raster.proofs.small_kind.Statement.{statement}
 use Rattle.raster.proofs.small_kind.Tie as tie
-use Rattle.raster.proofs.small_kind.Reads as reads
-use Rattle.raster.proofs.small_kind.Lts as lts
-use Rattle.lanes.proofs.kind.Reads as kind-reads
-use Rattle.raster.proofs.pixel_at.Reads as pixel-at-reads
-use Rattle.raster.proofs.sum_four.Reads as sum-four-reads
-use Rattle.raster.proofs.sum_sixteen.Reads as sum-sixteen-reads
 
--- src/lib.rt:240:9
 pixel-at-requires : tie.Need-pixel-at-requires
-pixel-at-requires c κs = ?
+pixel-at-requires c κs = (rw (c .if1 .taken) at (c .before .before .pre .0), sheet-on 0)
 
--- src/lib.rt:240:9
 returns : tie.Need-returns
-returns c = ?
+returns c = rw (c .before .if1 .taken) (unfold treeOf colour in c .pixel-at .ensures)
 
--- src/lib.rt:243:28
 sum-four-requires : tie.Need-sum-four-requires
-sum-four-requires c κs = ?
+sum-four-requires c κs = (rw (c .if2 .taken) at (c .before .before .before .pre .0), sheet-on 1)
 
--- src/lib.rt:243:28
 cast-kind : tie.Need-cast-kind
 cast-kind c = search needs
 
--- src/lib.rt:243:9
 kind-requires : tie.Need-kind-requires
 kind-requires c κs = search needs
 
--- src/lib.rt:243:9
 returns-2 : tie.Need-returns-2
-returns-2 c = ?
+returns-2 c = rw (c .before .before .if2 .taken) (four-told 1 _ (rw (c .before .before .if2 .taken) at (c .before .before .before .before .before .pre .0)) 0 0 _ _ (c .before .sum-four .ensures .0) (c .kind .ensures))
 
--- src/lib.rt:245:17
 sum-sixteen-requires : tie.Need-sum-sixteen-requires
-sum-sixteen-requires c κs = ?
+sum-sixteen-requires c κs = let two : c .before .before .before .args .n ≡ 2 = omega (arith, c .before .if1 .left, c .if2 .left, c .before .before .before .pre .1) in (rw two at (c .before .before .before .pre .0), sheet-on 2)
 
--- src/lib.rt:245:17
 cast-kind-2 : tie.Need-cast-kind-2
 cast-kind-2 c = search needs
 
--- src/lib.rt:245:5
 kind-requires-2 : tie.Need-kind-requires-2
 kind-requires-2 c κs = search needs
 
--- src/lib.rt:235:1
 returns-3 : tie.Need-returns-3
-returns-3 c = ?
+returns-3 c = let two : c .before .before .before .before .before .args .n ≡ 2 = omega (arith, c .before .before .before .if1 .left, c .before .before .if2 .left, c .before .before .before .before .before .pre .1) in rw two (sixteen-told 2 _ (rw two at (c .before .before .before .before .before .pre .0)) 0 0 _ _ (c .before .sum-sixteen .ensures) (c .kind2 .ensures))
 
 pub small-kind-spec : {M : Type 1} → statement M
 small-kind-spec =
