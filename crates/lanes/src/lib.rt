@@ -96,7 +96,10 @@ fn fourths(v: u64) -> u64
     let second = v / 65536;
     let third = second / 65536;
     let fourth = third / 65536;
-    v / 4 % 2 + 65536 * (second / 4 % 2) + 4294967296 * (third / 4 % 2) + 281474976710656 * (fourth / 4 % 2)
+    v / 4 % 2
+        + 65536 * (second / 4 % 2)
+        + 4294967296 * (third / 4 % 2)
+        + 281474976710656 * (fourth / 4 % 2)
 }
 
 // 1 in the lanes whose sums are neither 0 nor 4: three more take all others past 3, and 4 is past it alone.

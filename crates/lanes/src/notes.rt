@@ -12,7 +12,14 @@ ghost use Rattle.lanes.specs.Notes.{slotsOf, partAt, Tallied, Lies, join
 const BLACK_ROW: u64 = 72340172838076673;
 
 // Counts the nodes of a block of level 3 by the sum of its rows, and notes its type.
-fn eight(raster: &[u8], across: usize, at: usize, all: u64, slot: usize, kinds: &mut [u32; 341]) -> u32
+fn eight(
+    raster: &[u8],
+    across: usize,
+    at: usize,
+    all: u64,
+    slot: usize,
+    kinds: &mut [u32; 341],
+) -> u32
     requires { ⌜ (at + 7 * across + 8 ≤ length (now raster)) × Colours (now raster) × (all ≡ eightRows (now raster) across at) × (slot < 341) ⌝ }
     ensures { λ r. ⌜ (r ≡ sizeOf (treeOf (window (now (raster .entry)) across at) 3 0 0)) × (now (kinds .exit) ≡ set (now (kinds .entry)) slot (colour (treeOf (window (now (raster .entry)) across at) 3 0 0))) ⌝ }
 {

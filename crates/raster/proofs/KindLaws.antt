@@ -47,4 +47,3 @@ two-blocks f few x y north south en es =
       high-lane (c + d) d _ (omega arith) (lanes .1)
           ∙ in-pairs (f (2 * (2 * x + 1)) (2 * y)) (f (2 * (2 * x + 1) + 1) (2 * y)) (f (2 * (2 * x + 1)) (2 * y + 1)) (f (2 * (2 * x + 1) + 1) (2 * y + 1)),
     )
-

@@ -303,7 +303,8 @@ fn put(raster: &[u8], n: u32, kinds: &[u32; 341], table: &mut [u32]) -> u32
     if n == 2 {
         return put_sixteen(raster, 2, 0, 0, table, 0, nobody);
     }
-    put_fork(raster, n, n, 0, 0, 0, lanes::notes::slots(n), kinds, table, 0, nobody)
+    let slots = lanes::notes::slots(n);
+    put_fork(raster, n, n, 0, 0, 0, slots, kinds, table, 0, nobody)
 }
 
 // Whether a raster of level n has that many bytes.

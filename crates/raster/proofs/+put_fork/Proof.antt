@@ -41,46 +41,46 @@ abbrev put-fork-μ-loop : put-fork-lts.MeasureT-loop
 put-fork-μ-loop raster n level x y slot slots kinds table₀ p father half apart own next₀ q₀ table next q = 4 - q
 
 put-fork-sub-half : (t : ℕ) → put-fork-lts.Need-sub-half (calls t) (put-fork-at t) put-fork.Post put-fork-Inv-loop put-fork-μ-loop
-put-fork-sub-half t c =  omega (arith, c .before .before .pre .1 .2)
+put-fork-sub-half t c = omega (arith, c .before .before .pre .1 .2)
 
 put-fork-mul-own : (t : ℕ) → put-fork-lts.Need-mul-own (calls t) (put-fork-at t) put-fork.Post put-fork-Inv-loop put-fork-μ-loop
-put-fork-mul-own t c =  omega (arith, node-room (c .before .before .pre .1 .4))
+put-fork-mul-own t c = omega (arith, node-room (c .before .before .pre .1 .4))
 
 put-fork-mul-table : (t : ℕ) → put-fork-lts.Need-mul-table (calls t) (put-fork-at t) put-fork.Post put-fork-Inv-loop put-fork-μ-loop
-put-fork-mul-table t c =  omega (arith, node-room (c .before .before .pre .1 .4), c .before .before .good)
+put-fork-mul-table t c = omega (arith, node-room (c .before .before .pre .1 .4), c .before .before .good)
 
 put-fork-slice-write-table : (t : ℕ) → put-fork-lts.Need-slice-write-table (calls t) (put-fork-at t) put-fork.Post put-fork-Inv-loop put-fork-μ-loop
-put-fork-slice-write-table t c =  omega (arith, node-room (c .before .before .pre .1 .4))
+put-fork-slice-write-table t c = omega (arith, node-room (c .before .before .pre .1 .4))
 
 put-fork-add-next : (t : ℕ) → put-fork-lts.Need-add-next (calls t) (put-fork-at t) put-fork.Post put-fork-Inv-loop put-fork-μ-loop
-put-fork-add-next t c =  omega (arith, node-fits (c .before .before .pre .1 .4))
+put-fork-add-next t c = omega (arith, node-fits (c .before .before .pre .1 .4))
 
 put-fork-loop-holds : (t : ℕ) → put-fork-lts.Need-loop-holds (calls t) (put-fork-at t) put-fork.Post put-fork-Inv-loop put-fork-μ-loop
-put-fork-loop-holds t c =  (omega arith, unfold sonNode in refl, none-written _ _ _)
+put-fork-loop-holds t c = (omega arith, unfold sonNode in refl, none-written _ _ _)
 
 put-fork-add-table : (t : ℕ) → put-fork-lts.Need-add-table (calls t) (put-fork-at t) put-fork.Post put-fork-Inv-loop put-fork-μ-loop
-put-fork-add-table t c =  omega (arith, node-room (c .before .before .before .before .pre .1 .4))
+put-fork-add-table t c = omega (arith, node-room (c .before .before .before .before .pre .1 .4))
 
 put-fork-add-table-2 : (t : ℕ) → put-fork-lts.Need-add-table-2 (calls t) (put-fork-at t) put-fork.Post put-fork-Inv-loop put-fork-μ-loop
-put-fork-add-table-2 t c =  omega (arith, node-room (c .before .before .before .before .pre .1 .4))
+put-fork-add-table-2 t c = omega (arith, node-room (c .before .before .before .before .pre .1 .4))
 
 put-fork-mul-table-2 : (t : ℕ) → put-fork-lts.Need-mul-table-2 (calls t) (put-fork-at t) put-fork.Post put-fork-Inv-loop put-fork-μ-loop
-put-fork-mul-table-2 t c =  omega (arith, node-room (c .before .before .before .before .pre .1 .4), c .before .before .before .before .good)
+put-fork-mul-table-2 t c = omega (arith, node-room (c .before .before .before .before .pre .1 .4), c .before .before .before .before .good)
 
 put-fork-slice-write-table-2 : (t : ℕ) → put-fork-lts.Need-slice-write-table-2 (calls t) (put-fork-at t) put-fork.Post put-fork-Inv-loop put-fork-μ-loop
-put-fork-slice-write-table-2 t c =  number-room (c .before .before .before .before .args .n) (c .before .before .before .before .args .level) (c .before .before .before .before .args .x) (c .before .before .before .before .args .y) (c .before .before .before .before .args .raster .now) (c .before .before .before .before .pre .1 .0) (c .before .before .before .before .pre .1 .3) (omega (arith, c .before .before .before .before .pre .1 .2)) (c .before .before .before .before .args .p) (c .before .before .before .before .args .table .now) (c .before .before .before .before .pre .1 .4) (c .before .before .before .before .args .father) _ refl (c .before .loop .q) (c .before .loop .next) (c .before .loop .table) (omega arith) (c .before .loop .inv .1) (c .before .loop .inv .2)
+put-fork-slice-write-table-2 t c = number-room (c .before .before .before .before .args .n) (c .before .before .before .before .args .level) (c .before .before .before .before .args .x) (c .before .before .before .before .args .y) (c .before .before .before .before .args .raster .now) (c .before .before .before .before .pre .1 .0) (c .before .before .before .before .pre .1 .3) (omega (arith, c .before .before .before .before .pre .1 .2)) (c .before .before .before .before .args .p) (c .before .before .before .before .args .table .now) (c .before .before .before .before .pre .1 .4) (c .before .before .before .before .args .father) _ refl (c .before .loop .q) (c .before .loop .next) (c .before .loop .table) (omega arith) (c .before .loop .inv .1) (c .before .loop .inv .2)
 
 put-fork-mul-u : (t : ℕ) → put-fork-lts.Need-mul-u (calls t) (put-fork-at t) put-fork.Post put-fork-Inv-loop put-fork-μ-loop
-put-fork-mul-u t c =  omega (arith, on-small (c .before .before .before .before .pre .1 .0 .top) (c .before .before .before .before .pre .1 .1))
+put-fork-mul-u t c = omega (arith, on-small (c .before .before .before .before .pre .1 .0 .top) (c .before .before .before .before .pre .1 .1))
 
 put-fork-add-u : (t : ℕ) → put-fork-lts.Need-add-u (calls t) (put-fork-at t) put-fork.Post put-fork-Inv-loop put-fork-μ-loop
-put-fork-add-u t c =  omega (arith, on-small (c .before .before .before .before .pre .1 .0 .top) (c .before .before .before .before .pre .1 .1))
+put-fork-add-u t c = omega (arith, on-small (c .before .before .before .before .pre .1 .0 .top) (c .before .before .before .before .pre .1 .1))
 
 put-fork-mul-v : (t : ℕ) → put-fork-lts.Need-mul-v (calls t) (put-fork-at t) put-fork.Post put-fork-Inv-loop put-fork-μ-loop
-put-fork-mul-v t c =  omega (arith, on-small (c .before .before .before .before .pre .1 .0 .top) (c .before .before .before .before .pre .1 .1))
+put-fork-mul-v t c = omega (arith, on-small (c .before .before .before .before .pre .1 .0 .top) (c .before .before .before .before .pre .1 .1))
 
 put-fork-add-v : (t : ℕ) → put-fork-lts.Need-add-v (calls t) (put-fork-at t) put-fork.Post put-fork-Inv-loop put-fork-μ-loop
-put-fork-add-v t c =  omega (arith, on-small (c .before .before .before .before .pre .1 .0 .top) (c .before .before .before .before .pre .1 .1))
+put-fork-add-v t c = omega (arith, on-small (c .before .before .before .before .pre .1 .0 .top) (c .before .before .before .before .pre .1 .1))
 
 put-fork-add-its : (t : ℕ) → put-fork-lts.Need-add-its (calls t) (put-fork-at t) put-fork.Post put-fork-Inv-loop put-fork-μ-loop
 put-fork-add-its t c = omega (arith, times-below (c .before .loop .q) 4 (c .before .before .before .before .args .slots / 4) (omega arith), c .before .before .before .before .pre .1 .5 .room)
@@ -92,16 +92,16 @@ put-fork-add-its-2 : (t : ℕ) → put-fork-lts.Need-add-its-2 (calls t) (put-fo
 put-fork-add-its-2 t c = omega (arith, times-below (c .before .loop .q) 4 (c .before .before .before .before .args .slots / 4) (omega arith), c .before .before .before .before .pre .1 .5 .room)
 
 put-fork-add-q : (t : ℕ) → put-fork-lts.Need-add-q (calls t) (put-fork-at t) put-fork.Post put-fork-Inv-loop put-fork-μ-loop
-put-fork-add-q t c =  omega arith
+put-fork-add-q t c = omega arith
 
 put-fork-put-sixteen-requires : (t : ℕ) → put-fork-lts.Need-put-sixteen-requires (calls t) (put-fork-at t) put-fork.Post put-fork-Inv-loop put-fork-μ-loop
-put-fork-put-sixteen-requires t c κs =     (c .before .before .before .before .before .before .pre .1 .0, rw (c .before .if1 .taken) at (on-son (c .before .before .before .before .before .before .pre .1 .1) (omega arith) (2 * c .before .before .before .before .before .before .args .x + c .before .before .before .loop .q % 2) (2 * c .before .before .before .before .before .before .args .y + c .before .before .before .loop .q / 2) (omega arith) (omega arith)), son-ready (c .before .before .before .before .before .before .args .n) (c .before .before .before .before .before .before .args .level) (c .before .before .before .before .before .before .args .x) (c .before .before .before .before .before .before .args .y) (c .before .before .before .before .before .before .args .raster .now) (c .before .before .before .before .before .before .pre .1 .0) (c .before .before .before .before .before .before .pre .1 .3) (omega (arith, c .before .before .before .before .before .before .pre .1 .2)) (c .before .before .before .before .before .before .args .p) (c .before .before .before .before .before .before .args .table .now) (c .before .before .before .before .before .before .pre .1 .4) (c .before .before .before .before .before .before .args .father) _ refl (c .before .before .before .loop .q) (c .before .before .before .loop .next) (c .before .before .before .loop .table) (omega arith) (c .before .before .before .loop .inv .1) (c .before .before .before .loop .inv .2) (set (c .before .before .before .loop .table) (6 * c .before .before .before .before .before .before .args .p + 1 + c .before .before .before .loop .q) (c .before .before .before .loop .next)) refl 2 (c .before .if1 .taken))
+put-fork-put-sixteen-requires t c κs = (c .before .before .before .before .before .before .pre .1 .0, rw (c .before .if1 .taken) at (on-son (c .before .before .before .before .before .before .pre .1 .1) (omega arith) (2 * c .before .before .before .before .before .before .args .x + c .before .before .before .loop .q % 2) (2 * c .before .before .before .before .before .before .args .y + c .before .before .before .loop .q / 2) (omega arith) (omega arith)), son-ready (c .before .before .before .before .before .before .args .n) (c .before .before .before .before .before .before .args .level) (c .before .before .before .before .before .before .args .x) (c .before .before .before .before .before .before .args .y) (c .before .before .before .before .before .before .args .raster .now) (c .before .before .before .before .before .before .pre .1 .0) (c .before .before .before .before .before .before .pre .1 .3) (omega (arith, c .before .before .before .before .before .before .pre .1 .2)) (c .before .before .before .before .before .before .args .p) (c .before .before .before .before .before .before .args .table .now) (c .before .before .before .before .before .before .pre .1 .4) (c .before .before .before .before .before .before .args .father) _ refl (c .before .before .before .loop .q) (c .before .before .before .loop .next) (c .before .before .before .loop .table) (omega arith) (c .before .before .before .loop .inv .1) (c .before .before .before .loop .inv .2) (set (c .before .before .before .loop .table) (6 * c .before .before .before .before .before .before .args .p + 1 + c .before .before .before .loop .q) (c .before .before .before .loop .next)) refl 2 (c .before .if1 .taken))
 
 put-fork-loop-less : (t : ℕ) → put-fork-lts.Need-loop-less (calls t) (put-fork-at t) put-fork.Post put-fork-Inv-loop put-fork-μ-loop
-put-fork-loop-less t c =  omega arith
+put-fork-loop-less t c = omega arith
 
 put-fork-loop-again : (t : ℕ) → put-fork-lts.Need-loop-again (calls t) (put-fork-at t) put-fork.Post put-fork-Inv-loop put-fork-μ-loop
-put-fork-loop-again t c =     let s = son-put (c .before .before .before .before .before .before .before .before .before .args .n) (c .before .before .before .before .before .before .before .before .before .args .level) (c .before .before .before .before .before .before .before .before .before .args .x) (c .before .before .before .before .before .before .before .before .before .args .y) (c .before .before .before .before .before .before .before .before .before .args .raster .now) (c .before .before .before .before .before .before .before .before .before .pre .1 .0) (c .before .before .before .before .before .before .before .before .before .pre .1 .3) (omega (arith, c .before .before .before .before .before .before .before .before .before .pre .1 .2)) (c .before .before .before .before .before .before .before .before .before .args .p) (c .before .before .before .before .before .before .before .before .before .args .table .now) (c .before .before .before .before .before .before .before .before .before .pre .1 .4) (c .before .before .before .before .before .before .before .before .before .args .father) _ refl (c .before .before .before .before .before .before .loop .q) (c .before .before .before .before .before .before .loop .next) (c .before .before .before .before .before .before .loop .table) (omega arith) (c .before .before .before .before .before .before .loop .inv .1) (c .before .before .before .before .before .before .loop .inv .2) (set (c .before .before .before .before .before .before .loop .table) (6 * c .before .before .before .before .before .before .before .before .before .args .p + 1 + c .before .before .before .before .before .before .loop .q) (c .before .before .before .before .before .before .loop .next)) refl 2 (c .before .before .before .before .if1 .taken) _ _ (c .before .before .put-sixteen .ensures) in
+put-fork-loop-again t c = let s = son-put (c .before .before .before .before .before .before .before .before .before .args .n) (c .before .before .before .before .before .before .before .before .before .args .level) (c .before .before .before .before .before .before .before .before .before .args .x) (c .before .before .before .before .before .before .before .before .before .args .y) (c .before .before .before .before .before .before .before .before .before .args .raster .now) (c .before .before .before .before .before .before .before .before .before .pre .1 .0) (c .before .before .before .before .before .before .before .before .before .pre .1 .3) (omega (arith, c .before .before .before .before .before .before .before .before .before .pre .1 .2)) (c .before .before .before .before .before .before .before .before .before .args .p) (c .before .before .before .before .before .before .before .before .before .args .table .now) (c .before .before .before .before .before .before .before .before .before .pre .1 .4) (c .before .before .before .before .before .before .before .before .before .args .father) _ refl (c .before .before .before .before .before .before .loop .q) (c .before .before .before .before .before .before .loop .next) (c .before .before .before .before .before .before .loop .table) (omega arith) (c .before .before .before .before .before .before .loop .inv .1) (c .before .before .before .before .before .before .loop .inv .2) (set (c .before .before .before .before .before .before .loop .table) (6 * c .before .before .before .before .before .before .before .before .before .args .p + 1 + c .before .before .before .before .before .before .loop .q) (c .before .before .before .before .before .before .loop .next)) refl 2 (c .before .before .before .before .if1 .taken) _ _ (c .before .before .put-sixteen .ensures) in
     (omega arith, s .0, s .1)
 
 put-fork-mul-kind : (t : ℕ) → put-fork-lts.Need-mul-kind (calls t) (put-fork-at t) put-fork.Post put-fork-Inv-loop put-fork-μ-loop
@@ -111,51 +111,51 @@ put-fork-element-copy-out-kind : (t : ℕ) → put-fork-lts.Need-element-copy-ou
 put-fork-element-copy-out-kind t c = omega (arith, (known-part (c .before .before .before .before .before .args .n) (c .before .before .before .before .before .args .raster .now) (c .before .before .before .before .before .args .kinds .now) (c .before .before .before .before .before .args .level) (c .before .before .before .before .before .args .x) (c .before .before .before .before .before .args .y) (c .before .before .before .before .before .args .slot) (c .before .before .before .before .before .args .slots) (c .before .before .before .before .before .pre .1 .5) (omega (arith, c .before .before .before .before .before .pre .1 .2, c .if1 .left)) (c .before .before .before .before .before .pre .1 .3) (c .before .before .loop .q) (omega arith)) .room, slots-some (c .before .before .before .before .before .args .level - 1 - 3), (known-part (c .before .before .before .before .before .args .n) (c .before .before .before .before .before .args .raster .now) (c .before .before .before .before .before .args .kinds .now) (c .before .before .before .before .before .args .level) (c .before .before .before .before .before .args .x) (c .before .before .before .before .before .args .y) (c .before .before .before .before .before .args .slot) (c .before .before .before .before .before .args .slots) (c .before .before .before .before .before .pre .1 .5) (omega (arith, c .before .before .before .before .before .pre .1 .2, c .if1 .left)) (c .before .before .before .before .before .pre .1 .3) (c .before .before .loop .q) (omega arith)) .slots)
 
 put-fork-cast-if2 : (t : ℕ) → put-fork-lts.Need-cast-if2 (calls t) (put-fork-at t) put-fork.Post put-fork-Inv-loop put-fork-μ-loop
-put-fork-cast-if2 t c =  omega arith
+put-fork-cast-if2 t c = omega arith
 
 put-fork-put-fork-requires : (t : ℕ) → put-fork-lts.Need-put-fork-requires (calls t) (put-fork-at t) put-fork.Post put-fork-Inv-loop put-fork-μ-loop
 put-fork-put-fork-requires t c κs = (omega (arith, c .before .before .before .before .before .before .before .before .pre .0, c .before .before .before .before .before .before .before .before .pre .1 .2), (c .before .before .before .before .before .before .before .before .pre .1 .0, on-son (c .before .before .before .before .before .before .before .before .pre .1 .1) (omega arith) (2 * c .before .before .before .before .before .before .before .before .args .x + c .before .before .before .before .before .loop .q % 2) (2 * c .before .before .before .before .before .before .before .before .args .y + c .before .before .before .before .before .loop .q / 2) (omega arith) (omega arith), omega (arith, c .before .before .before .before .before .before .before .before .pre .1 .2, c .before .before .before .if1 .left), sym (known-kind _ _ _ _ _ _ _ _ (known-part (c .before .before .before .before .before .before .before .before .args .n) (c .before .before .before .before .before .before .before .before .args .raster .now) (c .before .before .before .before .before .before .before .before .args .kinds .now) (c .before .before .before .before .before .before .before .before .args .level) (c .before .before .before .before .before .before .before .before .args .x) (c .before .before .before .before .before .before .before .before .args .y) (c .before .before .before .before .before .before .before .before .args .slot) (c .before .before .before .before .before .before .before .before .args .slots) (c .before .before .before .before .before .before .before .before .pre .1 .5) (omega (arith, c .before .before .before .before .before .before .before .before .pre .1 .2, c .before .before .before .if1 .left)) (c .before .before .before .before .before .before .before .before .pre .1 .3) (c .before .before .before .before .before .loop .q) (omega arith))) ∙ c .before .if2 .taken, son-ready (c .before .before .before .before .before .before .before .before .args .n) (c .before .before .before .before .before .before .before .before .args .level) (c .before .before .before .before .before .before .before .before .args .x) (c .before .before .before .before .before .before .before .before .args .y) (c .before .before .before .before .before .before .before .before .args .raster .now) (c .before .before .before .before .before .before .before .before .pre .1 .0) (c .before .before .before .before .before .before .before .before .pre .1 .3) (omega (arith, c .before .before .before .before .before .before .before .before .pre .1 .2)) (c .before .before .before .before .before .before .before .before .args .p) (c .before .before .before .before .before .before .before .before .args .table .now) (c .before .before .before .before .before .before .before .before .pre .1 .4) (c .before .before .before .before .before .before .before .before .args .father) _ refl (c .before .before .before .before .before .loop .q) (c .before .before .before .before .before .loop .next) (c .before .before .before .before .before .loop .table) (omega arith) (c .before .before .before .before .before .loop .inv .1) (c .before .before .before .before .before .loop .inv .2) (set (c .before .before .before .before .before .loop .table) (6 * c .before .before .before .before .before .before .before .before .args .p + 1 + c .before .before .before .before .before .loop .q) (c .before .before .before .before .before .loop .next)) refl (c .before .before .before .before .before .before .before .before .args .level - 1) refl, (known-part (c .before .before .before .before .before .before .before .before .args .n) (c .before .before .before .before .before .before .before .before .args .raster .now) (c .before .before .before .before .before .before .before .before .args .kinds .now) (c .before .before .before .before .before .before .before .before .args .level) (c .before .before .before .before .before .before .before .before .args .x) (c .before .before .before .before .before .before .before .before .args .y) (c .before .before .before .before .before .before .before .before .args .slot) (c .before .before .before .before .before .before .before .before .args .slots) (c .before .before .before .before .before .before .before .before .pre .1 .5) (omega (arith, c .before .before .before .before .before .before .before .before .pre .1 .2, c .before .before .before .if1 .left)) (c .before .before .before .before .before .before .before .before .pre .1 .3) (c .before .before .before .before .before .loop .q) (omega arith))))
 
 put-fork-loop-less-2 : (t : ℕ) → put-fork-lts.Need-loop-less-2 (calls t) (put-fork-at t) put-fork.Post put-fork-Inv-loop put-fork-μ-loop
-put-fork-loop-less-2 t c =  omega arith
+put-fork-loop-less-2 t c = omega arith
 
 put-fork-loop-again-2 : (t : ℕ) → put-fork-lts.Need-loop-again-2 (calls t) (put-fork-at t) put-fork.Post put-fork-Inv-loop put-fork-μ-loop
-put-fork-loop-again-2 t c =     let s = son-put (c .before .before .before .before .before .before .before .before .before .before .before .args .n) (c .before .before .before .before .before .before .before .before .before .before .before .args .level) (c .before .before .before .before .before .before .before .before .before .before .before .args .x) (c .before .before .before .before .before .before .before .before .before .before .before .args .y) (c .before .before .before .before .before .before .before .before .before .before .before .args .raster .now) (c .before .before .before .before .before .before .before .before .before .before .before .pre .1 .0) (c .before .before .before .before .before .before .before .before .before .before .before .pre .1 .3) (omega (arith, c .before .before .before .before .before .before .before .before .before .before .before .pre .1 .2)) (c .before .before .before .before .before .before .before .before .before .before .before .args .p) (c .before .before .before .before .before .before .before .before .before .before .before .args .table .now) (c .before .before .before .before .before .before .before .before .before .before .before .pre .1 .4) (c .before .before .before .before .before .before .before .before .before .before .before .args .father) _ refl (c .before .before .before .before .before .before .before .before .loop .q) (c .before .before .before .before .before .before .before .before .loop .next) (c .before .before .before .before .before .before .before .before .loop .table) (omega arith) (c .before .before .before .before .before .before .before .before .loop .inv .1) (c .before .before .before .before .before .before .before .before .loop .inv .2) (set (c .before .before .before .before .before .before .before .before .loop .table) (6 * c .before .before .before .before .before .before .before .before .before .before .before .args .p + 1 + c .before .before .before .before .before .before .before .before .loop .q) (c .before .before .before .before .before .before .before .before .loop .next)) refl (c .before .before .before .before .before .before .before .before .before .before .before .args .level - 1) refl _ _ (c .before .before .put-fork .ensures) in
+put-fork-loop-again-2 t c = let s = son-put (c .before .before .before .before .before .before .before .before .before .before .before .args .n) (c .before .before .before .before .before .before .before .before .before .before .before .args .level) (c .before .before .before .before .before .before .before .before .before .before .before .args .x) (c .before .before .before .before .before .before .before .before .before .before .before .args .y) (c .before .before .before .before .before .before .before .before .before .before .before .args .raster .now) (c .before .before .before .before .before .before .before .before .before .before .before .pre .1 .0) (c .before .before .before .before .before .before .before .before .before .before .before .pre .1 .3) (omega (arith, c .before .before .before .before .before .before .before .before .before .before .before .pre .1 .2)) (c .before .before .before .before .before .before .before .before .before .before .before .args .p) (c .before .before .before .before .before .before .before .before .before .before .before .args .table .now) (c .before .before .before .before .before .before .before .before .before .before .before .pre .1 .4) (c .before .before .before .before .before .before .before .before .before .before .before .args .father) _ refl (c .before .before .before .before .before .before .before .before .loop .q) (c .before .before .before .before .before .before .before .before .loop .next) (c .before .before .before .before .before .before .before .before .loop .table) (omega arith) (c .before .before .before .before .before .before .before .before .loop .inv .1) (c .before .before .before .before .before .before .before .before .loop .inv .2) (set (c .before .before .before .before .before .before .before .before .loop .table) (6 * c .before .before .before .before .before .before .before .before .before .before .before .args .p + 1 + c .before .before .before .before .before .before .before .before .loop .q) (c .before .before .before .before .before .before .before .before .loop .next)) refl (c .before .before .before .before .before .before .before .before .before .before .before .args .level - 1) refl _ _ (c .before .before .put-fork .ensures) in
     (omega arith, s .0, s .1)
 
 put-fork-cast-put-leaf : (t : ℕ) → put-fork-lts.Need-cast-put-leaf (calls t) (put-fork-at t) put-fork.Post put-fork-Inv-loop put-fork-μ-loop
-put-fork-cast-put-leaf t c =  omega (arith, node-fits (son-ready (c .before .before .before .before .before .before .before .before .args .n) (c .before .before .before .before .before .before .before .before .args .level) (c .before .before .before .before .before .before .before .before .args .x) (c .before .before .before .before .before .before .before .before .args .y) (c .before .before .before .before .before .before .before .before .args .raster .now) (c .before .before .before .before .before .before .before .before .pre .1 .0) (c .before .before .before .before .before .before .before .before .pre .1 .3) (omega (arith, c .before .before .before .before .before .before .before .before .pre .1 .2)) (c .before .before .before .before .before .before .before .before .args .p) (c .before .before .before .before .before .before .before .before .args .table .now) (c .before .before .before .before .before .before .before .before .pre .1 .4) (c .before .before .before .before .before .before .before .before .args .father) _ refl (c .before .before .before .before .before .loop .q) (c .before .before .before .before .before .loop .next) (c .before .before .before .before .before .loop .table) (omega arith) (c .before .before .before .before .before .loop .inv .1) (c .before .before .before .before .before .loop .inv .2) (set (c .before .before .before .before .before .loop .table) (6 * c .before .before .before .before .before .before .before .before .args .p + 1 + c .before .before .before .before .before .loop .q) (c .before .before .before .before .before .loop .next)) refl (c .before .before .before .before .before .before .before .before .args .level - 1) refl))
+put-fork-cast-put-leaf t c = omega (arith, node-fits (son-ready (c .before .before .before .before .before .before .before .before .args .n) (c .before .before .before .before .before .before .before .before .args .level) (c .before .before .before .before .before .before .before .before .args .x) (c .before .before .before .before .before .before .before .before .args .y) (c .before .before .before .before .before .before .before .before .args .raster .now) (c .before .before .before .before .before .before .before .before .pre .1 .0) (c .before .before .before .before .before .before .before .before .pre .1 .3) (omega (arith, c .before .before .before .before .before .before .before .before .pre .1 .2)) (c .before .before .before .before .before .before .before .before .args .p) (c .before .before .before .before .before .before .before .before .args .table .now) (c .before .before .before .before .before .before .before .before .pre .1 .4) (c .before .before .before .before .before .before .before .before .args .father) _ refl (c .before .before .before .before .before .loop .q) (c .before .before .before .before .before .loop .next) (c .before .before .before .before .before .loop .table) (omega arith) (c .before .before .before .before .before .loop .inv .1) (c .before .before .before .before .before .loop .inv .2) (set (c .before .before .before .before .before .loop .table) (6 * c .before .before .before .before .before .before .before .before .args .p + 1 + c .before .before .before .before .before .loop .q) (c .before .before .before .before .before .loop .next)) refl (c .before .before .before .before .before .before .before .before .args .level - 1) refl))
 
 put-fork-put-leaf-requires : (t : ℕ) → put-fork-lts.Need-put-leaf-requires (calls t) (put-fork-at t) put-fork.Post put-fork-Inv-loop put-fork-μ-loop
-put-fork-put-leaf-requires t c κs =  node-room (son-ready (c .before .before .before .before .before .before .before .before .args .n) (c .before .before .before .before .before .before .before .before .args .level) (c .before .before .before .before .before .before .before .before .args .x) (c .before .before .before .before .before .before .before .before .args .y) (c .before .before .before .before .before .before .before .before .args .raster .now) (c .before .before .before .before .before .before .before .before .pre .1 .0) (c .before .before .before .before .before .before .before .before .pre .1 .3) (omega (arith, c .before .before .before .before .before .before .before .before .pre .1 .2)) (c .before .before .before .before .before .before .before .before .args .p) (c .before .before .before .before .before .before .before .before .args .table .now) (c .before .before .before .before .before .before .before .before .pre .1 .4) (c .before .before .before .before .before .before .before .before .args .father) _ refl (c .before .before .before .before .before .loop .q) (c .before .before .before .before .before .loop .next) (c .before .before .before .before .before .loop .table) (omega arith) (c .before .before .before .before .before .loop .inv .1) (c .before .before .before .before .before .loop .inv .2) (set (c .before .before .before .before .before .loop .table) (6 * c .before .before .before .before .before .before .before .before .args .p + 1 + c .before .before .before .before .before .loop .q) (c .before .before .before .before .before .loop .next)) refl (c .before .before .before .before .before .before .before .before .args .level - 1) refl)
+put-fork-put-leaf-requires t c κs = node-room (son-ready (c .before .before .before .before .before .before .before .before .args .n) (c .before .before .before .before .before .before .before .before .args .level) (c .before .before .before .before .before .before .before .before .args .x) (c .before .before .before .before .before .before .before .before .args .y) (c .before .before .before .before .before .before .before .before .args .raster .now) (c .before .before .before .before .before .before .before .before .pre .1 .0) (c .before .before .before .before .before .before .before .before .pre .1 .3) (omega (arith, c .before .before .before .before .before .before .before .before .pre .1 .2)) (c .before .before .before .before .before .before .before .before .args .p) (c .before .before .before .before .before .before .before .before .args .table .now) (c .before .before .before .before .before .before .before .before .pre .1 .4) (c .before .before .before .before .before .before .before .before .args .father) _ refl (c .before .before .before .before .before .loop .q) (c .before .before .before .before .before .loop .next) (c .before .before .before .before .before .loop .table) (omega arith) (c .before .before .before .before .before .loop .inv .1) (c .before .before .before .before .before .loop .inv .2) (set (c .before .before .before .before .before .loop .table) (6 * c .before .before .before .before .before .before .before .before .args .p + 1 + c .before .before .before .before .before .loop .q) (c .before .before .before .before .before .loop .next)) refl (c .before .before .before .before .before .before .before .before .args .level - 1) refl)
 
 put-fork-add-next-2 : (t : ℕ) → put-fork-lts.Need-add-next-2 (calls t) (put-fork-at t) put-fork.Post put-fork-Inv-loop put-fork-μ-loop
-put-fork-add-next-2 t c =  omega (arith, node-fits (son-ready (c .before .before .before .before .before .before .before .before .before .before .before .args .n) (c .before .before .before .before .before .before .before .before .before .before .before .args .level) (c .before .before .before .before .before .before .before .before .before .before .before .args .x) (c .before .before .before .before .before .before .before .before .before .before .before .args .y) (c .before .before .before .before .before .before .before .before .before .before .before .args .raster .now) (c .before .before .before .before .before .before .before .before .before .before .before .pre .1 .0) (c .before .before .before .before .before .before .before .before .before .before .before .pre .1 .3) (omega (arith, c .before .before .before .before .before .before .before .before .before .before .before .pre .1 .2)) (c .before .before .before .before .before .before .before .before .before .before .before .args .p) (c .before .before .before .before .before .before .before .before .before .before .before .args .table .now) (c .before .before .before .before .before .before .before .before .before .before .before .pre .1 .4) (c .before .before .before .before .before .before .before .before .before .before .before .args .father) _ refl (c .before .before .before .before .before .before .before .before .loop .q) (c .before .before .before .before .before .before .before .before .loop .next) (c .before .before .before .before .before .before .before .before .loop .table) (omega arith) (c .before .before .before .before .before .before .before .before .loop .inv .1) (c .before .before .before .before .before .before .before .before .loop .inv .2) (set (c .before .before .before .before .before .before .before .before .loop .table) (6 * c .before .before .before .before .before .before .before .before .before .before .before .args .p + 1 + c .before .before .before .before .before .before .before .before .loop .q) (c .before .before .before .before .before .before .before .before .loop .next)) refl (c .before .before .before .before .before .before .before .before .before .before .before .args .level - 1) refl))
+put-fork-add-next-2 t c = omega (arith, node-fits (son-ready (c .before .before .before .before .before .before .before .before .before .before .before .args .n) (c .before .before .before .before .before .before .before .before .before .before .before .args .level) (c .before .before .before .before .before .before .before .before .before .before .before .args .x) (c .before .before .before .before .before .before .before .before .before .before .before .args .y) (c .before .before .before .before .before .before .before .before .before .before .before .args .raster .now) (c .before .before .before .before .before .before .before .before .before .before .before .pre .1 .0) (c .before .before .before .before .before .before .before .before .before .before .before .pre .1 .3) (omega (arith, c .before .before .before .before .before .before .before .before .before .before .before .pre .1 .2)) (c .before .before .before .before .before .before .before .before .before .before .before .args .p) (c .before .before .before .before .before .before .before .before .before .before .before .args .table .now) (c .before .before .before .before .before .before .before .before .before .before .before .pre .1 .4) (c .before .before .before .before .before .before .before .before .before .before .before .args .father) _ refl (c .before .before .before .before .before .before .before .before .loop .q) (c .before .before .before .before .before .before .before .before .loop .next) (c .before .before .before .before .before .before .before .before .loop .table) (omega arith) (c .before .before .before .before .before .before .before .before .loop .inv .1) (c .before .before .before .before .before .before .before .before .loop .inv .2) (set (c .before .before .before .before .before .before .before .before .loop .table) (6 * c .before .before .before .before .before .before .before .before .before .before .before .args .p + 1 + c .before .before .before .before .before .before .before .before .loop .q) (c .before .before .before .before .before .before .before .before .loop .next)) refl (c .before .before .before .before .before .before .before .before .before .before .before .args .level - 1) refl))
 
 put-fork-loop-less-3 : (t : ℕ) → put-fork-lts.Need-loop-less-3 (calls t) (put-fork-at t) put-fork.Post put-fork-Inv-loop put-fork-μ-loop
-put-fork-loop-less-3 t c =  omega arith
+put-fork-loop-less-3 t c = omega arith
 
 put-fork-loop-again-3 : (t : ℕ) → put-fork-lts.Need-loop-again-3 (calls t) (put-fork-at t) put-fork.Post put-fork-Inv-loop put-fork-μ-loop
-put-fork-loop-again-3 t c =     let s = son-put (c .before .before .before .before .before .before .before .before .before .before .before .args .n) (c .before .before .before .before .before .before .before .before .before .before .before .args .level) (c .before .before .before .before .before .before .before .before .before .before .before .args .x) (c .before .before .before .before .before .before .before .before .before .before .before .args .y) (c .before .before .before .before .before .before .before .before .before .before .before .args .raster .now) (c .before .before .before .before .before .before .before .before .before .before .before .pre .1 .0) (c .before .before .before .before .before .before .before .before .before .before .before .pre .1 .3) (omega (arith, c .before .before .before .before .before .before .before .before .before .before .before .pre .1 .2)) (c .before .before .before .before .before .before .before .before .before .before .before .args .p) (c .before .before .before .before .before .before .before .before .before .before .before .args .table .now) (c .before .before .before .before .before .before .before .before .before .before .before .pre .1 .4) (c .before .before .before .before .before .before .before .before .before .before .before .args .father) _ refl (c .before .before .before .before .before .before .before .before .loop .q) (c .before .before .before .before .before .before .before .before .loop .next) (c .before .before .before .before .before .before .before .before .loop .table) (omega arith) (c .before .before .before .before .before .before .before .before .loop .inv .1) (c .before .before .before .before .before .before .before .before .loop .inv .2) (set (c .before .before .before .before .before .before .before .before .loop .table) (6 * c .before .before .before .before .before .before .before .before .before .before .before .args .p + 1 + c .before .before .before .before .before .before .before .before .loop .q) (c .before .before .before .before .before .before .before .before .loop .next)) refl (c .before .before .before .before .before .before .before .before .before .before .before .args .level - 1) refl _ _ (type-put _ _ (c .before .before .before .before .before .before .before .before .loop .next) (c .before .before .before .before .before .before .before .before .before .before .before .args .p) _ (set (c .before .before .before .before .before .before .before .before .loop .table) (6 * c .before .before .before .before .before .before .before .before .before .before .before .args .p + 1 + c .before .before .before .before .before .before .before .before .loop .q) (c .before .before .before .before .before .before .before .before .loop .next)) _ ((known-kind _ _ _ _ _ _ _ _ (known-part (c .before .before .before .before .before .before .before .before .before .before .before .args .n) (c .before .before .before .before .before .before .before .before .before .before .before .args .raster .now) (c .before .before .before .before .before .before .before .before .before .before .before .args .kinds .now) (c .before .before .before .before .before .before .before .before .before .before .before .args .level) (c .before .before .before .before .before .before .before .before .before .before .before .args .x) (c .before .before .before .before .before .before .before .before .before .before .before .args .y) (c .before .before .before .before .before .before .before .before .before .before .before .args .slot) (c .before .before .before .before .before .before .before .before .before .before .before .args .slots) (c .before .before .before .before .before .before .before .before .before .before .before .pre .1 .5) (omega (arith, c .before .before .before .before .before .before .before .before .before .before .before .pre .1 .2, c .before .before .before .before .before .before .if1 .left)) (c .before .before .before .before .before .before .before .before .before .before .before .pre .1 .3) (c .before .before .before .before .before .before .before .before .loop .q) (omega arith)))) (c .before .before .before .before .if2 .left) refl (c .before .before .put-leaf .ensures)) in
+put-fork-loop-again-3 t c = let s = son-put (c .before .before .before .before .before .before .before .before .before .before .before .args .n) (c .before .before .before .before .before .before .before .before .before .before .before .args .level) (c .before .before .before .before .before .before .before .before .before .before .before .args .x) (c .before .before .before .before .before .before .before .before .before .before .before .args .y) (c .before .before .before .before .before .before .before .before .before .before .before .args .raster .now) (c .before .before .before .before .before .before .before .before .before .before .before .pre .1 .0) (c .before .before .before .before .before .before .before .before .before .before .before .pre .1 .3) (omega (arith, c .before .before .before .before .before .before .before .before .before .before .before .pre .1 .2)) (c .before .before .before .before .before .before .before .before .before .before .before .args .p) (c .before .before .before .before .before .before .before .before .before .before .before .args .table .now) (c .before .before .before .before .before .before .before .before .before .before .before .pre .1 .4) (c .before .before .before .before .before .before .before .before .before .before .before .args .father) _ refl (c .before .before .before .before .before .before .before .before .loop .q) (c .before .before .before .before .before .before .before .before .loop .next) (c .before .before .before .before .before .before .before .before .loop .table) (omega arith) (c .before .before .before .before .before .before .before .before .loop .inv .1) (c .before .before .before .before .before .before .before .before .loop .inv .2) (set (c .before .before .before .before .before .before .before .before .loop .table) (6 * c .before .before .before .before .before .before .before .before .before .before .before .args .p + 1 + c .before .before .before .before .before .before .before .before .loop .q) (c .before .before .before .before .before .before .before .before .loop .next)) refl (c .before .before .before .before .before .before .before .before .before .before .before .args .level - 1) refl _ _ (type-put _ _ (c .before .before .before .before .before .before .before .before .loop .next) (c .before .before .before .before .before .before .before .before .before .before .before .args .p) _ (set (c .before .before .before .before .before .before .before .before .loop .table) (6 * c .before .before .before .before .before .before .before .before .before .before .before .args .p + 1 + c .before .before .before .before .before .before .before .before .loop .q) (c .before .before .before .before .before .before .before .before .loop .next)) _ ((known-kind _ _ _ _ _ _ _ _ (known-part (c .before .before .before .before .before .before .before .before .before .before .before .args .n) (c .before .before .before .before .before .before .before .before .before .before .before .args .raster .now) (c .before .before .before .before .before .before .before .before .before .before .before .args .kinds .now) (c .before .before .before .before .before .before .before .before .before .before .before .args .level) (c .before .before .before .before .before .before .before .before .before .before .before .args .x) (c .before .before .before .before .before .before .before .before .before .before .before .args .y) (c .before .before .before .before .before .before .before .before .before .before .before .args .slot) (c .before .before .before .before .before .before .before .before .before .before .before .args .slots) (c .before .before .before .before .before .before .before .before .before .before .before .pre .1 .5) (omega (arith, c .before .before .before .before .before .before .before .before .before .before .before .pre .1 .2, c .before .before .before .before .before .before .if1 .left)) (c .before .before .before .before .before .before .before .before .before .before .before .pre .1 .3) (c .before .before .before .before .before .before .before .before .loop .q) (omega arith)))) (c .before .before .before .before .if2 .left) refl (c .before .before .put-leaf .ensures)) in
     (omega arith, s .0, s .1)
 
 put-fork-cast-table : (t : ℕ) → put-fork-lts.Need-cast-table (calls t) (put-fork-at t) put-fork.Post put-fork-Inv-loop put-fork-μ-loop
-put-fork-cast-table t c =  omega arith
+put-fork-cast-table t c = omega arith
 
 put-fork-add-table-3 : (t : ℕ) → put-fork-lts.Need-add-table-3 (calls t) (put-fork-at t) put-fork.Post put-fork-Inv-loop put-fork-μ-loop
-put-fork-add-table-3 t c =  omega (arith, node-room (c .before .before .before .before .pre .1 .4))
+put-fork-add-table-3 t c = omega (arith, node-room (c .before .before .before .before .pre .1 .4))
 
 put-fork-mul-table-3 : (t : ℕ) → put-fork-lts.Need-mul-table-3 (calls t) (put-fork-at t) put-fork.Post put-fork-Inv-loop put-fork-μ-loop
-put-fork-mul-table-3 t c =  omega (arith, node-room (c .before .before .before .before .pre .1 .4), c .before .before .before .before .good)
+put-fork-mul-table-3 t c = omega (arith, node-room (c .before .before .before .before .pre .1 .4), c .before .before .before .before .good)
 
 put-fork-slice-write-table-3 : (t : ℕ) → put-fork-lts.Need-slice-write-table-3 (calls t) (put-fork-at t) put-fork.Post put-fork-Inv-loop put-fork-μ-loop
-put-fork-slice-write-table-3 t c =  type-room (c .before .before .before .before .args .n) (c .before .before .before .before .args .level) (c .before .before .before .before .args .x) (c .before .before .before .before .args .y) (c .before .before .before .before .args .raster .now) (c .before .before .before .before .pre .1 .0) (c .before .before .before .before .pre .1 .3) (omega (arith, c .before .before .before .before .pre .1 .2)) (c .before .before .before .before .args .p) (c .before .before .before .before .args .table .now) (c .before .before .before .before .pre .1 .4) (c .before .before .before .before .args .father) _ refl (c .before .loop .q) (c .before .loop .table) (c .before .loop .inv .2)
+put-fork-slice-write-table-3 t c = type-room (c .before .before .before .before .args .n) (c .before .before .before .before .args .level) (c .before .before .before .before .args .x) (c .before .before .before .before .args .y) (c .before .before .before .before .args .raster .now) (c .before .before .before .before .pre .1 .0) (c .before .before .before .before .pre .1 .3) (omega (arith, c .before .before .before .before .pre .1 .2)) (c .before .before .before .before .args .p) (c .before .before .before .before .args .table .now) (c .before .before .before .before .pre .1 .4) (c .before .before .before .before .args .father) _ refl (c .before .loop .q) (c .before .loop .table) (c .before .loop .inv .2)
 
 put-fork-same-length : (t : ℕ) → put-fork-lts.Need-same-length (calls t) (put-fork-at t) put-fork.Post put-fork-Inv-loop put-fork-μ-loop
-put-fork-same-length t c =  put-length (sons-put (c .before .before .before .before .args .n) (c .before .before .before .before .args .level) (c .before .before .before .before .args .x) (c .before .before .before .before .args .y) (c .before .before .before .before .args .raster .now) (c .before .before .before .before .pre .1 .0) (c .before .before .before .before .pre .1 .3) (omega (arith, c .before .before .before .before .pre .1 .2)) (c .before .before .before .before .args .p) (c .before .before .before .before .args .table .now) (c .before .before .before .before .pre .1 .4) (c .before .before .before .before .args .father) _ refl (c .before .loop .q) (c .before .loop .next) (c .before .loop .table) _ (omega arith) (c .before .loop .inv .1) (c .before .loop .inv .2) refl)
+put-fork-same-length t c = put-length (sons-put (c .before .before .before .before .args .n) (c .before .before .before .before .args .level) (c .before .before .before .before .args .x) (c .before .before .before .before .args .y) (c .before .before .before .before .args .raster .now) (c .before .before .before .before .pre .1 .0) (c .before .before .before .before .pre .1 .3) (omega (arith, c .before .before .before .before .pre .1 .2)) (c .before .before .before .before .args .p) (c .before .before .before .before .args .table .now) (c .before .before .before .before .pre .1 .4) (c .before .before .before .before .args .father) _ refl (c .before .loop .q) (c .before .loop .next) (c .before .loop .table) _ (omega arith) (c .before .loop .inv .1) (c .before .loop .inv .2) refl)
 
 put-fork-returns : (t : ℕ) → put-fork-lts.Need-returns (calls t) (put-fork-at t) put-fork.Post put-fork-Inv-loop put-fork-μ-loop
-put-fork-returns t c =  sons-put (c .before .before .before .before .args .n) (c .before .before .before .before .args .level) (c .before .before .before .before .args .x) (c .before .before .before .before .args .y) (c .before .before .before .before .args .raster .now) (c .before .before .before .before .pre .1 .0) (c .before .before .before .before .pre .1 .3) (omega (arith, c .before .before .before .before .pre .1 .2)) (c .before .before .before .before .args .p) (c .before .before .before .before .args .table .now) (c .before .before .before .before .pre .1 .4) (c .before .before .before .before .args .father) _ refl (c .before .loop .q) (c .before .loop .next) (c .before .loop .table) _ (omega arith) (c .before .loop .inv .1) (c .before .loop .inv .2) refl
+put-fork-returns t c = sons-put (c .before .before .before .before .args .n) (c .before .before .before .before .args .level) (c .before .before .before .before .args .x) (c .before .before .before .before .args .y) (c .before .before .before .before .args .raster .now) (c .before .before .before .before .pre .1 .0) (c .before .before .before .before .pre .1 .3) (omega (arith, c .before .before .before .before .pre .1 .2)) (c .before .before .before .before .args .p) (c .before .before .before .before .args .table .now) (c .before .before .before .before .pre .1 .4) (c .before .before .before .before .args .father) _ refl (c .before .loop .q) (c .before .loop .next) (c .before .loop .table) _ (omega arith) (c .before .loop .inv .1) (c .before .loop .inv .2) refl
 
 pub +put-fork-spec : {M : Type 1} → statement M
 +put-fork-spec = close μ-put-fork λ t. put-fork-lts.spec (
