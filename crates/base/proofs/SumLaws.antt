@@ -77,19 +77,14 @@ sum-full f (suc k) h e i lt =
     (λ (l : i < k). sum-full f k (λ j m. h j (omega arith)) rest i l)
     (eq-or-lt-of-le (le-of-suc-le-suc lt))
 
--- k terms, none above 1: their sum is at most k, and where it is that of k like terms they are these
-pub sum-few : (f : ℕ → ℕ) (k : ℕ) → ((i : ℕ) → i < k → f i ≤ 1) → sum f k ≤ k
-sum-few f k h = omega (arith, sum-le f (λ i. 1) k h, sum-ones k)
-
-pub sum-like : (c k : ℕ) → sum (λ i. c) k ≡ c * k
+-- k terms, none above c
+sum-like : (c k : ℕ) → sum (λ i. c) k ≡ c * k
 unfolding sum
 sum-like c zero = omega arith
 sum-like c (suc k) = omega (arith, sum-like c k, mul-suc c k)
 
-pub sum-alike : (f : ℕ → ℕ) (c k : ℕ) → ((i : ℕ) → i < k → f i ≤ 1) → c ≤ 1 → sum f k ≡ c * k → (i : ℕ) → i < k → f i ≡ c
-sum-alike f zero k h le e i lt = omega (arith, term-le f k i lt)
-sum-alike f (suc zero) k h le e i lt = sum-full f k h (omega arith) i lt
-sum-alike f (suc (suc c)) k h le e i lt = absurd (omega arith)
+pub sum-most : (f : ℕ → ℕ) (c k : ℕ) → ((i : ℕ) → i < k → f i ≤ c) → sum f k ≤ c * k
+sum-most f c k h = omega (arith, sum-le f (λ i. c) k h, sum-like c k)
 
 -- k numbers, each of which is the value of f at one of the places below m that are counted
 pub no-more-than : (f : ℕ → ℕ) (b : ℕ → Bool) (m k : ℕ)

@@ -1,7 +1,7 @@
 -- What stands in a number's lanes, and what is added up and counted in them.
 use mathlib.Core.Bool.{true, false}
 use mathlib.Core.Logic.{⊎-elim}
-use mathlib.Core.Path.{_≡_, refl, ap, sym, _∙_}
+use mathlib.Core.Path.{_≡_}
 use Prim.Native.Nat.{ℕ, _+_, _-_, _*_, _/_, _%_, _≤_, _<_}
 use native.Mathlib.Omega.{arith}
 use lib.Dec.{eqb}
@@ -90,9 +90,6 @@ module _ (v : ℕ) (s : FourSums v) where
 
   pub mixed-lanes-few : mixedLanes v ≤ packed 1 1 1 1
   mixed-lanes-few = omega (arith, mixed-lanes-are, mixed-few (s .a) 4, mixed-few (s .b) 4, mixed-few (s .c) 4, mixed-few (s .d) 4)
-
-  pub sums-few : v ≤ packed 4 4 4 4
-  sums-few = omega (arith, s .is, s .few)
 
 lane-sum-is : (a b c d v : ℕ) → a < 65536 → b < 65536 → c < 65536 → v ≡ packed a b c d → laneSum v ≡ a + b + c + d
 unfolding laneSum

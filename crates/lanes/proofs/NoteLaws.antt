@@ -10,12 +10,13 @@ use lib.Dec.{eqb}
 use lib.ListN.{length, getD, set, length-set}
 use lib.Pow.{pow-pos}
 use lib.Seq.{getD-set-same, getD-set-other}
-use borrow.Author.Tests.{eq-eqb, ne-eqb, eqb-true, eqb-false}
+use borrow.Author.Tests.{ne-eqb, eqb-true, eqb-false}
 use Rattle.base.specs.Tab.{sum}
 use Rattle.base.proofs.BoolLaws.{by-bool}
+use Rattle.base.proofs.SumLaws.{sum-most}
 use Rattle.quad.specs.Numbers.{forkType, topLevel, maxWords}
-use Rattle.quad.specs.Tree.{Tree, leaf, sonOf, colour, sizeOf, likeTypes, treeOf}
-use Rattle.quad.proofs.TreeLaws.{by-quadrant, leaf-by-type, size-fits}
+use Rattle.quad.specs.Tree.{leaf, sonOf, colour, sizeOf, likeTypes, treeOf}
+use Rattle.quad.proofs.TreeLaws.{leaf-by-type, size-fits}
 use Rattle.quad.proofs.PictureLaws.{tree-son, tree-within}
 use Rattle.lanes.specs.Sums.{Colours}
 use Rattle.lanes.specs.Lanes.{window, blackRow, eightRows, kindOf}
@@ -77,12 +78,6 @@ pub part-down : (j h w : ℕ) → j ≤ 1 → h ≤ 2 ^ topLevel → w ≤ 2 ^ t
 part-down j h w le high wide =
     let small : j * h * w ≤ 2 ^ topLevel * w = mul-le-mul-right w (omega (arith, at-most j h le)) in
     omega arith
-
--- a sum of few numbers that are not large
-sum-most : (f : ℕ → ℕ) (k : ℕ) → ((i : ℕ) → i < k → f i ≤ 21845) → sum f k ≤ 21845 * k
-unfolding sum
-sum-most f zero h = omega arith
-sum-most f (suc k) h = omega (arith, h k (omega arith), sum-most f k (λ i lt. h i (omega arith)))
 
 -- what is noted outside of what was written stays noted
 pub noted-kept : (R : List ℕ) (w : ℕ) (K K′ : List ℕ) (e l s a : ℕ) → ((i : ℕ) → s ≤ i → i < s + slotsOf e → getD K′ i 0 ≡ getD K i 0)
@@ -228,7 +223,7 @@ module _ (R : List ℕ) (w a l s : ℕ) (low : 4 ≤ l) (K₀ : List ℕ) where
   pub parts-fit : (q nodes r : ℕ) (K K′ : List ℕ) → Parts R w a l s q K₀ K nodes → q < 4 → l ≤ topLevel
       → Tallied R w (partAt w a (2 ^ (l - 1)) q) (l - 1) (s + 1 + q * slotsOf (l - 1 - 3)) K K′ r → nodes + r ≤ 109226
   parts-fit q nodes r K K′ ps lt top t =
-      omega (arith, ps .count, t .nodes, part-size R w a (l - 1) q (omega arith), sum-most (sizeAt R w a (l - 1)) q (λ p less. omega (arith, part-size R w a (l - 1) p (omega arith))))
+      omega (arith, ps .count, t .nodes, part-size R w a (l - 1) q (omega arith), sum-most (sizeAt R w a (l - 1)) 21845 q (λ p less. omega (arith, part-size R w a (l - 1) p (omega arith))))
 
   -- all four
   module _ (colours : Colours R) (nodes : ℕ) (K : List ℕ) (ps : Parts R w a l s 4 K₀ K nodes) (room : s < length K) where

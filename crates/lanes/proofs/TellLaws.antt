@@ -1,15 +1,15 @@
 -- The sum of a block's rows tells its type: like pixels give 0 or the most, and 0 or the most come from like pixels alone.
-use mathlib.Core.Bool.{Bool, true, false}
+use mathlib.Core.Bool.{true, false}
 use mathlib.Core.List.{List}
 use mathlib.Core.Logic.{⊎-elim}
 use mathlib.Core.Path.{_≡_, refl, sym, _∙_}
-use Prim.Native.Nat.{ℕ, zero, suc, _+_, _-_, _*_, _/_, _%_, _^_, _≤_, _<_}
+use Prim.Native.Nat.{ℕ, zero, suc, _+_, _-_, _*_, _/_, _%_, _≤_, _<_}
 use native.Mathlib.Omega.{arith}
 use lib.Dec.{eqb}
 use borrow.Author.Tests.{eqb-true, eqb-false}
 use Rattle.base.proofs.BoolLaws.{by-bool}
 use Rattle.quad.specs.Numbers.{forkType}
-use Rattle.quad.specs.Tree.{Tree, leaf, fork, sonOf, colour, Coloured, sizeOf, treeOf}
+use Rattle.quad.specs.Tree.{Tree, leaf, sonOf, colour, Coloured, sizeOf, treeOf}
 use Rattle.quad.proofs.PictureLaws.{tree-son, tree-within, tree-coloured}
 use Rattle.quad.proofs.TreeLaws.{leaf-by-type, size-le}
 use Rattle.lanes.specs.Sums.{Colours, fourSum, sixteenSum}

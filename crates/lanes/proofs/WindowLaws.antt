@@ -1,16 +1,15 @@
 -- A window on a raster: what its rows' numbers and its lanes say of its blocks, and that its tree is that of the block it opens on.
-use mathlib.Core.Bool.{Bool, true, false, cond}
 use mathlib.Core.List.{List}
 use mathlib.Core.Path.{_≡_, refl, ap, sym, _∙_}
-use Prim.Native.Nat.{ℕ, zero, suc, _+_, _-_, _*_, _/_, _%_, _^_, _≤_, _<_}
+use Prim.Native.Nat.{ℕ, zero, suc, _+_, _-_, _*_, _/_, _^_, _≤_}
 use native.Mathlib.Nat.{add-zero, add-mul, mul-assoc, mul-left-comm, pow-succ'}
 use native.Mathlib.Omega.{arith}
 use lib.ListN.{getD}
 use Rattle.quad.specs.Numbers.{forkType}
-use Rattle.quad.specs.Tree.{Tree, leaf, join, colour, sizeOf, treeOf}
+use Rattle.quad.specs.Tree.{colour, sizeOf, treeOf}
 use Rattle.quad.proofs.PictureLaws.{same-picture}
-use Rattle.lanes.specs.Sums.{Colours, fourSum, sixteenSum, mixedOf}
-use Rattle.lanes.specs.Lanes.{window, twoAt, fourAt, eightAt, twoRows, packed, apartOf, forksOf, sumsFrom, FourSums}
+use Rattle.lanes.specs.Sums.{Colours, fourSum}
+use Rattle.lanes.specs.Lanes.{window, twoAt, fourAt, eightAt, twoRows, apartOf, forksOf, sumsFrom, FourSums}
 use Rattle.lanes.proofs.KindLaws.{four-few, sixteen-count, fork-nodes}
 use Rattle.lanes.proofs.LaneLaws.{carried, forks-are}
 

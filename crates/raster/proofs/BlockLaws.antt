@@ -1,7 +1,7 @@
 -- Blocks of a sheet: quarters, corners and rows lie on it, and a block's tree is the join of its quarters'.
 use mathlib.Core.List.{List}
-use mathlib.Core.Path.{_≡_, refl}
-use Prim.Native.Nat.{ℕ, zero, suc, _+_, _-_, _*_, _/_, _^_, _≤_, _<_}
+use mathlib.Core.Path.{_≡_}
+use Prim.Native.Nat.{ℕ, suc, _+_, _-_, _*_, _/_, _^_, _≤_, _<_}
 use native.Mathlib.Nat.{div-lt-iff-lt-mul, suc-mul, mul-le-mul-right, pow-succ', pow-le-pow-right}
 use native.Mathlib.Omega.{arith}
 use lib.Arith.{digits-lt}
@@ -63,12 +63,6 @@ corner-small {n} top o =
     let fit = block-fits o in
     let small = pow-le-pow-right {n = 2} (omega arith) {i = n} {j = topLevel} top in
     (omega arith, omega arith)
-
-pub pixel-on : {n l x y : ℕ} → OnSheet n l x y → (u v : ℕ) → u < x * 2 ^ l + 2 ^ l → v < y * 2 ^ l + 2 ^ l → OnSheet n 0 u v
-pixel-on {n} {l} o u v hu hv =
-    let e : n - 0 ≡ n = omega arith in
-    let fit = block-fits o in
-    record { low = omega arith; across = rw e (omega arith); down = rw e (omega arith) }
 
 pub row-place : {n l x y : ℕ} → n ≤ topLevel → OnSheet n l x y → (j : ℕ) → j < 2 ^ l
     → ((y * 2 ^ l + j) * 2 ^ n + x * 2 ^ l + 2 ^ l ≤ 4 ^ n) × (4 ^ n ≤ 4 ^ topLevel)

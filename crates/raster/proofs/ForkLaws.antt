@@ -1,13 +1,11 @@
 -- A fork's sons, one after the other: each is the tree of a quarter, and its nodes follow those of the sons before it.
 use mathlib.Core.List.{List}
-use mathlib.Core.Path.{_≡_, refl, _∙_}
+use mathlib.Core.Path.{_≡_, refl}
 use Prim.Native.Nat.{ℕ, zero, suc, _+_, _-_, _*_, _/_, _%_, _^_, _≤_, _<_}
-use native.Mathlib.Numerals.{add-one}
 use native.Mathlib.Omega.{arith}
-use Rattle.quad.specs.Numbers.{topLevel, forkType, maxWords}
+use Rattle.quad.specs.Numbers.{forkType}
 use Rattle.quad.specs.Tree.{Tree, leaf, fork, sonOf, colour, Coloured, sizeOf, treeOf}
-use Rattle.quad.proofs.TreeLaws.{leaf-by-type, size-fits}
-use Rattle.quad.proofs.PictureLaws.{tree-son, tree-within}
+use Rattle.quad.proofs.PictureLaws.{tree-son}
 use Rattle.table.proofs.PreorderLaws.{sonNode}
 use Rattle.table.proofs.PreorderAccepted.{node-end}
 use Rattle.raster.specs.Raster.{pictureOf}
@@ -53,21 +51,3 @@ module _ (n l X Y : ℕ) (R : List ℕ) (pic : Picture n R) where
       go : (l : ℕ) → colour (treeOf (pictureOf n R) l X Y) ≡ forkType → 0 < l
       go zero e = absurd (unfold treeOf colour in omega (arith, pic .colours (Y * 2 ^ n + X), e))
       go (suc l) e = omega arith
-
-  pub leaf-size : (k : ℕ) → k ≡ colour (treeOf (pictureOf n R) l X Y) → (k ≡ forkType → ⊥) → 1 ≡ sizeOf (treeOf (pictureOf n R) l X Y)
-  unfolding sizeOf
-  leaf-size k e z = rw (leaf-by-type (treeOf (pictureOf n R) l X Y) (λ q. z (e ∙ q)))
-
-  module _ (fk : colour (treeOf (pictureOf n R) l X Y) ≡ forkType) (pos : 0 < l) (q nodes r : ℕ) (q4 : q < 4) (at : nodes ≡ sonNode 0 (treeOf (pictureOf n R) l X Y) q)
-      (son : r ≡ sizeOf (treeOf (pictureOf n R) (l - 1) (2 * X + q % 2) (2 * Y + q / 2))) where
-    counted : nodes + r ≡ sonNode 0 (treeOf (pictureOf n R) l X Y) q + sizeOf (sonOf (treeOf (pictureOf n R) l X Y) q)
-    counted = rw (son-tree (pictureOf n R) l X Y q pos q4) (omega arith)
-
-    -- one son more is counted, and the count fits
-    pub count-next : nodes + r ≡ sonNode 0 (treeOf (pictureOf n R) l X Y) (q + 1)
-    unfolding sonNode
-    count-next = rw add-one counted
-
-    pub count-fits : l ≤ topLevel → nodes + r ≤ maxWords
-    count-fits top =
-        omega (arith, counted, son-end _ (block-forked fk) 0 q q4, size-fits l (treeOf (pictureOf n R) l X Y) top (tree-within (pictureOf n R) l X Y))

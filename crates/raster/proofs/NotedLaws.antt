@@ -4,7 +4,7 @@ use mathlib.Core.Path.{_≡_, refl, ap, sym, _∙_}
 use Prim.Native.Nat.{ℕ, suc, _+_, _-_, _*_, _/_, _%_, _^_, _≤_, _<_}
 use native.Mathlib.Nat.{add-mul, mul-assoc, mul-left-comm, pow-succ', pow-le-pow-right}
 use native.Mathlib.Omega.{arith}
-use lib.ListN.{length, getD}
+use lib.ListN.{getD}
 use Rattle.base.proofs.PowLaws.{four-pow}
 use Rattle.quad.specs.Numbers.{forkType, topLevel}
 use Rattle.quad.specs.Tree.{colour, sizeOf, treeOf}

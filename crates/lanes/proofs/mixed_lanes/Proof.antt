@@ -1,5 +1,4 @@
 -- `lanes::mixed_lanes`: the raised lanes less those as they are. Assumes nothing.
-use native.Mathlib.Omega.{arith}
 use Rattle.lanes.specs.Lanes.{mixedLanes}
 use Rattle.lanes.proofs.LaneLaws.{fourths-rise, mixed-lanes-few}
 use borrow.Author.Needs.{needs}
