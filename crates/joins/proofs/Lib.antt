@@ -1,6 +1,7 @@
 pub mod ChainLaws
 pub mod LeaderLaws
 pub mod JoinLaws
+pub mod TouchLaws
 pub mod SettleLaws
 pub mod BankLaws
 pub mod BeyondLaws

@@ -3,23 +3,29 @@
 use mathlib.Core.Bool.{true, false}
 use mathlib.Core.List.{List}
 use mathlib.Core.Logic.{⊎-elim}
-use mathlib.Core.Path.{_≡_, ap, sym, _∙_}
+use mathlib.Core.Path.{_≡_, refl, ap, sym, _∙_}
 use Prim.Native.Nat.{ℕ, zero, suc, _+_, _-_, _*_, _≤_, _<_}
 use native.Mathlib.Nat.{zero-mul, one-mul, not-suc-le-zero}
 use native.Mathlib.Omega.{arith}
-use borrow.Author.Tests.{ne-eqb}
+use borrow.Author.Tests.{eqb-true, eqb-false, ne-eqb}
+use Rattle.base.proofs.BoolLaws.{by-bool}
 use Rattle.quad.specs.Direction.{eastStep, southStep}
 use Rattle.quad.specs.Numbers.{black, forkType}
-use Rattle.table.specs.Table.{word, son, type, isFork}
-use Rattle.table.proofs.AcceptedLaws.{son-at}
+use Rattle.table.specs.Table.{nodes, word, son, type, isFork}
+use Rattle.table.specs.Nodes.{levelOf}
+use Rattle.table.proofs.AcceptedLaws.{son-at, fork-deep}
 use Rattle.neighbour.specs.declared.Found.{Found}
 use Rattle.neighbour.specs.declared.Found.the-variants.{At, Off}
 use Rattle.neighbour.specs.Containing.{Contains, Touches}
+use Rattle.neighbour.proofs.FoundLaws.{found-facts}
 use Rattle.neighbour.proofs.SideLaws.{leaf-holds}
 use Rattle.neighbour.specs.SonBeside.{Forward}
-use Rattle.joins.specs.Chain.{Water, end, link}
-use Rattle.joins.specs.Joining.{leaderOf, Together, Joined, Wired, Further, Flush, Bank, MetIn, Ashore, Reached, Met, MetSides, Along, MetAlong}
+use Rattle.joins.specs.Chain.{Water, Chain, end, link}
+use Rattle.joins.specs.Led.{wordOf}
+use Rattle.joins.specs.Joining.{leaderOf, Together, Joined, Wired, Further, Flush, Bank, MetIn, Ashore, Reached, Met, MetSides, Along, MetAlong, Both, Touched, TouchedAt}
+use Rattle.joins.proofs.ChainLaws.{chain-end}
 use Rattle.joins.proofs.LeaderLaws.{same-or-not, last-or-before}
+use Rattle.joins.proofs.TouchLaws.{joined-touched}
 use Rattle.joins.proofs.BankLaws.{Side, east, south, side-of, pixel-lies, next-lies, lies-next, flush-shares, flush-first, flush-second, near}
 use Rattle.joins.proofs.BeyondLaws.{water-leaf, bank, beyond-in, beyond-on}
 
@@ -111,6 +117,37 @@ module _ {T : List ℕ} {p m l D : ℕ} (kind : ℕ) (is : kind ≡ type T m) wh
   pub reached-black : (W W' : List ℕ) → kind ≡ black → Joined W W' p m → Reached T W W' p m l D
   reached-black W W' b j n z w = (further-black z kind is b W W' w j, in-black z kind is b W W' j)
 
+-- a black leaf's word is not 0, where node 0 is a fork
+word-there : (n : ℕ) (T W : List ℕ) (i : ℕ) → isFork T 0 ≡ true → Wired n T W → Water T i → wordOf W i ≡ 0 → ⊥
+word-there n T W i root w v e =
+    let first : Water T 0 = rw e at (chain-end n T i (wordOf W i) (w .linked i v)) in
+    omega (arith, first .wet, eqb-true (type T 0) forkType root)
+
+-- p and q joined if both are black
+further-touched : (n : ℕ) (T W W' : List ℕ) (p q : ℕ) → Wired n T W → (Both W p q → Chain n T p q) → Touched W W' p q → Further n T W W'
+further-touched n T W W' p q w d t = record {
+  wired = record {
+    each = t .long ∙ w .each;
+    falling = λ i. omega (arith, t .less i, w .falling i);
+    dry = λ i lt ne. omega (arith, t .less i, w .dry i lt ne);
+    linked = t .linked n T d (w .linked);
+  };
+  together = t .together;
+}
+
+reached-touched : {T : List ℕ} {p m l D : ℕ} (W W' : List ℕ) → isFork T 0 ≡ true → isFork T m ≡ false → Touched W W' p m → Reached T W W' p m l D
+reached-touched {T} {p} {m} W W' root leaf t n z w =
+    same-or-not (type T m) black
+    (λ b.
+    let v : Water T m = record { node = z .place .node; wet = b } in
+    reached-black (type T m) refl W W' b
+    (joined-touched W W' p m (word-there n T W p root w (z .water), word-there n T W m root w v) t)
+    n z w)
+    (λ nb. (
+      further-touched n T W W' p m w (λ both. absurd (both .1 (w .dry m (z .place .node) nb))) t,
+      in-other z (type T m) refl W' (eqb-false (type T m) forkType leaf) nb,
+    ))
+
 -- fork m, of whose two sons at the near edge the first k have been gone through
 abbrev pub NearMet : List ℕ → List ℕ → ℕ → ℕ → ℕ → ℕ → ℕ → List ℕ → Type 0
 NearMet T W p m l D k W' = (n : ℕ) → Bank n T p m l D → Wired n T W → Further n T W W' × ((i : ℕ) → i < k → MetIn n T W' p (son T m (i * (3 - D))) D)
@@ -169,6 +206,27 @@ module _ {T W : List ℕ} {p : ℕ} {found : Found} {D : ℕ} where
     along-met W' r z =
         let a = r (z .n) (bank (z .beside) (sym (z .is) ∙ f)) (z .wired) in
         (a .0, λ q x y v t. same-or-not p q (λ s. ap (leaderOf W') s) (λ ne. a .1 q x y v t (beyond-in (z .beside) v ne t (sym (z .is) ∙ f))))
+
+-- a pixel p and what was found beyond a side of it, which is a leaf
+module _ {T W : List ℕ} {p D : ℕ} (W' : List ℕ) (root : isFork T 0 ≡ true) where
+  pub pixel-met : (found : Found) (z : Along T W p found D) → levelOf (z .n) T p ≡ 0 → TouchedAt W W' p found → Further (z .n) T W W' × Met (z .n) T W' p D
+  unfolding TouchedAt
+  pixel-met Off z low t = rw t (along-off refl z)
+  pixel-met (At m k) z low t =
+      let b = z .beside in
+      let h = found-facts (z .n) T (b .accepted) p D (b .water .node) (omega (arith, b .way .1)) m k (sym (z .is)) in
+      let leaf : isFork T m ≡ false =
+      ⊎-elim
+      (λ (f : isFork T m ≡ true). absurd (omega (arith, low, h .level, h .full f, fork-deep (z .n) T (b .accepted) m (h .below) f)))
+      (λ (f : isFork T m ≡ false). f)
+      (by-bool (isFork T m)) in
+      along-met m k refl W' (reached-touched W W' root leaf t) z
+
+-- one that is not black
+pub pixel-dry : (n : ℕ) (T W W' : List ℕ) (p : ℕ) → Wired n T W → p < nodes T → (type T p ≡ black → ⊥) → (found : Found) → TouchedAt W W' p found → Further n T W W'
+unfolding TouchedAt
+pixel-dry n T W W' p w lt nb Off t = rw t (further-none n T W w)
+pixel-dry n T W W' p w lt nb (At m k) t = further-touched n T W W' p m w (λ both. absurd (both .0 (w .dry p lt nb))) t
 
 -- a node that is no black leaf has no side to look beyond
 pub sides-dry : (n : ℕ) (T W : List ℕ) (p kind : ℕ) → kind ≡ type T p → (kind ≡ black → ⊥) → MetSides n T W p

@@ -2,25 +2,26 @@
 use mathlib.Core.Bool.{true}
 use mathlib.Core.List.{List}
 use mathlib.Core.Path.{_≡_, refl, sym, _∙_}
-use Prim.Native.Nat.{ℕ, _+_, _-_, _≤_, _<_}
+use Prim.Native.Nat.{ℕ, _+_, _-_, _/_, _%_, _≤_, _<_}
 use native.Mathlib.Nat.{not-suc-le-zero}
 use native.Mathlib.Omega.{arith}
 use borrow.Author.Tests.{eqb-true, eq-eqb, ne-eqb}
-use Rattle.quad.specs.Numbers.{black, forkType}
-use Rattle.table.specs.Table.{son, type, isFork}
+use lib.ListN.{length}
+use Rattle.quad.specs.Numbers.{black, forkType, maxWords}
+use Rattle.table.specs.Table.{nodes, son, type, isFork}
 use Rattle.table.specs.Rules.{Accepted, AtLevel}
 use Rattle.table.specs.Nodes.{levelOf}
-use Rattle.table.proofs.AcceptedLaws.{fork-above, root-at, son-at}
+use Rattle.table.proofs.AcceptedLaws.{fork-above, level-is, root-at, son-at}
 use Rattle.table.proofs.UnderLaws.{under-still, under-leaf, under-fork, under-all}
 use Rattle.neighbour.specs.declared.Found.{Found}
-use Rattle.neighbour.specs.declared.Found.the-variants.{Off}
+use Rattle.neighbour.specs.declared.Found.the-variants.{At, Off}
 use Rattle.neighbour.specs.Neighbour.{neighbourFound}
-use Rattle.neighbour.specs.SonBeside.{Forward, besideSon}
-use Rattle.neighbour.proofs.BesideLaws.{beside-of-son, none-beside}
+use Rattle.neighbour.specs.SonBeside.{partIn, Forward, besideSon}
+use Rattle.neighbour.proofs.BesideLaws.{found-in, beside-of-son, none-beside, son-brother, son-next}
 use Rattle.joins.specs.Chain.{Water}
-use Rattle.joins.specs.Joining.{Together, Wired, Further, MetSides, MetUnder, MetAll, Beside, Along, MetAlong, Facing, FacingMet}
-use Rattle.joins.proofs.LeaderLaws.{last-or-before}
-use Rattle.joins.proofs.MeetLaws.{further-none, further-on, met-still, along-off, sides-dry, both-sides}
+use Rattle.joins.specs.Joining.{Falling, Together, Wired, Further, MetSides, MetUnder, MetAll, Beside, Along, MetAlong, Facing, FacingMet, Touching, Touched, TouchedAt, Beyond}
+use Rattle.joins.proofs.LeaderLaws.{same-or-not, last-or-before}
+use Rattle.joins.proofs.MeetLaws.{further-none, further-on, met-still, along-off, pixel-met, pixel-dry, sides-dry, both-sides}
 
 module _ (n : ℕ) (T : List ℕ) where
   -- what has been met stays so
@@ -67,6 +68,7 @@ module _ {T W : List ℕ} {p l : ℕ} {e s : Found} where
       pub fork-facing : isFork T c ≡ true → Facing T W p l e s → Facing T W' c half e' s'
       fork-facing f z = record {
         n = z .n;
+        root = z .root;
         place = next-at z;
         fork = f;
         east = next-beside z 1 (omega arith, omega arith) e (z .east) e' east;
@@ -77,6 +79,14 @@ module _ {T W : List ℕ} {p l : ℕ} {e s : Found} where
       pub fork-more : (W'' : List ℕ) → isFork T c ≡ true → FacingMet T W' W'' c half e' s' → FirstMet T W p l e s (q + 1) W''
       unfolding fork-facing
       fork-more W'' f h = next-more W'' (λ z. h (fork-facing f z))
+
+      -- a fork of four pixels
+      module _ (f : isFork T c ≡ true) (low : half ≡ 1) where
+        pub four-facing : Facing T W p l e s → Facing T W' c 1 e' s'
+        four-facing z = rw low at (fork-facing f z)
+
+        pub four-more : (W'' : List ℕ) → FacingMet T W' W'' c 1 e' s' → FirstMet T W p l e s (q + 1) W''
+        four-more W'' h = fork-more W'' f (rw low h)
 
     -- a leaf
     module _ (kind : ℕ) (ek : kind ≡ type T c) where
@@ -116,6 +126,32 @@ module _ {T W : List ℕ} {p l : ℕ} {e s : Found} where
             black-more W₂ k =
                 leaf-more W₂ (λ f. omega (arith, f, b)) (λ z. both-sides (z .n) T W' W₁ W₂ c (h (east-along z)) (k (south-along z)))
 
+      -- a pixel, that touched what lies beside it
+      module _ (e' s' : Found) (east : e' ≡ besideSon T p half e q 1) (south : s' ≡ besideSon T p half s q 2) where
+        pub pixel-more : half ≡ 0 → (W₁ W₂ : List ℕ) → TouchedAt W' W₁ c e' → TouchedAt W₁ W₂ c s' → FirstMet T W p l e s (q + 1) W₂
+        unfolding east-along
+        pixel-more zero W₁ W₂ t u z =
+            leaf-more W₂ (λ f. omega (arith, zero, fork-above (next-at z) (eq-eqb (type T c) forkType (sym ek ∙ f))))
+            (λ y.
+            let low : levelOf (y .n) T c ≡ 0 = sym (level-is (next-at y)) ∙ zero in
+            same-or-not kind black
+            (λ b.
+            let a = pixel-met W₁ (y .root) e' (east-along b e' east y) low t in
+            let along : Along T W₁ c s' 2 =
+            record {
+              n = y .n;
+              beside = beside b y 2 (omega arith, omega arith);
+              is = next-beside y 2 (omega arith, omega arith) s (y .south) s' south;
+              wired = a .0 .wired;
+            } in
+            both-sides (y .n) T W' W₁ W₂ c a (pixel-met W₂ (y .root) s' along low u))
+            (λ nb.
+            let dry : type T c ≡ black → ⊥ = λ b. nb (ek ∙ b) in
+            let a = pixel-dry (y .n) T W' W₁ c (first y .0 .wired) (next-at y .node) dry e' t in
+            let b = pixel-dry (y .n) T W₁ W₂ c (a .wired) (next-at y .node) dry s' u in
+            (further-on (y .n) T W' W₁ W₂ a b, sides-dry (y .n) T W₂ c kind ek nb)))
+            z
+
   -- all four
   pub first-all : (q : ℕ) (W' : List ℕ) → q ≤ 4 → 4 ≤ q → FirstMet T W p l e s q W' → FacingMet T W W' p l e s
   first-all q W' le ge first z =
@@ -125,6 +161,77 @@ module _ {T W : List ℕ} {p l : ℕ} {e s : Found} where
             (λ v. absurd (omega (arith, v .wet, eqb-true (type T p) forkType (z .fork))))
             (λ i i4. a .1 i (omega arith)),
       )
+
+-- four pixels: words that may be joined, as they are after each touch
+pub record Open (T W : List ℕ) : Type 0 where
+  pub each : length W ≡ nodes T
+  pub few : length W ≤ maxWords
+  pub falling : Falling W
+
+module _ {T W W' : List ℕ} (o : Open T W) where
+  pub open-touched : {a b : ℕ} → Touched W W' a b → Open T W'
+  open-touched t = record { each = t .long ∙ o .each; few = omega (arith, t .long, o .few); falling = λ i. omega (arith, t .less i, o .falling i) }
+
+  pub open-found : (a : ℕ) (found : Found) → TouchedAt W W' a found → Open T W'
+  unfolding TouchedAt
+  open-found a Off t = rw t o
+  open-found a (At m k) t = open-touched t
+
+pub touching : {T W : List ℕ} {a b : ℕ} → Open T W → a < nodes T → b < nodes T → Touching W a b
+touching o la lb = record { first = omega (arith, o .each); second = omega (arith, o .each); few = o .few; falling = o .falling }
+
+module _ {T W : List ℕ} {p l : ℕ} {e s : Found} (z : Facing T W p l e s) where
+  pub open-first : Open T W
+  open-first = record {
+    each = z .wired .each;
+    few = omega (arith, z .wired .each, z .place .accepted .sized .few, z .place .accepted .sized .whole);
+    falling = z .wired .falling;
+  }
+
+  pub son-in : (q c : ℕ) → q < 4 → c ≡ son T p q → c < nodes T
+  son-in q c q4 is = rw is (son-at (z .place) (z .fork) q q4 .node)
+
+  -- what a son touches beyond a side
+  module _ {W' : List ℕ} (o : Open T W') (q c : ℕ) (q4 : q < 4) (is : c ≡ son T p q) where
+    past : (D : ℕ) → Forward D → (found : Found) → found ≡ neighbourFound (z .n) T p D → (q / D % 2 ≡ 0 → ⊥) → Beyond T W' c found (q - D)
+    past D way found ef edge = record {
+      near = found-in (z .place) D way found ef;
+      quadrant = omega arith;
+      there =
+          found-in (son-at (z .place) (z .fork) q q4) D way (partIn T (q - D) found)
+          (son-next T p (l - 1) found q D (partIn T (q - D) found) edge refl ∙ beside-of-son (z .place) D way found ef (z .fork) (l - 1) q refl q4);
+      each = o .each;
+      own = touching o (son-in q c q4 is) (son-in q c q4 is);
+    }
+
+    pub past-east : (q / 1 % 2 ≡ 0 → ⊥) → Beyond T W' c e (q - 1)
+    past-east = past 1 (omega arith, omega arith) e (z .east)
+
+    pub past-south : (q / 2 % 2 ≡ 0 → ⊥) → Beyond T W' c s (q - 2)
+    past-south = past 2 (omega arith, omega arith) s (z .south)
+
+module _ {T W W₁ W₂ W₃ W₄ W₅ W₈ : List ℕ} {p : ℕ} {e s : Found} (W₆ W₇ : List ℕ) (nw ne sw se : ℕ) where
+  pub pixels-met : nw ≡ son T p 0 → ne ≡ son T p 1 → sw ≡ son T p 2 → se ≡ son T p 3
+      → Touched W W₁ nw ne → Touched W₁ W₂ nw sw
+      → TouchedAt W₂ W₃ ne (partIn T 0 e) → Touched W₃ W₄ ne se
+      → Touched W₄ W₅ sw se → TouchedAt W₅ W₆ sw (partIn T 0 s)
+      → TouchedAt W₆ W₇ se (partIn T 2 e) → TouchedAt W₇ W₈ se (partIn T 1 s)
+      → FacingMet T W W₈ p 1 e s
+  unfolding TouchedAt
+  pixels-met i j k m a b c d f g h t =
+      let first : FirstMet T W p 1 e s 1 W₂ =
+      pixel-more 0 nw 0 W (omega arith) i refl first-none (type T nw) refl (At ne 0) (At sw 0)
+      (son-brother T p 0 e 0 1 ne refl j) (son-brother T p 0 s 0 2 sw refl k) refl W₁ W₂ a b in
+      let second : FirstMet T W p 1 e s 2 W₄ =
+      pixel-more 1 ne 0 W₂ (omega arith) j refl first (type T ne) refl (partIn T 0 e) (At se 0)
+      (son-next T p 0 e 1 1 (partIn T 0 e) (λ x. omega (arith, x)) refl) (son-brother T p 0 s 1 2 se refl m) refl W₃ W₄ c d in
+      let third : FirstMet T W p 1 e s 3 W₆ =
+      pixel-more 2 sw 0 W₄ (omega arith) k refl second (type T sw) refl (At se 0) (partIn T 0 s)
+      (son-brother T p 0 e 2 1 se refl m) (son-next T p 0 s 2 2 (partIn T 0 s) (λ x. omega (arith, x)) refl) refl W₅ W₆ f g in
+      let fourth : FirstMet T W p 1 e s 4 W₈ =
+      pixel-more 3 se 0 W₆ (omega arith) m refl third (type T se) refl (partIn T 2 e) (partIn T 1 s)
+      (son-next T p 0 e 3 1 (partIn T 2 e) (λ x. omega (arith, x)) refl) (son-next T p 0 s 3 2 (partIn T 1 s) (λ x. omega (arith, x)) refl) refl W₇ W₈ h t in
+      first-all 4 W₈ (omega arith) (omega arith) fourth
 
 -- the root: nothing lies beside it
 module _ {n : ℕ} {T W : List ℕ} (acc : Accepted n T) (w : Wired n T W) (kind : ℕ) (is : kind ≡ type T 0) where
@@ -145,6 +252,7 @@ module _ {n : ℕ} {T W : List ℕ} (acc : Accepted n T) (w : Wired n T W) (kind
     pub root-facing : Facing T W 0 n Off Off
     root-facing = record {
       n = n;
+      root = eq-eqb (type T 0) forkType (sym is ∙ fk);
       place = root-at acc;
       fork = eq-eqb (type T 0) forkType (sym is ∙ fk);
       east = none-beside n T acc 1 (omega arith);

@@ -4,18 +4,19 @@ use mathlib.Core.Bool.{true, cond}
 use mathlib.Core.List.{List}
 use mathlib.Core.Path.{_≡_}
 use Prim.Native.Nat.{ℕ, zero, suc, _+_, _-_, _≤_, _<_}
-use lib.Dec.{eqb}
+use lib.Dec.{eqb, ltb}
 use lib.ListN.{length}
-use Rattle.quad.specs.Numbers.{black}
+use Rattle.quad.specs.Numbers.{black, maxWords}
 use Rattle.quad.specs.Direction.{eastStep, southStep}
 use Rattle.table.specs.Table.{nodes, type, isFork}
 use Rattle.table.specs.Under.{Under}
 use Rattle.table.specs.Rules.{Accepted, AtLevel}
 use Rattle.table.specs.Nodes.{levelOf, sideOf, leftOf, topOf}
 use Rattle.neighbour.specs.declared.Found.{Found}
+use Rattle.neighbour.specs.declared.Found.the-variants.{At, Off}
 use Rattle.neighbour.specs.Neighbour.{neighbourFound}
 use Rattle.neighbour.specs.Containing.{Contains, Touches}
-use Rattle.neighbour.specs.SonBeside.{Forward}
+use Rattle.neighbour.specs.SonBeside.{InTable, partIn, Forward}
 use Rattle.joins.specs.Chain.{Water, Shares, Chain}
 use Rattle.joins.specs.Led.{wordOf}
 
@@ -53,6 +54,46 @@ pub record Joined (W W' : List ℕ) (p q : ℕ) : Type 0 where
   pub together : Together W W'
   pub one : leaderOf W' p ≡ leaderOf W' q
   pub linked : (n : ℕ) (T : List ℕ) → Chain n T p q → Linked n T W → Linked n T W'
+
+-- the word that q is to have where p's is a and its own is b: p's where neither is 0
+unfoldable pub sharedOf : ℕ → ℕ → ℕ
+sharedOf a b = cond (eqb a 0) b (cond (eqb b 0) b a)
+
+-- 1 where q, whose word is b, leads itself and has a higher number than p, else 0
+unfoldable pub freeOf : ℕ → ℕ → ℕ → ℕ
+freeOf b p q = cond (eqb b q) (cond (ltb p q) 1 0) 0
+
+-- what joining p and q where both are black asks of its caller
+pub record Touching (W : List ℕ) (p q : ℕ) : Type 0 where
+  pub first : p < length W
+  pub second : q < length W
+  pub few : length W ≤ maxWords
+  pub falling : Falling W
+
+-- neither's word is 0
+abbrev pub Both : List ℕ → ℕ → ℕ → Type 0
+Both W p q = (wordOf W p ≡ 0 → ⊥) × (wordOf W q ≡ 0 → ⊥)
+
+-- W' is W with p and q joined if neither's word is 0
+pub record Touched (W W' : List ℕ) (p q : ℕ) : Type 0 where
+  pub long : length W' ≡ length W
+  pub less : (i : ℕ) → wordOf W' i ≤ wordOf W i
+  pub together : Together W W'
+  pub one : Both W p q → leaderOf W' p ≡ leaderOf W' q
+  pub linked : (n : ℕ) (T : List ℕ) → (Both W p q → Chain n T p q) → Linked n T W → Linked n T W'
+
+-- so with what was found, where something was
+unfoldable pub TouchedAt : List ℕ → List ℕ → ℕ → Found → Type 0
+TouchedAt W W' p Off = W' ≡ W
+TouchedAt W W' p (At m k) = Touched W W' p m
+
+-- what joining p and a quadrant of what was found asks of its caller
+pub record Beyond (T W : List ℕ) (p : ℕ) (found : Found) (q : ℕ) : Type 0 where
+  pub near : InTable T found
+  pub quadrant : q < 4
+  pub there : InTable T (partIn T q found)
+  pub each : length W ≡ nodes T
+  pub own : Touching W p p
 
 -- each word of W' is its node's leader in W
 pub record Settled (W W' : List ℕ) : Type 0 where
@@ -151,9 +192,10 @@ MetUnder n T W l p = Under T (MetSides n T W) l p
 abbrev pub MetAll : ℕ → List ℕ → List ℕ → Type 0
 MetAll n T W = (i : ℕ) → i < nodes T → MetSides n T W i
 
--- fork p of level l and its neighbours E and S, on a sheet of some level whose words are wired
+-- fork p of level l and its neighbours E and S, on a sheet of some level whose words are wired and whose root is no leaf
 pub record Facing (T W : List ℕ) (p l : ℕ) (e s : Found) : Type 0 where
   pub n : ℕ
+  pub root : isFork T 0 ≡ true
   pub place : AtLevel n T p l
   pub fork : isFork T p ≡ true
   pub east : e ≡ neighbourFound n T p 1

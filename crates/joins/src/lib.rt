@@ -2,6 +2,7 @@
 // the sets: a leaf's word is a leaf of its set that is not above it, and a leader's is itself.
 use neighbour::Found;
 use neighbour::beside::of_son;
+use neighbour::beside::part;
 use table::word_at;
 ghost use mathlib.Core.Bool.{true};
 ghost use mathlib.Core.Path.{_≡_};
@@ -11,8 +12,9 @@ ghost use Rattle.base.specs.Tab.{tab};
 ghost use Rattle.quad.specs.Numbers.{maxWords};
 ghost use Rattle.table.specs.Table.{nodes, isFork};
 ghost use Rattle.table.specs.Rules.{Accepted};
+ghost use Rattle.neighbour.specs.SonBeside.{partIn};
 ghost use Rattle.joins.specs.Led.{Led};
-ghost use Rattle.joins.specs.Joining.{leaderOf, ownOf, Falling, Kept, Joined, Settled, Wired, Further, Ashore, Reached, Along, MetAlong, MetUnder, Facing, FacingMet};
+ghost use Rattle.joins.specs.Joining.{leaderOf, ownOf, Falling, Kept, Joined, Settled, Wired, Further, Ashore, Reached, Along, MetAlong, MetUnder, Facing, FacingMet, sharedOf, freeOf, Touching, Touched, TouchedAt, Beyond};
 
 // The word that a node begins with: a black leaf's is itself, the others' are 0.
 fn own(table: &[u32], p: usize) -> u32
@@ -112,6 +114,77 @@ fn across(table: &[u32], words: &mut [u32], p: usize, found: Found, side: usize)
     join(words, p as u32, node as u32);
 }
 
+// The word that q is to have, where p's is a and its own is b: p's where both are black, and else its own. Only a black leaf's word is not 0.
+fn shared(a: u32, b: u32) -> u32
+    ensures { λ r. ⌜ r ≡ sharedOf a b ⌝ }
+{
+    if a == 0 {
+        return b;
+    }
+    if b == 0 {
+        return b;
+    }
+    a
+}
+
+// 1 where q, whose word is given, leads itself and has a higher number than p, else 0.
+fn free(word: u32, p: usize, q: usize) -> usize
+    ensures { λ r. ⌜ (r ≡ freeOf word p q) × (r ≤ 1) ⌝ }
+{
+    if word as usize == q {
+        if p < q {
+            return 1;
+        }
+    }
+    0
+}
+
+// Joins p and q where both are black. Mostly q leads itself still and takes p's word, or one of them is white: no test on the map tells these apart.
+fn touch(words: &mut [u32], p: usize, q: usize)
+    requires { ⌜ Touching (now words) p q ⌝ }
+    ensures { λ _. ⌜ Touched (now (words .entry)) (now (words .exit)) p q ⌝ }
+{
+    let own = words[q];
+    let word = shared(words[p], own);
+    let both: [u32; 2] = [own, word];
+    let which = free(own, p, q);
+    let next = both[which];
+    words[q] = next;
+    if next != word {
+        join(words, p as u32, q as u32);
+    }
+}
+
+// Joins pixel p and what lies beyond a side of its father, where that side's neighbour is `found` and p touches a quadrant of it.
+fn beyond(table: &[u32], words: &mut [u32], p: usize, found: Found, quadrant: usize)
+    requires { ⌜ Beyond (now table) (now words) p found quadrant ⌝ }
+    ensures { λ _. ⌜ TouchedAt (now (words .entry)) (now (words .exit)) p (partIn (now (table .entry)) quadrant found) ⌝ }
+{
+    let Found::At { node, level } = part(table, found, quadrant) else {
+        return;
+    };
+    touch(words, p, node);
+}
+
+// What `meet` does, for a fork of four pixels. What lies beside a pixel is a leaf.
+fn pixels(table: &[u32], words: &mut [u32], p: usize, east: Found, south: Found)
+    requires { ⌜ Facing (now table) (now words) p 1 east south ⌝ }
+    ensures { λ _. ⌜ FacingMet (now (table .entry)) (now (words .entry)) (now (words .exit)) p 1 east south ⌝ }
+{
+    let nw = word_at(table, p, 1);
+    let ne = word_at(table, p, 2);
+    let sw = word_at(table, p, 3);
+    let se = word_at(table, p, 4);
+    touch(words, nw, ne);
+    touch(words, nw, sw);
+    beyond(table, words, ne, east, 0);
+    touch(words, ne, se);
+    touch(words, sw, se);
+    beyond(table, words, sw, south, 0);
+    beyond(table, words, se, east, 2);
+    beyond(table, words, se, south, 1);
+}
+
 // Joins every black leaf under a fork, whose level and neighbours E and S are given, and those beyond its own sides E and S; those beyond N and W meet it from
 // theirs. A son's neighbours come from the fork's.
 fn meet(table: &[u32], words: &mut [u32], p: usize, level: u32, east: Found, south: Found)
@@ -128,7 +201,11 @@ fn meet(table: &[u32], words: &mut [u32], p: usize, level: u32, east: Found, sou
         if kind == quad::FORK {
             let e = of_son(table, p, half, east, q, 1);
             let s = of_son(table, p, half, south, q, 2);
-            meet(table, words, son, half, e, s);
+            if half == 1 {
+                pixels(table, words, son, e, s);
+            } else {
+                meet(table, words, son, half, e, s);
+            }
         } else {
             if kind == quad::BLACK {
                 across(table, words, son, of_son(table, p, half, east, q, 1), 1);
