@@ -86,7 +86,7 @@ fn shore(table: &[u32], words: &mut [u32], p: usize, node: usize, level: u32, si
         let kind = word_at(table, son, 5);
         k += 1;
         if kind == quad::FORK {
-            shore(table, words, p, son, half, side);
+            shore(&*table, words, p, son, half, side);
         } else {
             if kind == quad::BLACK {
                 join(words, p as u32, son as u32);
@@ -105,7 +105,7 @@ fn across(table: &[u32], words: &mut [u32], p: usize, found: Found, side: usize)
     };
     let kind = word_at(table, node, 5);
     if kind == quad::FORK {
-        shore(table, words, p, node, level, side);
+        shore(&*table, words, p, node, level, side);
         return;
     }
     if kind != quad::BLACK {
@@ -204,7 +204,7 @@ fn meet(table: &[u32], words: &mut [u32], p: usize, level: u32, east: Found, sou
             if half == 1 {
                 pixels(table, words, son, e, s);
             } else {
-                meet(table, words, son, half, e, s);
+                meet(&*table, words, son, half, e, s);
             }
         } else {
             if kind == quad::BLACK {

@@ -98,7 +98,7 @@ fn leaf_row(table: &[u32], words: &mut [u32], p: usize, above: u32, count: u32) 
     if above != 0 {
         return count;
     }
-    meet(table, words, p, count)
+    meet(&*table, words, p, count)
 }
 
 // Meets the leaves that a row crosses under node p, from west to east: those under the western half of each fork, on the way down the eastern halves.
@@ -114,10 +114,10 @@ fn row(table: &[u32], words: &mut [u32], p: usize, above: u32, count: u32) -> u3
         let west = word_at(table, node, 1 + q);
         let east = word_at(table, node, 2 + q);
         part = part << 1;
-        met = west_row(table, words, west, part, met);
+        met = west_row(&*table, words, west, part, met);
         node = east;
     }
-    leaf_row(table, words, node, part, met)
+    leaf_row(&*table, words, node, part, met)
 }
 
 // The same; a leaf takes no walk.
@@ -126,9 +126,9 @@ fn west_row(table: &[u32], words: &mut [u32], p: usize, above: u32, count: u32) 
     ensures { λ r. ⌜ Passes (now (table .entry)) p above (now (words .entry)) count (now (words .exit)) r ⌝ }
 {
     if word_at(table, p, 5) == quad::FORK {
-        return row(table, words, p, above, count);
+        return row(&*table, words, p, above, count);
     }
-    leaf_row(table, words, p, above, count)
+    leaf_row(&*table, words, p, above, count)
 }
 
 // Meets the leaves of the rows, from the top, until each leader has its number. Gives the count.
