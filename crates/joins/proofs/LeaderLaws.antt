@@ -13,7 +13,6 @@ use lib.ListN.{length, set, length-set}
 use lib.Seq.{getD-set-same, getD-set-other}
 use borrow.Author.Tests.{eqb-true, eqb-false, eq-eqb, ne-eqb}
 use Rattle.base.proofs.BoolLaws.{by-bool, lt-or-ge}
-use Rattle.base.proofs.CaseLaws.{cond-same}
 use Rattle.joins.specs.Chain.{Water, Chain, end}
 use Rattle.joins.specs.Led.{wordOf}
 use Rattle.joins.specs.Joining.{onward, leaderOf, Falling, Linked, Kept, Joined}
@@ -176,14 +175,12 @@ module _ (W W' : List ℕ) (a v : ℕ) (low : Falling W) (ea : wordOf W a ≡ a)
   unfolding under
   under-a = rw (eq-eqb a a refl)
 
+  still : (i : ℕ) → (i ≡ a → ⊥) → under i ≡ i
+  unfolding under
+  still i ne = rw (ne-eqb i a ne)
+
   under-v : under (leaderOf W v) ≡ leaderOf W v
-  under-v =
-      same-or-not (leaderOf W v) a
-      (λ e. ap under e ∙ under-a)
-      (λ ne. still (leaderOf W v) ne)
-    where
-      still : (i : ℕ) → (i ≡ a → ⊥) → under i ≡ i
-      still i ne = unfold under in rw (ne-eqb i a ne)
+  under-v = same-or-not (leaderOf W v) a (λ e. ap under e ∙ under-a) (still (leaderOf W v))
 
   lower : (i : ℕ) → wordOf W' i ≤ wordOf W i
   lower = changed-less W W' a v c (omega (arith, ea))
@@ -203,9 +200,6 @@ module _ (W W' : List ℕ) (a v : ℕ) (low : Falling W) (ea : wordOf W a ≡ a)
       (λ ne.
       let o : wordOf W i ≡ i = sym (c .others i ne) ∙ own in
       rw (leader-own W i o) (still i ne)))
-    where
-      still : (i : ℕ) → (i ≡ a → ⊥) → under i ≡ i
-      still i ne = unfold under in rw (ne-eqb i a ne)
 
   -- p is led by a, and a chain joins q and v
   pub joined-under : (p q : ℕ) → leaderOf W p ≡ a → leaderOf W q ≡ leaderOf W v → ((n : ℕ) (T : List ℕ) → Linked n T W → Water T q → Chain n T q v)

@@ -7,4 +7,6 @@ pub mod BankLaws
 pub mod BeyondLaws
 pub mod MeetLaws
 pub mod UnderLaws
+pub mod PixelLaws
+pub mod OutsideLaws
 pub mod LedLaws

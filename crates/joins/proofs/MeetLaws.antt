@@ -1,6 +1,6 @@
 -- A black leaf meets those beyond its sides E and S: what going down along a side and a look beyond it leave, in the code's own values. What has been met stays
 -- so while more is joined.
-use mathlib.Core.Bool.{true, false}
+use mathlib.Core.Bool.{true, false, false≢true}
 use mathlib.Core.List.{List}
 use mathlib.Core.Logic.{⊎-elim}
 use mathlib.Core.Path.{_≡_, refl, ap, sym, _∙_}
@@ -12,17 +12,18 @@ use Rattle.base.proofs.BoolLaws.{by-bool}
 use Rattle.quad.specs.Direction.{eastStep, southStep}
 use Rattle.quad.specs.Numbers.{black, forkType}
 use Rattle.table.specs.Table.{nodes, word, son, type, isFork}
-use Rattle.table.specs.Nodes.{levelOf}
-use Rattle.table.proofs.AcceptedLaws.{son-at, fork-deep}
+use Rattle.table.proofs.AcceptedLaws.{son-at, fork-above}
 use Rattle.neighbour.specs.declared.Found.{Found}
 use Rattle.neighbour.specs.declared.Found.the-variants.{At, Off}
+use Rattle.neighbour.specs.Neighbour.{neighbourFound}
+use Rattle.neighbour.specs.Surround.{numberOf}
 use Rattle.neighbour.specs.Containing.{Contains, Touches}
 use Rattle.neighbour.proofs.FoundLaws.{found-facts}
 use Rattle.neighbour.proofs.SideLaws.{leaf-holds}
 use Rattle.neighbour.specs.SonBeside.{Forward}
 use Rattle.joins.specs.Chain.{Water, Chain, end, link}
 use Rattle.joins.specs.Led.{wordOf}
-use Rattle.joins.specs.Joining.{leaderOf, Together, Joined, Wired, Further, Flush, Bank, MetIn, Ashore, Reached, Met, MetSides, Along, MetAlong, Both, Touched, TouchedAt}
+use Rattle.joins.specs.Joining.{leaderOf, Together, Joined, Wired, Further, Flush, Bank, MetIn, Ashore, Reached, Met, MetSides, Beside, Along, Both, Touched}
 use Rattle.joins.proofs.ChainLaws.{chain-end}
 use Rattle.joins.proofs.LeaderLaws.{same-or-not, last-or-before}
 use Rattle.joins.proofs.TouchLaws.{joined-touched}
@@ -188,45 +189,82 @@ module _ {T W : List ℕ} {p m l D : ℕ} (fk : isFork T m ≡ true) where
       let second : MetIn n T W' p (son T m (3 - D)) D = rw (one-mul (3 - D)) at (a .1 1 (omega arith)) in
       (a .0, in-fork z fk W' first second)
 
--- beyond side D of the black leaf p, whose neighbour there is `found`; p itself has its own leader
-module _ {T W : List ℕ} {p : ℕ} {found : Found} {D : ℕ} where
-  pub along-off : found ≡ Off → MetAlong T W W p found D
-  unfolding Met
-  along-off f z = (
-    further-none (z .n) T W (z .wired),
-    λ q x y v t. same-or-not p q (λ s. ap (leaderOf W) s) (λ ne. absurd (beyond-on (z .beside) v ne t (sym (z .is) ∙ f))),
-  )
+-- nothing is found beyond side D of the black leaf p, which has its own leader
+pub none-met : (n : ℕ) (T W : List ℕ) (D : ℕ) {p l : ℕ} → Beside n T p l D → neighbourFound n T p D ≡ Off → Met n T W p D
+unfolding Met
+none-met n T W D {p} b f q x y v t = same-or-not p q (λ s. ap (leaderOf W) s) (λ ne. absurd (beyond-on b v ne t f))
 
-  module _ (m k : ℕ) (f : found ≡ At m k) where
-    pub along-ashore : Along T W p found D → Ashore T W p m k D
-    along-ashore z = record { n = z .n; bank = bank (z .beside) (sym (z .is) ∙ f); wired = z .wired }
+-- beyond side D of the black leaf p, whose neighbour there is m; p itself has its own leader
+module _ {T W : List ℕ} {p m l D : ℕ} (z : Along T W p m l D) where
+  -- nothing was found, or m was
+  by-found : {A : Type 0} → (m ≡ z .x → neighbourFound (z .n) T p D ≡ Off → A) → ((k : ℕ) → neighbourFound (z .n) T p D ≡ At m k → A) → A
+  by-found {A} f g = go (neighbourFound (z .n) T p D) refl
+    where
+      go : (h : Found) → neighbourFound (z .n) T p D ≡ h → A
+      go Off e = f (z .is ∙ unfold numberOf in rw e) e
+      go (At i k) e =
+          let s : m ≡ i = z .is ∙ unfold numberOf in rw e in
+          g k (rw s e)
 
-    pub along-met : (W' : List ℕ) → Reached T W W' p m k D → MetAlong T W W' p found D
-    unfolding Met MetIn
-    along-met W' r z =
-        let a = r (z .n) (bank (z .beside) (sym (z .is) ∙ f)) (z .wired) in
-        (a .0, λ q x y v t. same-or-not p q (λ s. ap (leaderOf W') s) (λ ne. a .1 q x y v t (beyond-in (z .beside) v ne t (sym (z .is) ∙ f))))
+  met-at : (k : ℕ) → neighbourFound (z .n) T p D ≡ At m k → (W' : List ℕ) → Reached T W W' p m k D → Further (z .n) T W W' × Met (z .n) T W' p D
+  unfolding Met MetIn
+  met-at k f W' r =
+      let a = r (z .n) (bank (z .beside) f) (z .wired) in
+      (a .0, λ q x y v t. same-or-not p q (λ s. ap (leaderOf W') s) (λ ne. a .1 q x y v t (beyond-in (z .beside) v ne t f)))
 
--- a pixel p and what was found beyond a side of it, which is a leaf
-module _ {T W : List ℕ} {p D : ℕ} (W' : List ℕ) (root : isFork T 0 ≡ true) where
-  pub pixel-met : (found : Found) (z : Along T W p found D) → levelOf (z .n) T p ≡ 0 → TouchedAt W W' p found → Further (z .n) T W W' × Met (z .n) T W' p D
-  unfolding TouchedAt
-  pixel-met Off z low t = rw t (along-off refl z)
-  pixel-met (At m k) z low t =
-      let b = z .beside in
-      let h = found-facts (z .n) T (b .accepted) p D (b .water .node) (omega (arith, b .way .1)) m k (sym (z .is)) in
-      let leaf : isFork T m ≡ false =
-      ⊎-elim
-      (λ (f : isFork T m ≡ true). absurd (omega (arith, low, h .level, h .full f, fork-deep (z .n) T (b .accepted) m (h .below) f)))
-      (λ (f : isFork T m ≡ false). f)
-      (by-bool (isFork T m)) in
-      along-met m k refl W' (reached-touched W W' root leaf t) z
+  pub along-node : m < nodes T
+  along-node =
+      by-found (λ e _. rw e (z .off .node)) (λ k f. bank (z .beside) f .place .node)
 
--- one that is not black
-pub pixel-dry : (n : ℕ) (T W W' : List ℕ) (p : ℕ) → Wired n T W → p < nodes T → (type T p ≡ black → ⊥) → (found : Found) → TouchedAt W W' p found → Further n T W W'
-unfolding TouchedAt
-pixel-dry n T W W' p w lt nb Off t = rw t (further-none n T W w)
-pixel-dry n T W W' p w lt nb (At m k) t = further-touched n T W W' p m w (λ both. absurd (both .0 (w .dry p lt nb))) t
+  -- a fork
+  module _ (fk : isFork T m ≡ true) where
+    fork-found : {A : Type 0} → ((k : ℕ) → neighbourFound (z .n) T p D ≡ At m k → k ≡ l → A) → A
+    fork-found g =
+        by-found
+        (λ e _. absurd (false≢true (sym (z .off .leaf) ∙ ap (isFork T) (sym e) ∙ fk)))
+        (λ k f.
+        let b = z .beside in
+        let h = found-facts (z .n) T (b .accepted) p D (b .water .node) (omega (arith, b .way .1)) m k f in
+        g k f (h .full fk ∙ sym (b .level)))
+
+    pub along-ashore : Ashore T W p m l D
+    along-ashore = fork-found (λ k f e. record { n = z .n; bank = rw e at (bank (z .beside) f); wired = z .wired })
+
+    pub along-fork : (W' : List ℕ) → Reached T W W' p m l D → Further (z .n) T W W' × Met (z .n) T W' p D
+    along-fork W' r = fork-found (λ k f e. met-at k f W' (rw e r))
+
+  -- a leaf
+  module _ (kind : ℕ) (is : kind ≡ type T m) where
+    pub along-other : (kind ≡ forkType → ⊥) → (kind ≡ black → ⊥) → Further (z .n) T W W × Met (z .n) T W p D
+    along-other nf nb = by-found (λ _ f. (further-none (z .n) T W (z .wired), none-met (z .n) T W D (z .beside) f)) (λ k f. met-at k f W (reached-other kind is W nf nb))
+
+    pub along-black : (W' : List ℕ) → kind ≡ black → Joined W W' p m → Further (z .n) T W W' × Met (z .n) T W' p D
+    along-black W' b j =
+        by-found
+        (λ e _. absurd (z .off .dry (ap (type T) (sym e) ∙ sym is ∙ b)))
+        (λ k f. met-at k f W' (reached-black kind is W W' b j))
+
+  -- what a pixel touches
+  pub pixel-met : l ≡ 0 → isFork T 0 ≡ true → (W' : List ℕ) → Touched W W' p m → Further (z .n) T W W' × Met (z .n) T W' p D
+  pixel-met low root W' t =
+      by-found
+      (λ e f. (
+        further-touched (z .n) T W W' p m (z .wired)
+            (λ both. absurd (both .1 (z .wired .dry m along-node (λ b. z .off .dry (ap (type T) (sym e) ∙ b))))) t,
+        none-met (z .n) T W' D (z .beside) f,
+      ))
+      (λ k f. met-at k f W' (reached-touched W W' root leaf t))
+    where
+      leaf : isFork T m ≡ false
+      leaf =
+          ⊎-elim
+          (λ (fk : isFork T m ≡ true). absurd (let a = along-ashore fk in omega (arith, low, fork-above (a .bank .place) fk)))
+          (λ (f : isFork T m ≡ false). f)
+          (by-bool (isFork T m))
+
+-- a pixel that is not black
+pub pixel-dry : (n : ℕ) (T W W' : List ℕ) (p m : ℕ) → Wired n T W → p < nodes T → (type T p ≡ black → ⊥) → Touched W W' p m → Further n T W W'
+pixel-dry n T W W' p m w lt nb t = further-touched n T W W' p m w (λ both. absurd (both .0 (w .dry p lt nb))) t
 
 -- a node that is no black leaf has no side to look beyond
 pub sides-dry : (n : ℕ) (T W : List ℕ) (p kind : ℕ) → kind ≡ type T p → (kind ≡ black → ⊥) → MetSides n T W p

@@ -1,7 +1,6 @@
 -- Two leaves joined where both are black: one of their words is 0, or q takes p's word, or they have one word already, or they are joined as sets are.
-use mathlib.Core.Bool.{true, false, cond}
 use mathlib.Core.List.{List, [], _∷_}
-use mathlib.Core.Logic.{_⊎_, inl, inr, ⊎-elim}
+use mathlib.Core.Logic.{⊎-elim}
 use mathlib.Core.Path.{_≡_, refl, ap, sym, _∙_}
 use Prim.Native.Nat.{ℕ, _≤_, _<_}
 use native.Mathlib.Omega.{arith}
@@ -9,10 +8,8 @@ use lib.ListN.{length, set, getD, length-set}
 use lib.Seq.{getD-set-same, getD-set-other, ext-getD}
 use borrow.Author.Tests.{eq-eqb, ne-eqb, lt-ltb, le-ltb}
 use Rattle.base.proofs.BoolLaws.{lt-or-ge}
-use Rattle.neighbour.specs.declared.Found.{Found}
-use Rattle.neighbour.specs.declared.Found.the-variants.{At, Off}
 use Rattle.joins.specs.Led.{wordOf}
-use Rattle.joins.specs.Joining.{leaderOf, Falling, Linked, Joined, sharedOf, freeOf, Both, Touching, Touched, TouchedAt}
+use Rattle.joins.specs.Joining.{Falling, Joined, sharedOf, freeOf, Both, Touching, Touched}
 use Rattle.joins.proofs.LeaderLaws.{same-or-not, leader-own, leader-on, changed, joined-under, joined-back}
 use Rattle.joins.proofs.JoinLaws.{joined-already}
 
@@ -120,18 +117,18 @@ module _ (W : List ℕ) (p q word which : ℕ) (z : Touching W p q) (is : word �
       (λ own l k. absurd (ne k))
       (λ k. by-word (λ w apart. absurd (ne (k ∙ sym w))) (λ w b. (unchanged k, b)))
 
-  -- what `join` asks and leaves then
-  pub touch-falling : (next ≡ word → ⊥) → Falling (set W q next)
-  touch-falling ne = rw (touch-left ne .0) (z .falling)
+  -- what `join` asks, and what it leaves where that is not all
+  pub touch-falling : Falling (set W q next)
+  touch-falling =
+      by-free
+      (λ own l k.
+      by-word
+      (λ w _. rw (unchanged (k ∙ w)) (z .falling))
+      (λ w _. rw (k ∙ w) (λ i. omega (arith, taken W p q z own l .less i, z .falling i))))
+      (λ k. rw (unchanged k) (z .falling))
+
+  pub touch-long : (W' : List ℕ) → length W' ≡ length (set W q next) → length W' ≡ length W
+  touch-long W' e = e ∙ length-set W q next
 
   pub touch-joined : (next ≡ word → ⊥) → (W' : List ℕ) → Joined (set W q next) W' p q → Touched W W' p q
   touch-joined ne W' j = touched-joined W W' p q (touch-left ne .1) (rw (touch-left ne .0) at j)
-
--- what was found and is there, or not
-pub found-off : (W : List ℕ) (p : ℕ) (g found : Found) → g ≡ found → g ≡ Off → TouchedAt W W p found
-unfolding TouchedAt
-found-off W p g found e o = rw (← e, o)
-
-pub found-at : (W W' : List ℕ) (p : ℕ) (g found : Found) (m k : ℕ) → g ≡ found → g ≡ At m k → Touched W W' p m → TouchedAt W W' p found
-unfolding TouchedAt
-found-at W W' p g found m k e a t = rw (← e, a) t

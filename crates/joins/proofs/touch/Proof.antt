@@ -1,6 +1,6 @@
 -- `joins::touch`: q's next word, and a join where that is not all. Assumes nothing.
 use lib.ListN.{length-set}
-use Rattle.joins.proofs.TouchLaws.{touch-done, touch-falling, touch-joined}
+use Rattle.joins.proofs.TouchLaws.{touch-done, touch-falling, touch-long, touch-joined}
 use borrow.Author.Needs.{needs}
 use Rattle.joins.proofs.touch.Statement.{statement}
 use Rattle.joins.proofs.touch.Tie as tie
@@ -43,10 +43,10 @@ cast-join-2 c = search needs
 
 join-requires : tie.Need-join-requires
 join-requires c κs = let z = c .before .before .before .before .before .before .before .pre in
-    (simp length-set (z .first), simp length-set (z .second), touch-falling _ _ _ _ _ z (c .before .before .before .shared .ensures) (c .before .before .free .ensures .0) (c .before .if1 .taken))
+    (simp length-set (z .first), simp length-set (z .second), touch-falling _ _ _ _ _ z (c .before .before .before .shared .ensures) (c .before .before .free .ensures .0))
 
 same-length : tie.Need-same-length
-same-length c = touch-joined _ _ _ _ _ (c .before .before .before .before .before .before .before .before .before .before .pre) (c .before .before .before .before .before .before .shared .ensures) (c .before .before .before .before .before .free .ensures .0) (c .before .before .before .before .if1 .taken) _ (c .before .before .join .ensures) .long
+same-length c = touch-long _ _ _ _ _ (c .before .before .before .before .before .before .before .before .before .before .pre) (c .before .before .before .before .before .before .shared .ensures) (c .before .before .before .before .before .free .ensures .0) (c .before .before .join .last .0) (c .before .before .join .kept .0)
 
 returns : tie.Need-returns
 returns c = touch-joined _ _ _ _ _ (c .before .before .before .before .before .before .before .before .before .before .pre) (c .before .before .before .before .before .before .shared .ensures) (c .before .before .before .before .before .free .ensures .0) (c .before .before .before .before .if1 .taken) _ (c .before .before .join .ensures)
