@@ -5,19 +5,13 @@ use mathlib.Core.Path.{_≡_, refl, ap, sym, _∙_}
 use Prim.Native.Nat.{ℕ, _≤_, _<_}
 use native.Mathlib.Omega.{arith}
 use lib.ListN.{length, set, getD, length-set}
-use lib.Seq.{getD-set-same, getD-set-other, ext-getD}
+use lib.Seq.{set-getD}
 use borrow.Author.Tests.{eq-eqb, ne-eqb, lt-ltb, le-ltb}
 use Rattle.base.proofs.BoolLaws.{lt-or-ge}
 use Rattle.joins.specs.Led.{wordOf}
 use Rattle.joins.specs.Joining.{Falling, Joined, sharedOf, freeOf, Both, Touching, Touched}
 use Rattle.joins.proofs.LeaderLaws.{same-or-not, leader-own, leader-on, changed, joined-under, joined-back}
 use Rattle.joins.proofs.JoinLaws.{joined-already}
-
--- a word written over itself
-set-own : (W : List ℕ) (q : ℕ) → q < length W → set W q (wordOf W q) ≡ W
-set-own W q lt =
-    ext-getD 0 _ W (length-set W q (wordOf W q))
-    (λ i _. same-or-not i q (λ e. rw e (getD-set-same W q (wordOf W q) 0 lt)) (λ ne. getD-set-other W q i (wordOf W q) 0 ne))
 
 touched-joined : (W W' : List ℕ) (p q : ℕ) → Both W p q → Joined W W' p q → Touched W W' p q
 touched-joined W W' p q b j = record {
@@ -99,7 +93,7 @@ module _ (W : List ℕ) (p q word which : ℕ) (z : Touching W p q) (is : word �
       both np nq = unfold sharedOf in rw (ne-eqb (wordOf W p) 0 np, ne-eqb (wordOf W q) 0 nq)
 
   unchanged : next ≡ wordOf W q → set W q next ≡ W
-  unchanged e = ap (set W q) e ∙ set-own W q (z .second)
+  unchanged e = ap (set W q) e ∙ set-getD W q 0
 
   pub touch-done : next ≡ word → Touched W (set W q next) p q
   touch-done e =
