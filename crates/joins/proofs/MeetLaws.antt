@@ -23,7 +23,7 @@ use Rattle.neighbour.proofs.SideLaws.{leaf-holds}
 use Rattle.neighbour.specs.SonBeside.{Forward}
 use Rattle.joins.specs.Chain.{Water, Chain, end, link}
 use Rattle.joins.specs.Led.{wordOf}
-use Rattle.joins.specs.Joining.{leaderOf, Together, Joined, Wired, Further, Flush, Bank, MetIn, Ashore, Reached, Met, MetSides, Beside, Along, Both, Touched}
+use Rattle.joins.specs.Joining.{leaderOf, Together, Joined, Wired, Further, Flush, Bank, MetIn, Ashore, Reached, Met, MetSides, Beside, Along, Both, Touching, Touched}
 use Rattle.joins.proofs.ChainLaws.{chain-end}
 use Rattle.joins.proofs.LeaderLaws.{same-or-not, last-or-before}
 use Rattle.joins.proofs.TouchLaws.{joined-touched}
@@ -136,7 +136,7 @@ further-touched n T W W' p q w d t = record {
   together = t .together;
 }
 
-reached-touched : {T : List ℕ} {p m l D : ℕ} (W W' : List ℕ) → isFork T 0 ≡ true → isFork T m ≡ false → Touched W W' p m → Reached T W W' p m l D
+pub reached-touched : {T : List ℕ} {p m l D : ℕ} (W W' : List ℕ) → isFork T 0 ≡ true → isFork T m ≡ false → Touched W W' p m → Reached T W W' p m l D
 reached-touched {T} {p} {m} W W' root leaf t n z w =
     same-or-not (type T m) black
     (λ b.
@@ -148,6 +148,17 @@ reached-touched {T} {p} {m} W W' root leaf t n z w =
       further-touched n T W W' p m w (λ both. absurd (both .1 (w .dry m (z .place .node) nb))) t,
       in-other z (type T m) refl W' (eqb-false (type T m) forkType leaf) nb,
     ))
+
+pub ashore-touching : {T W : List ℕ} {p m l D : ℕ} → Ashore T W p m l D → Touching W p m
+ashore-touching z =
+    let b = z .bank in
+    let acc = b .place .accepted in
+    record {
+      first = omega (arith, z .wired .each, b .water .node);
+      second = omega (arith, z .wired .each, b .place .node);
+      few = omega (arith, z .wired .each, acc .sized .few, acc .sized .whole);
+      falling = z .wired .falling;
+    }
 
 -- fork m, of whose two sons at the near edge the first k have been gone through
 abbrev pub NearMet : List ℕ → List ℕ → ℕ → ℕ → ℕ → ℕ → ℕ → List ℕ → Type 0
@@ -169,7 +180,7 @@ module _ {T W : List ℕ} {p m l D : ℕ} (fk : isFork T m ≡ true) where
     near-bank z = rw (is, ef, eh) (bank-near z fk k k2)
 
     pub near-ashore : Ashore T W p m l D → Ashore T W' p c half D
-    near-ashore h = record { n = h .n; bank = near-bank (h .bank); wired = met (h .n) (h .bank) (h .wired) .0 .wired }
+    near-ashore h = record { n = h .n; root = h .root; bank = near-bank (h .bank); wired = met (h .n) (h .bank) (h .wired) .0 .wired }
 
     pub near-more : (W'' : List ℕ) → Reached T W' W'' p c half D → NearMet T W p m l D (k + 1) W''
     near-more W'' r n z w =
@@ -228,7 +239,7 @@ module _ {T W : List ℕ} {p m l D : ℕ} (z : Along T W p m l D) where
         g k f (h .full fk ∙ sym (b .level)))
 
     pub along-ashore : Ashore T W p m l D
-    along-ashore = fork-found (λ k f e. record { n = z .n; bank = rw e at (bank (z .beside) f); wired = z .wired })
+    along-ashore = fork-found (λ k f e. record { n = z .n; root = z .root; bank = rw e at (bank (z .beside) f); wired = z .wired })
 
     pub along-fork : (W' : List ℕ) → Reached T W W' p m l D → Further (z .n) T W W' × Met (z .n) T W' p D
     along-fork W' r = fork-found (λ k f e. met-at k f W' (rw e r))
@@ -245,15 +256,15 @@ module _ {T W : List ℕ} {p m l D : ℕ} (z : Along T W p m l D) where
         (λ k f. met-at k f W' (reached-black kind is W W' b j))
 
   -- what a pixel touches
-  pub pixel-met : l ≡ 0 → isFork T 0 ≡ true → (W' : List ℕ) → Touched W W' p m → Further (z .n) T W W' × Met (z .n) T W' p D
-  pixel-met low root W' t =
+  pub pixel-met : l ≡ 0 → (W' : List ℕ) → Touched W W' p m → Further (z .n) T W W' × Met (z .n) T W' p D
+  pixel-met low W' t =
       by-found
       (λ e f. (
         further-touched (z .n) T W W' p m (z .wired)
             (λ both. absurd (both .1 (z .wired .dry m along-node (λ b. z .off .dry (ap (type T) (sym e) ∙ b))))) t,
         none-met (z .n) T W' D (z .beside) f,
       ))
-      (λ k f. met-at k f W' (reached-touched W W' root leaf t))
+      (λ k f. met-at k f W' (reached-touched W W' (z .root) leaf t))
     where
       leaf : isFork T m ≡ false
       leaf =

@@ -146,6 +146,7 @@ module _ {T W : List ℕ} {p l e s : ℕ} where
           n = z .n;
           x = z .x;
           off = z .off;
+          root = z .root;
           beside = beside z D way;
           is = next-beside z D way m em g eg;
           wired = w;
@@ -175,9 +176,9 @@ module _ {T W : List ℕ} {p l e s : ℕ} where
             same-or-not kind black
             (λ b.
             let i = along b y 1 (omega arith, omega arith) e (y .east) e' east W' (first y .0 .wired) in
-            let a = pixel-met i low (y .root) W₁ t in
+            let a = pixel-met i low W₁ t in
             let j = along b y 2 (omega arith, omega arith) s (y .south) s' south W₁ (a .0 .wired) in
-            both-sides (y .n) T W' W₁ W₂ c a (pixel-met j low (y .root) W₂ u))
+            both-sides (y .n) T W' W₁ W₂ c a (pixel-met j low W₂ u))
             (λ nb.
             let dry : type T c ≡ black → ⊥ = λ b. nb (ek ∙ b) in
             let a = pixel-dry (y .n) T W' W₁ c e' (first y .0 .wired) (next-at y .node) dry t in

@@ -138,9 +138,10 @@ pub record Bank (n : ℕ) (T : List ℕ) (p m l D : ℕ) : Type 0 where
   pub shares : Shares n T p m
   pub flush : isFork T m ≡ true → Flush n T p m D
 
--- the same on a sheet of some level, whose words are wired
+-- the same on a sheet of some level, whose words are wired and whose root is no leaf
 pub record Ashore (T W : List ℕ) (p m l D : ℕ) : Type 0 where
   pub n : ℕ
+  pub root : isFork T 0 ≡ true
   pub bank : Bank n T p m l D
   pub wired : Wired n T W
 
@@ -167,6 +168,7 @@ pub record Along (T W : List ℕ) (p m l D : ℕ) : Type 0 where
   pub n : ℕ
   pub x : ℕ
   pub off : Dry T x
+  pub root : isFork T 0 ≡ true
   pub beside : Beside n T p l D
   pub is : m ≡ numberOf x (neighbourFound n T p D)
   pub wired : Wired n T W

@@ -71,45 +71,6 @@ fn join(words: &mut [u32], p: u32, q: u32)
     words[high as usize] = low;
 }
 
-// Joins p and the black leaves along one of its sides, E or S, under a fork: its two sons at the edge that faces p are gone through, the NW one and the one at
-// the edge's other end. What lies behind them does not touch p.
-fn shore(table: &[u32], words: &mut [u32], p: usize, node: usize, level: u32, side: usize)
-    requires { ⌜ Ashore (now table) (now words) p node level side × (isFork (now table) node ≡ true) ⌝ }
-    ensures { λ _. ⌜ Reached (now (table .entry)) (now (words .entry)) (now (words .exit)) p node level side ⌝ }
-{
-    let half = level - 1;
-    let far = 3 - side;
-    let mut k = 0;
-    while k < 2 {
-        let son = word_at(table, node, 1 + k * far);
-        let kind = word_at(table, son, 5);
-        k += 1;
-        if kind == quad::FORK {
-            shore(&*table, words, p, son, half, side);
-        } else {
-            if kind == quad::BLACK {
-                join(words, p as u32, son as u32);
-            }
-        }
-    }
-}
-
-// Joins p and the black leaves beyond one side of it, where its neighbour there is `node`: a leaf, or a fork of p's level.
-fn across(table: &[u32], words: &mut [u32], p: usize, node: usize, level: u32, side: usize)
-    requires { ⌜ Along (now table) (now words) p node level side ⌝ }
-    ensures { λ _. ⌜ MetAlong (now (table .entry)) (now (words .entry)) (now (words .exit)) p node level side ⌝ }
-{
-    let kind = word_at(table, node, 5);
-    if kind == quad::FORK {
-        shore(&*table, words, p, node, level, side);
-        return;
-    }
-    if kind != quad::BLACK {
-        return;
-    }
-    join(words, p as u32, node as u32);
-}
-
 // The word that q is to have, where p's is a and its own is b: p's where both are black, and else its own. Only a black leaf's word is not 0.
 fn shared(a: u32, b: u32) -> u32
     ensures { λ r. ⌜ r ≡ sharedOf a b ⌝ }
@@ -149,6 +110,43 @@ fn touch(words: &mut [u32], p: usize, q: usize)
     if next != word {
         join(words, p as u32, q as u32);
     }
+}
+
+// Joins p and the black leaves along one of its sides, E or S, under a fork: its two sons at the edge that faces p are gone through, the NW one and the one at
+// the edge's other end. What lies behind them does not touch p.
+fn shore(table: &[u32], words: &mut [u32], p: usize, node: usize, level: u32, side: usize)
+    requires { ⌜ Ashore (now table) (now words) p node level side × (isFork (now table) node ≡ true) ⌝ }
+    ensures { λ _. ⌜ Reached (now (table .entry)) (now (words .entry)) (now (words .exit)) p node level side ⌝ }
+{
+    let half = level - 1;
+    let far = 3 - side;
+    let mut k = 0;
+    while k < 2 {
+        let son = word_at(table, node, 1 + k * far);
+        let kind = word_at(table, son, 5);
+        k += 1;
+        if kind == quad::FORK {
+            shore(&*table, words, p, son, half, side);
+        } else {
+            touch(words, p, son);
+        }
+    }
+}
+
+// Joins p and the black leaves beyond one side of it, where its neighbour there is `node`: a leaf, or a fork of p's level.
+fn across(table: &[u32], words: &mut [u32], p: usize, node: usize, level: u32, side: usize)
+    requires { ⌜ Along (now table) (now words) p node level side ⌝ }
+    ensures { λ _. ⌜ MetAlong (now (table .entry)) (now (words .entry)) (now (words .exit)) p node level side ⌝ }
+{
+    let kind = word_at(table, node, 5);
+    if kind == quad::FORK {
+        shore(&*table, words, p, node, level, side);
+        return;
+    }
+    if kind != quad::BLACK {
+        return;
+    }
+    join(words, p as u32, node as u32);
 }
 
 // 1 for a fork's type, else 0.
