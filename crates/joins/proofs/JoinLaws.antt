@@ -7,7 +7,7 @@ use lib.ListN.{length, set}
 use Rattle.joins.specs.Led.{wordOf}
 use Rattle.joins.specs.Joining.{leaderOf, Falling, Kept, Joined}
 use Rattle.joins.proofs.LeaderLaws.{leader-own, leader-on, leader-low, leader-ends}
-use Rattle.joins.proofs.LeaderLaws.{changed, halved, kept-all, kept-on, kept-falling, joined-under, joined-back}
+use Rattle.joins.proofs.LeaderLaws.{changed, halved, kept-all, kept-on, kept-falling, chain-leader, joined-under, joined-back}
 
 -- on the way from p the words have become W, and the way has come to q
 pub record OnWay (W₀ W : List ℕ) (p q : ℕ) : Type 0 where
@@ -82,13 +82,17 @@ module _ (W₀ W₁ W₂ : List ℕ) (p q a b : ℕ) (low : Falling W₀) (lp : 
   }
 
   pub first-under : b ≤ a → Joined W₀ (set W₂ a b) p q
-  first-under le = from-start (set W₂ a b) (joined-under W₂ (set W₂ a b) a b falling own-a own-b le (changed W₂ a b first-within) p q from-p from-q)
+  first-under le =
+      from-start (set W₂ a b)
+      (joined-under W₂ (set W₂ a b) a b falling own-a le (changed W₂ a b first-within) p q from-p (from-q ∙ sym (leader-own W₂ b own-b))
+      (λ n T l w. rw from-q at (chain-leader n T W₂ l q w)))
 
   pub second-under : a < b → Joined W₀ (set W₂ b a) p q
   second-under lt =
       from-start (set W₂ b a)
       (joined-back W₂ (set W₂ b a) p q
-      (joined-under W₂ (set W₂ b a) b a falling own-b own-a (omega arith) (changed W₂ b a second-within) q p from-q from-p))
+      (joined-under W₂ (set W₂ b a) b a falling own-b (omega arith) (changed W₂ b a second-within) q p from-q (from-p ∙ sym (leader-own W₂ a own-a))
+      (λ n T l w. rw from-p at (chain-leader n T W₂ l p w))))
 
 -- words that are one
 pub joined-already : (W : List ℕ) (p q : ℕ) → Falling W → wordOf W p ≡ wordOf W q → Joined W W p q

@@ -13,7 +13,6 @@ use lib.ListN.{length, set, length-set}
 use lib.Seq.{getD-set-same, getD-set-other}
 use borrow.Author.Tests.{eqb-true, eqb-false, eq-eqb, ne-eqb}
 use Rattle.base.proofs.BoolLaws.{by-bool, lt-or-ge}
-use Rattle.base.proofs.CaseLaws.{cond-same}
 use Rattle.joins.specs.Chain.{Water, Chain, end}
 use Rattle.joins.specs.Led.{wordOf}
 use Rattle.joins.specs.Joining.{onward, leaderOf, Falling, Linked, Kept, Joined}
@@ -167,51 +166,54 @@ chain-leader n T W l i w = go i i w
     go zero i w = end w
     go (suc k) i w = chain-joined n T i (wordOf W i) (onward W k (wordOf W i)) (l i w) (go k (wordOf W i) (chain-end n T i (wordOf W i) (l i w)))
 
--- a leader goes under a lower one
-module _ (W W' : List ℕ) (a b : ℕ) (low : Falling W) (ea : wordOf W a ≡ a) (eb : wordOf W b ≡ b) (le : b ≤ a) (c : Changed W W' a b) where
+-- leader a goes under v, which is not above it
+module _ (W W' : List ℕ) (a v : ℕ) (low : Falling W) (ea : wordOf W a ≡ a) (le : v ≤ a) (c : Changed W W' a v) where
   under : ℕ → ℕ
-  under i = cond (eqb i a) b i
+  under i = cond (eqb i a) (leaderOf W v) i
 
-  under-b : under b ≡ b
-  unfolding under
-  under-b = cond-same (eqb b a) b
-
-  under-a : under a ≡ b
+  under-a : under a ≡ leaderOf W v
   unfolding under
   under-a = rw (eq-eqb a a refl)
 
+  still : (i : ℕ) → (i ≡ a → ⊥) → under i ≡ i
+  unfolding under
+  still i ne = rw (ne-eqb i a ne)
+
+  under-v : under (leaderOf W v) ≡ leaderOf W v
+  under-v = same-or-not (leaderOf W v) a (λ e. ap under e ∙ under-a) (still (leaderOf W v))
+
   lower : (i : ℕ) → wordOf W' i ≤ wordOf W i
-  lower = changed-less W W' a b c (omega (arith, ea))
+  lower = changed-less W W' a v c (omega (arith, ea))
 
   leader-under : (i : ℕ) → leaderOf W' i ≡ under (leaderOf W i)
   leader-under =
       leader-is W' (λ i. omega (arith, lower i, low i)) (λ i. under (leaderOf W i))
       (λ i.
       same-or-not i a
-      (λ e. rw (e, c .here, leader-own W b eb, leader-own W a ea) (under-b ∙ sym under-a))
+      (λ e. rw (e, c .here, leader-own W a ea) (under-v ∙ sym under-a))
       (λ ne. rw (c .others i ne, leader-on W low i)))
       (λ i own.
       same-or-not i a
-      (λ e. rw (e, leader-own W a ea, under-a) (sym (c .here) ∙ rw e at own))
+      (λ e.
+      let va : v ≡ a = sym (c .here) ∙ rw e at own in
+      rw (e, leader-own W a ea) (under-a ∙ ap (leaderOf W) va ∙ leader-own W a ea))
       (λ ne.
       let o : wordOf W i ≡ i = sym (c .others i ne) ∙ own in
       rw (leader-own W i o) (still i ne)))
-    where
-      still : (i : ℕ) → (i ≡ a → ⊥) → under i ≡ i
-      still i ne = unfold under in rw (ne-eqb i a ne)
 
-  pub joined-under : (p q : ℕ) → leaderOf W p ≡ a → leaderOf W q ≡ b → Joined W W' p q
-  joined-under p q ep eq = record {
+  -- p is led by a, and a chain joins q and v
+  pub joined-under : (p q : ℕ) → leaderOf W p ≡ a → leaderOf W q ≡ leaderOf W v → ((n : ℕ) (T : List ℕ) → Linked n T W → Water T q → Chain n T q v)
+      → Joined W W' p q
+  joined-under p q ep eq g = record {
     long = c .long;
     less = lower;
     together = λ i j e. leader-under i ∙ ap under e ∙ sym (leader-under j);
-    one = leader-under p ∙ ap under ep ∙ under-a ∙ sym (leader-under q ∙ ap under eq ∙ under-b);
+    one = leader-under p ∙ ap under ep ∙ under-a ∙ sym (leader-under q ∙ ap under eq ∙ under-v);
     linked = λ n T d l.
-        changed-linked W W' a b c n T
+        changed-linked W W' a v c n T
         (λ w.
         let f : Chain n T p a = rw ep at (chain-leader n T W l p (chain-start n T p q d)) in
-        let g : Chain n T q b = rw eq at (chain-leader n T W l q (chain-end n T p q d)) in
-        chain-joined n T a p b (chain-back n T p a f) (chain-joined n T p q b d g))
+        chain-joined n T a p v (chain-back n T p a f) (chain-joined n T p q v d (g n T l (chain-end n T p q d))))
         l;
   }
 

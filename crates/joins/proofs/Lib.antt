@@ -1,9 +1,12 @@
 pub mod ChainLaws
 pub mod LeaderLaws
 pub mod JoinLaws
+pub mod TouchLaws
 pub mod SettleLaws
 pub mod BankLaws
 pub mod BeyondLaws
 pub mod MeetLaws
 pub mod UnderLaws
+pub mod PixelLaws
+pub mod OutsideLaws
 pub mod LedLaws

@@ -1,25 +1,32 @@
 -- A black leaf meets those beyond its sides E and S: what going down along a side and a look beyond it leave, in the code's own values. What has been met stays
 -- so while more is joined.
-use mathlib.Core.Bool.{true, false}
+use mathlib.Core.Bool.{true, false, false≢true}
 use mathlib.Core.List.{List}
 use mathlib.Core.Logic.{⊎-elim}
-use mathlib.Core.Path.{_≡_, ap, sym, _∙_}
+use mathlib.Core.Path.{_≡_, refl, ap, sym, _∙_}
 use Prim.Native.Nat.{ℕ, zero, suc, _+_, _-_, _*_, _≤_, _<_}
 use native.Mathlib.Nat.{zero-mul, one-mul, not-suc-le-zero}
 use native.Mathlib.Omega.{arith}
-use borrow.Author.Tests.{ne-eqb}
+use borrow.Author.Tests.{eqb-true, eqb-false, ne-eqb}
+use Rattle.base.proofs.BoolLaws.{by-bool}
 use Rattle.quad.specs.Direction.{eastStep, southStep}
 use Rattle.quad.specs.Numbers.{black, forkType}
-use Rattle.table.specs.Table.{word, son, type, isFork}
-use Rattle.table.proofs.AcceptedLaws.{son-at}
+use Rattle.table.specs.Table.{nodes, word, son, type, isFork}
+use Rattle.table.proofs.AcceptedLaws.{son-at, fork-above}
 use Rattle.neighbour.specs.declared.Found.{Found}
 use Rattle.neighbour.specs.declared.Found.the-variants.{At, Off}
+use Rattle.neighbour.specs.Neighbour.{neighbourFound}
+use Rattle.neighbour.specs.Surround.{numberOf}
 use Rattle.neighbour.specs.Containing.{Contains, Touches}
+use Rattle.neighbour.proofs.FoundLaws.{found-facts}
 use Rattle.neighbour.proofs.SideLaws.{leaf-holds}
 use Rattle.neighbour.specs.SonBeside.{Forward}
-use Rattle.joins.specs.Chain.{Water, end, link}
-use Rattle.joins.specs.Joining.{leaderOf, Together, Joined, Wired, Further, Flush, Bank, MetIn, Ashore, Reached, Met, MetSides, Along, MetAlong}
+use Rattle.joins.specs.Chain.{Water, Chain, end, link}
+use Rattle.joins.specs.Led.{wordOf}
+use Rattle.joins.specs.Joining.{leaderOf, Together, Joined, Wired, Further, Flush, Bank, MetIn, Ashore, Reached, Met, MetSides, Beside, Along, Both, Touching, Touched}
+use Rattle.joins.proofs.ChainLaws.{chain-end}
 use Rattle.joins.proofs.LeaderLaws.{same-or-not, last-or-before}
+use Rattle.joins.proofs.TouchLaws.{joined-touched}
 use Rattle.joins.proofs.BankLaws.{Side, east, south, side-of, pixel-lies, next-lies, lies-next, flush-shares, flush-first, flush-second, near}
 use Rattle.joins.proofs.BeyondLaws.{water-leaf, bank, beyond-in, beyond-on}
 
@@ -111,6 +118,48 @@ module _ {T : List ℕ} {p m l D : ℕ} (kind : ℕ) (is : kind ≡ type T m) wh
   pub reached-black : (W W' : List ℕ) → kind ≡ black → Joined W W' p m → Reached T W W' p m l D
   reached-black W W' b j n z w = (further-black z kind is b W W' w j, in-black z kind is b W W' j)
 
+-- a black leaf's word is not 0, where node 0 is a fork
+word-there : (n : ℕ) (T W : List ℕ) (i : ℕ) → isFork T 0 ≡ true → Wired n T W → Water T i → wordOf W i ≡ 0 → ⊥
+word-there n T W i root w v e =
+    let first : Water T 0 = rw e at (chain-end n T i (wordOf W i) (w .linked i v)) in
+    omega (arith, first .wet, eqb-true (type T 0) forkType root)
+
+-- p and q joined if both are black
+further-touched : (n : ℕ) (T W W' : List ℕ) (p q : ℕ) → Wired n T W → (Both W p q → Chain n T p q) → Touched W W' p q → Further n T W W'
+further-touched n T W W' p q w d t = record {
+  wired = record {
+    each = t .long ∙ w .each;
+    falling = λ i. omega (arith, t .less i, w .falling i);
+    dry = λ i lt ne. omega (arith, t .less i, w .dry i lt ne);
+    linked = t .linked n T d (w .linked);
+  };
+  together = t .together;
+}
+
+pub reached-touched : {T : List ℕ} {p m l D : ℕ} (W W' : List ℕ) → isFork T 0 ≡ true → isFork T m ≡ false → Touched W W' p m → Reached T W W' p m l D
+reached-touched {T} {p} {m} W W' root leaf t n z w =
+    same-or-not (type T m) black
+    (λ b.
+    let v : Water T m = record { node = z .place .node; wet = b } in
+    reached-black (type T m) refl W W' b
+    (joined-touched W W' p m (word-there n T W p root w (z .water), word-there n T W m root w v) t)
+    n z w)
+    (λ nb. (
+      further-touched n T W W' p m w (λ both. absurd (both .1 (w .dry m (z .place .node) nb))) t,
+      in-other z (type T m) refl W' (eqb-false (type T m) forkType leaf) nb,
+    ))
+
+pub ashore-touching : {T W : List ℕ} {p m l D : ℕ} → Ashore T W p m l D → Touching W p m
+ashore-touching z =
+    let b = z .bank in
+    let acc = b .place .accepted in
+    record {
+      first = omega (arith, z .wired .each, b .water .node);
+      second = omega (arith, z .wired .each, b .place .node);
+      few = omega (arith, z .wired .each, acc .sized .few, acc .sized .whole);
+      falling = z .wired .falling;
+    }
+
 -- fork m, of whose two sons at the near edge the first k have been gone through
 abbrev pub NearMet : List ℕ → List ℕ → ℕ → ℕ → ℕ → ℕ → ℕ → List ℕ → Type 0
 NearMet T W p m l D k W' = (n : ℕ) → Bank n T p m l D → Wired n T W → Further n T W W' × ((i : ℕ) → i < k → MetIn n T W' p (son T m (i * (3 - D))) D)
@@ -131,7 +180,7 @@ module _ {T W : List ℕ} {p m l D : ℕ} (fk : isFork T m ≡ true) where
     near-bank z = rw (is, ef, eh) (bank-near z fk k k2)
 
     pub near-ashore : Ashore T W p m l D → Ashore T W' p c half D
-    near-ashore h = record { n = h .n; bank = near-bank (h .bank); wired = met (h .n) (h .bank) (h .wired) .0 .wired }
+    near-ashore h = record { n = h .n; root = h .root; bank = near-bank (h .bank); wired = met (h .n) (h .bank) (h .wired) .0 .wired }
 
     pub near-more : (W'' : List ℕ) → Reached T W' W'' p c half D → NearMet T W p m l D (k + 1) W''
     near-more W'' r n z w =
@@ -151,24 +200,82 @@ module _ {T W : List ℕ} {p m l D : ℕ} (fk : isFork T m ≡ true) where
       let second : MetIn n T W' p (son T m (3 - D)) D = rw (one-mul (3 - D)) at (a .1 1 (omega arith)) in
       (a .0, in-fork z fk W' first second)
 
--- beyond side D of the black leaf p, whose neighbour there is `found`; p itself has its own leader
-module _ {T W : List ℕ} {p : ℕ} {found : Found} {D : ℕ} where
-  pub along-off : found ≡ Off → MetAlong T W W p found D
-  unfolding Met
-  along-off f z = (
-    further-none (z .n) T W (z .wired),
-    λ q x y v t. same-or-not p q (λ s. ap (leaderOf W) s) (λ ne. absurd (beyond-on (z .beside) v ne t (sym (z .is) ∙ f))),
-  )
+-- nothing is found beyond side D of the black leaf p, which has its own leader
+pub none-met : (n : ℕ) (T W : List ℕ) (D : ℕ) {p l : ℕ} → Beside n T p l D → neighbourFound n T p D ≡ Off → Met n T W p D
+unfolding Met
+none-met n T W D {p} b f q x y v t = same-or-not p q (λ s. ap (leaderOf W) s) (λ ne. absurd (beyond-on b v ne t f))
 
-  module _ (m k : ℕ) (f : found ≡ At m k) where
-    pub along-ashore : Along T W p found D → Ashore T W p m k D
-    along-ashore z = record { n = z .n; bank = bank (z .beside) (sym (z .is) ∙ f); wired = z .wired }
+-- beyond side D of the black leaf p, whose neighbour there is m; p itself has its own leader
+module _ {T W : List ℕ} {p m l D : ℕ} (z : Along T W p m l D) where
+  -- nothing was found, or m was
+  by-found : {A : Type 0} → (m ≡ z .x → neighbourFound (z .n) T p D ≡ Off → A) → ((k : ℕ) → neighbourFound (z .n) T p D ≡ At m k → A) → A
+  by-found {A} f g = go (neighbourFound (z .n) T p D) refl
+    where
+      go : (h : Found) → neighbourFound (z .n) T p D ≡ h → A
+      go Off e = f (z .is ∙ unfold numberOf in rw e) e
+      go (At i k) e =
+          let s : m ≡ i = z .is ∙ unfold numberOf in rw e in
+          g k (rw s e)
 
-    pub along-met : (W' : List ℕ) → Reached T W W' p m k D → MetAlong T W W' p found D
-    unfolding Met MetIn
-    along-met W' r z =
-        let a = r (z .n) (bank (z .beside) (sym (z .is) ∙ f)) (z .wired) in
-        (a .0, λ q x y v t. same-or-not p q (λ s. ap (leaderOf W') s) (λ ne. a .1 q x y v t (beyond-in (z .beside) v ne t (sym (z .is) ∙ f))))
+  met-at : (k : ℕ) → neighbourFound (z .n) T p D ≡ At m k → (W' : List ℕ) → Reached T W W' p m k D → Further (z .n) T W W' × Met (z .n) T W' p D
+  unfolding Met MetIn
+  met-at k f W' r =
+      let a = r (z .n) (bank (z .beside) f) (z .wired) in
+      (a .0, λ q x y v t. same-or-not p q (λ s. ap (leaderOf W') s) (λ ne. a .1 q x y v t (beyond-in (z .beside) v ne t f)))
+
+  pub along-node : m < nodes T
+  along-node =
+      by-found (λ e _. rw e (z .off .node)) (λ k f. bank (z .beside) f .place .node)
+
+  -- a fork
+  module _ (fk : isFork T m ≡ true) where
+    fork-found : {A : Type 0} → ((k : ℕ) → neighbourFound (z .n) T p D ≡ At m k → k ≡ l → A) → A
+    fork-found g =
+        by-found
+        (λ e _. absurd (false≢true (sym (z .off .leaf) ∙ ap (isFork T) (sym e) ∙ fk)))
+        (λ k f.
+        let b = z .beside in
+        let h = found-facts (z .n) T (b .accepted) p D (b .water .node) (omega (arith, b .way .1)) m k f in
+        g k f (h .full fk ∙ sym (b .level)))
+
+    pub along-ashore : Ashore T W p m l D
+    along-ashore = fork-found (λ k f e. record { n = z .n; root = z .root; bank = rw e at (bank (z .beside) f); wired = z .wired })
+
+    pub along-fork : (W' : List ℕ) → Reached T W W' p m l D → Further (z .n) T W W' × Met (z .n) T W' p D
+    along-fork W' r = fork-found (λ k f e. met-at k f W' (rw e r))
+
+  -- a leaf
+  module _ (kind : ℕ) (is : kind ≡ type T m) where
+    pub along-other : (kind ≡ forkType → ⊥) → (kind ≡ black → ⊥) → Further (z .n) T W W × Met (z .n) T W p D
+    along-other nf nb = by-found (λ _ f. (further-none (z .n) T W (z .wired), none-met (z .n) T W D (z .beside) f)) (λ k f. met-at k f W (reached-other kind is W nf nb))
+
+    pub along-black : (W' : List ℕ) → kind ≡ black → Joined W W' p m → Further (z .n) T W W' × Met (z .n) T W' p D
+    along-black W' b j =
+        by-found
+        (λ e _. absurd (z .off .dry (ap (type T) (sym e) ∙ sym is ∙ b)))
+        (λ k f. met-at k f W' (reached-black kind is W W' b j))
+
+  -- what a pixel touches
+  pub pixel-met : l ≡ 0 → (W' : List ℕ) → Touched W W' p m → Further (z .n) T W W' × Met (z .n) T W' p D
+  pixel-met low W' t =
+      by-found
+      (λ e f. (
+        further-touched (z .n) T W W' p m (z .wired)
+            (λ both. absurd (both .1 (z .wired .dry m along-node (λ b. z .off .dry (ap (type T) (sym e) ∙ b))))) t,
+        none-met (z .n) T W' D (z .beside) f,
+      ))
+      (λ k f. met-at k f W' (reached-touched W W' (z .root) leaf t))
+    where
+      leaf : isFork T m ≡ false
+      leaf =
+          ⊎-elim
+          (λ (fk : isFork T m ≡ true). absurd (let a = along-ashore fk in omega (arith, low, fork-above (a .bank .place) fk)))
+          (λ (f : isFork T m ≡ false). f)
+          (by-bool (isFork T m))
+
+-- a pixel that is not black
+pub pixel-dry : (n : ℕ) (T W W' : List ℕ) (p m : ℕ) → Wired n T W → p < nodes T → (type T p ≡ black → ⊥) → Touched W W' p m → Further n T W W'
+pixel-dry n T W W' p m w lt nb t = further-touched n T W W' p m w (λ both. absurd (both .0 (w .dry p lt nb))) t
 
 -- a node that is no black leaf has no side to look beyond
 pub sides-dry : (n : ℕ) (T W : List ℕ) (p kind : ℕ) → kind ≡ type T p → (kind ≡ black → ⊥) → MetSides n T W p

@@ -1,21 +1,21 @@
 -- The words while leaves are joined: from each node they lead down to a leader, which is its own word. Inner definitions: no outside call's statement
 -- cites them.
-use mathlib.Core.Bool.{true, cond}
+use mathlib.Core.Bool.{true, false, cond}
 use mathlib.Core.List.{List}
 use mathlib.Core.Path.{_≡_}
-use Prim.Native.Nat.{ℕ, zero, suc, _+_, _-_, _≤_, _<_}
-use lib.Dec.{eqb}
+use Prim.Native.Nat.{ℕ, zero, suc, _+_, _-_, _/_, _%_, _≤_, _<_}
+use lib.Dec.{eqb, ltb}
 use lib.ListN.{length}
-use Rattle.quad.specs.Numbers.{black}
+use Rattle.quad.specs.Numbers.{black, maxWords}
 use Rattle.quad.specs.Direction.{eastStep, southStep}
-use Rattle.table.specs.Table.{nodes, type, isFork}
+use Rattle.table.specs.Table.{nodes, son, type, isFork}
 use Rattle.table.specs.Under.{Under}
 use Rattle.table.specs.Rules.{Accepted, AtLevel}
 use Rattle.table.specs.Nodes.{levelOf, sideOf, leftOf, topOf}
-use Rattle.neighbour.specs.declared.Found.{Found}
 use Rattle.neighbour.specs.Neighbour.{neighbourFound}
 use Rattle.neighbour.specs.Containing.{Contains, Touches}
 use Rattle.neighbour.specs.SonBeside.{Forward}
+use Rattle.neighbour.specs.Surround.{numberOf, partOf}
 use Rattle.joins.specs.Chain.{Water, Shares, Chain}
 use Rattle.joins.specs.Led.{wordOf}
 
@@ -53,6 +53,33 @@ pub record Joined (W W' : List ℕ) (p q : ℕ) : Type 0 where
   pub together : Together W W'
   pub one : leaderOf W' p ≡ leaderOf W' q
   pub linked : (n : ℕ) (T : List ℕ) → Chain n T p q → Linked n T W → Linked n T W'
+
+-- the word that q is to have where p's is a and its own is b: p's where neither is 0
+unfoldable pub sharedOf : ℕ → ℕ → ℕ
+sharedOf a b = cond (eqb a 0) b (cond (eqb b 0) b a)
+
+-- 1 where q, whose word is b, leads itself and has a higher number than p, else 0
+unfoldable pub freeOf : ℕ → ℕ → ℕ → ℕ
+freeOf b p q = cond (eqb b q) (cond (ltb p q) 1 0) 0
+
+-- what joining p and q where both are black asks of its caller
+pub record Touching (W : List ℕ) (p q : ℕ) : Type 0 where
+  pub first : p < length W
+  pub second : q < length W
+  pub few : length W ≤ maxWords
+  pub falling : Falling W
+
+-- neither's word is 0
+abbrev pub Both : List ℕ → ℕ → ℕ → Type 0
+Both W p q = (wordOf W p ≡ 0 → ⊥) × (wordOf W q ≡ 0 → ⊥)
+
+-- W' is W with p and q joined if neither's word is 0
+pub record Touched (W W' : List ℕ) (p q : ℕ) : Type 0 where
+  pub long : length W' ≡ length W
+  pub less : (i : ℕ) → wordOf W' i ≤ wordOf W i
+  pub together : Together W W'
+  pub one : Both W p q → leaderOf W' p ≡ leaderOf W' q
+  pub linked : (n : ℕ) (T : List ℕ) → (Both W p q → Chain n T p q) → Linked n T W → Linked n T W'
 
 -- each word of W' is its node's leader in W
 pub record Settled (W W' : List ℕ) : Type 0 where
@@ -111,9 +138,10 @@ pub record Bank (n : ℕ) (T : List ℕ) (p m l D : ℕ) : Type 0 where
   pub shares : Shares n T p m
   pub flush : isFork T m ≡ true → Flush n T p m D
 
--- the same on a sheet of some level, whose words are wired
+-- the same on a sheet of some level, whose words are wired and whose root is no leaf
 pub record Ashore (T W : List ℕ) (p m l D : ℕ) : Type 0 where
   pub n : ℕ
+  pub root : isFork T 0 ≡ true
   pub bank : Bank n T p m l D
   pub wired : Wired n T W
 
@@ -129,15 +157,24 @@ Reached T W W' p m l D = (n : ℕ) → Bank n T p m l D → Wired n T W → Furt
 unfoldable pub Met : ℕ → List ℕ → List ℕ → ℕ → ℕ → Type 0
 Met n T W p D = (q x y : ℕ) → Water T q → Touches n T p q D x y → leaderOf W p ≡ leaderOf W q
 
--- what it asks where the neighbour is known, and what it leaves
-pub record Along (T W : List ℕ) (p : ℕ) (found : Found) (D : ℕ) : Type 0 where
+-- a leaf that is not black, which may stand for what is off the sheet
+pub record Dry (T : List ℕ) (x : ℕ) : Type 0 where
+  pub node : x < nodes T
+  pub leaf : isFork T x ≡ false
+  pub dry : type T x ≡ black → ⊥
+
+-- what it asks where the neighbour is known to be m, with x for what is off the sheet, and what it leaves
+pub record Along (T W : List ℕ) (p m l D : ℕ) : Type 0 where
   pub n : ℕ
-  pub beside : Beside n T p (levelOf n T p) D
-  pub is : found ≡ neighbourFound n T p D
+  pub x : ℕ
+  pub off : Dry T x
+  pub root : isFork T 0 ≡ true
+  pub beside : Beside n T p l D
+  pub is : m ≡ numberOf x (neighbourFound n T p D)
   pub wired : Wired n T W
 
-abbrev pub MetAlong : List ℕ → List ℕ → List ℕ → ℕ → Found → ℕ → Type 0
-MetAlong T W W' p found D = (z : Along T W p found D) → Further (z .n) T W W' × Met (z .n) T W' p D
+abbrev pub MetAlong : List ℕ → List ℕ → List ℕ → ℕ → ℕ → ℕ → ℕ → Type 0
+MetAlong T W W' p m l D = (z : Along T W p m l D) → Further (z .n) T W W' × Met (z .n) T W' p D
 
 -- so on both sides, if p is a black leaf
 abbrev pub MetSides : ℕ → List ℕ → List ℕ → ℕ → Type 0
@@ -151,15 +188,22 @@ MetUnder n T W l p = Under T (MetSides n T W) l p
 abbrev pub MetAll : ℕ → List ℕ → List ℕ → Type 0
 MetAll n T W = (i : ℕ) → i < nodes T → MetSides n T W i
 
--- fork p of level l and its neighbours E and S, on a sheet of some level whose words are wired
-pub record Facing (T W : List ℕ) (p l : ℕ) (e s : Found) : Type 0 where
+-- the node on side D of p's son in quadrant q, where p's own there is m: the brother, or the quadrant of m that lies where the brother would
+unfoldable pub besideAt : List ℕ → ℕ → ℕ → ℕ → ℕ → ℕ
+besideAt T p m q D = cond (eqb (q / D % 2) 0) (son T p (q + D)) (partOf T (q - D) m)
+
+-- fork p of level l and its neighbours E and S, x for what is off the sheet, on a sheet of some level whose words are wired and whose root is no leaf
+pub record Facing (T W : List ℕ) (p l e s : ℕ) : Type 0 where
   pub n : ℕ
+  pub x : ℕ
+  pub off : Dry T x
+  pub root : isFork T 0 ≡ true
   pub place : AtLevel n T p l
   pub fork : isFork T p ≡ true
-  pub east : e ≡ neighbourFound n T p 1
-  pub south : s ≡ neighbourFound n T p 2
+  pub east : e ≡ numberOf x (neighbourFound n T p 1)
+  pub south : s ≡ numberOf x (neighbourFound n T p 2)
   pub wired : Wired n T W
 
 -- what is under it has been joined to what lies beyond its sides
-abbrev pub FacingMet : List ℕ → List ℕ → List ℕ → ℕ → ℕ → Found → Found → Type 0
+abbrev pub FacingMet : List ℕ → List ℕ → List ℕ → ℕ → ℕ → ℕ → ℕ → Type 0
 FacingMet T W W' p l e s = (z : Facing T W p l e s) → Further (z .n) T W W' × MetUnder (z .n) T W' l p

@@ -1,18 +1,19 @@
 // Which black leaves are one pond: those that share a length of side are joined, and each one's word becomes its pond's leader. The words themselves are
 // the sets: a leaf's word is a leaf of its set that is not above it, and a leader's is itself.
-use neighbour::Found;
-use neighbour::beside::of_son;
 use table::word_at;
 ghost use mathlib.Core.Bool.{true};
 ghost use mathlib.Core.Path.{_≡_};
 ghost use Prim.Native.Nat.{_<_, _≤_};
+ghost use lib.Dec.{eqb};
 ghost use lib.ListN.{length};
 ghost use Rattle.base.specs.Tab.{tab};
-ghost use Rattle.quad.specs.Numbers.{maxWords};
+ghost use Rattle.quad.specs.Numbers.{forkType, maxWords};
 ghost use Rattle.table.specs.Table.{nodes, isFork};
-ghost use Rattle.table.specs.Rules.{Accepted};
+ghost use Rattle.table.specs.Rules.{one, Accepted};
+ghost use Rattle.neighbour.specs.SonBeside.{Forward};
+ghost use Rattle.neighbour.specs.Surround.{partOf};
 ghost use Rattle.joins.specs.Led.{Led};
-ghost use Rattle.joins.specs.Joining.{leaderOf, ownOf, Falling, Kept, Joined, Settled, Wired, Further, Ashore, Reached, Along, MetAlong, MetUnder, Facing, FacingMet};
+ghost use Rattle.joins.specs.Joining.{leaderOf, ownOf, Falling, Kept, Joined, Settled, Wired, Further, Ashore, Reached, Along, MetAlong, MetUnder, Facing, FacingMet, sharedOf, freeOf, Touching, Touched, besideAt, Dry};
 
 // The word that a node begins with: a black leaf's is itself, the others' are 0.
 fn own(table: &[u32], p: usize) -> u32
@@ -70,6 +71,47 @@ fn join(words: &mut [u32], p: u32, q: u32)
     words[high as usize] = low;
 }
 
+// The word that q is to have, where p's is a and its own is b: p's where both are black, and else its own. Only a black leaf's word is not 0.
+fn shared(a: u32, b: u32) -> u32
+    ensures { λ r. ⌜ r ≡ sharedOf a b ⌝ }
+{
+    if a == 0 {
+        return b;
+    }
+    if b == 0 {
+        return b;
+    }
+    a
+}
+
+// 1 where q, whose word is given, leads itself and has a higher number than p, else 0.
+fn free(word: u32, p: usize, q: usize) -> usize
+    ensures { λ r. ⌜ (r ≡ freeOf word p q) × (r ≤ 1) ⌝ }
+{
+    if word as usize == q {
+        if p < q {
+            return 1;
+        }
+    }
+    0
+}
+
+// Joins p and q where both are black. Mostly q leads itself still and takes p's word, or one of them is white: no test on the map tells these apart.
+fn touch(words: &mut [u32], p: usize, q: usize)
+    requires { ⌜ Touching (now words) p q ⌝ }
+    ensures { λ _. ⌜ Touched (now (words .entry)) (now (words .exit)) p q ⌝ }
+{
+    let own = words[q];
+    let word = shared(words[p], own);
+    let both: [u32; 2] = [own, word];
+    let which = free(own, p, q);
+    let next = both[which];
+    words[q] = next;
+    if next != word {
+        join(words, p as u32, q as u32);
+    }
+}
+
 // Joins p and the black leaves along one of its sides, E or S, under a fork: its two sons at the edge that faces p are gone through, the NW one and the one at
 // the edge's other end. What lies behind them does not touch p.
 fn shore(table: &[u32], words: &mut [u32], p: usize, node: usize, level: u32, side: usize)
@@ -84,26 +126,21 @@ fn shore(table: &[u32], words: &mut [u32], p: usize, node: usize, level: u32, si
         let kind = word_at(table, son, 5);
         k += 1;
         if kind == quad::FORK {
-            shore(table, words, p, son, half, side);
+            shore(&*table, words, p, son, half, side);
         } else {
-            if kind == quad::BLACK {
-                join(words, p as u32, son as u32);
-            }
+            touch(words, p, son);
         }
     }
 }
 
-// Joins p and the black leaves beyond one side of it, where its neighbour there is `found`: a leaf, or a fork of p's size.
-fn across(table: &[u32], words: &mut [u32], p: usize, found: Found, side: usize)
-    requires { ⌜ Along (now table) (now words) p found side ⌝ }
-    ensures { λ _. ⌜ MetAlong (now (table .entry)) (now (words .entry)) (now (words .exit)) p found side ⌝ }
+// Joins p and the black leaves beyond one side of it, where its neighbour there is `node`: a leaf, or a fork of p's level.
+fn across(table: &[u32], words: &mut [u32], p: usize, node: usize, level: u32, side: usize)
+    requires { ⌜ Along (now table) (now words) p node level side ⌝ }
+    ensures { λ _. ⌜ MetAlong (now (table .entry)) (now (words .entry)) (now (words .exit)) p node level side ⌝ }
 {
-    let Found::At { node, level } = found else {
-        return;
-    };
     let kind = word_at(table, node, 5);
     if kind == quad::FORK {
-        shore(table, words, p, node, level, side);
+        shore(&*table, words, p, node, level, side);
         return;
     }
     if kind != quad::BLACK {
@@ -112,9 +149,65 @@ fn across(table: &[u32], words: &mut [u32], p: usize, found: Found, side: usize)
     join(words, p as u32, node as u32);
 }
 
+// 1 for a fork's type, else 0.
+fn fork_one(kind: usize) -> usize
+    ensures { λ r. ⌜ (r ≡ one (eqb kind forkType)) × (r ≤ 1) ⌝ }
+{
+    if kind == quad::FORK {
+        return 1;
+    }
+    0
+}
+
+// A quadrant of a node: a fork's son there, and a leaf itself. Both are at hand, and the type picks one, so that nothing waits for a guess.
+fn quarter(table: &[u32], node: usize, quadrant: usize) -> usize
+    requires { ⌜ (node < nodes (now table)) × (quadrant < 4) ⌝ }
+    ensures { λ r. ⌜ r ≡ partOf (now (table .entry)) quadrant node ⌝ }
+{
+    let son = word_at(table, node, 1 + quadrant);
+    let kind = word_at(table, node, 5);
+    let both: [usize; 2] = [node, son];
+    let which = fork_one(kind);
+    both[which]
+}
+
+// The node E or S of the son that fork p has in a quadrant, where `node` is p's own there: a brother, or a quadrant of p's.
+fn beside(table: &[u32], p: usize, node: usize, quadrant: usize, side: usize) -> usize
+    requires { ⌜ (p < nodes (now table)) × (node < nodes (now table)) × (quadrant < 4) × Forward side ⌝ }
+    ensures { λ r. ⌜ r ≡ besideAt (now (table .entry)) p node quadrant side ⌝ }
+{
+    if quadrant / side % 2 == 0 {
+        return word_at(table, p, 1 + (quadrant + side));
+    }
+    quarter(table, node, quadrant - side)
+}
+
+// What `meet` does, for a fork of four pixels. What lies beside a pixel is a leaf.
+fn pixels(table: &[u32], words: &mut [u32], p: usize, east: usize, south: usize)
+    requires { ⌜ Facing (now table) (now words) p 1 east south ⌝ }
+    ensures { λ _. ⌜ FacingMet (now (table .entry)) (now (words .entry)) (now (words .exit)) p 1 east south ⌝ }
+{
+    let nw = word_at(table, p, 1);
+    let ne = word_at(table, p, 2);
+    let sw = word_at(table, p, 3);
+    let se = word_at(table, p, 4);
+    let ne_east = quarter(table, east, 0);
+    let se_east = quarter(table, east, 2);
+    let sw_south = quarter(table, south, 0);
+    let se_south = quarter(table, south, 1);
+    touch(words, nw, ne);
+    touch(words, nw, sw);
+    touch(words, ne, ne_east);
+    touch(words, ne, se);
+    touch(words, sw, se);
+    touch(words, sw, sw_south);
+    touch(words, se, se_east);
+    touch(words, se, se_south);
+}
+
 // Joins every black leaf under a fork, whose level and neighbours E and S are given, and those beyond its own sides E and S; those beyond N and W meet it from
-// theirs. A son's neighbours come from the fork's.
-fn meet(table: &[u32], words: &mut [u32], p: usize, level: u32, east: Found, south: Found)
+// theirs. A son's neighbours come from the fork's; what is off the sheet is a white leaf.
+fn meet(table: &[u32], words: &mut [u32], p: usize, level: u32, east: usize, south: usize)
     requires { ⌜ Facing (now table) (now words) p level east south ⌝ }
     ensures { λ _. ⌜ FacingMet (now (table .entry)) (now (words .entry)) (now (words .exit)) p level east south ⌝ }
 {
@@ -126,16 +219,36 @@ fn meet(table: &[u32], words: &mut [u32], p: usize, level: u32, east: Found, sou
         let kind = word_at(table, son, 5);
         quadrant += 1;
         if kind == quad::FORK {
-            let e = of_son(table, p, half, east, q, 1);
-            let s = of_son(table, p, half, south, q, 2);
-            meet(table, words, son, half, e, s);
+            let e = beside(table, p, east, q, 1);
+            let s = beside(table, p, south, q, 2);
+            if half == 1 {
+                pixels(table, words, son, e, s);
+            } else {
+                meet(&*table, words, son, half, e, s);
+            }
         } else {
             if kind == quad::BLACK {
-                across(table, words, son, of_son(table, p, half, east, q, 1), 1);
-                across(table, words, son, of_son(table, p, half, south, q, 2), 2);
+                across(table, words, son, beside(table, p, east, q, 1), half, 1);
+                across(table, words, son, beside(table, p, south, q, 2), half, 2);
             }
         }
     }
+}
+
+// The leaf that stands for all that is off the sheet: a white one, which is joined with nothing. Under a fork one is white.
+fn outside(n: u32, table: &[u32]) -> usize
+    requires { ⌜ Accepted n (now table) × (isFork (now table) 0 ≡ true) ⌝ }
+    ensures { λ r. ⌜ Dry (now (table .entry)) r ⌝ }
+{
+    let last = table::node_count(table) - 1;
+    let mut p = 0;
+    while p < last {
+        if word_at(table, p, 5) == 0 {
+            return p;
+        }
+        p += 1;
+    }
+    p
 }
 
 // Joins every black leaf of the sheet and those beyond its sides. Nothing lies beside the root.
@@ -146,7 +259,8 @@ fn meet_all(n: u32, table: &[u32], words: &mut [u32])
     if word_at(table, 0, 5) != quad::FORK {
         return;
     }
-    meet(table, words, 0, n, Found::Off, Found::Off);
+    let off = outside(n, table);
+    meet(table, words, 0, n, off, off);
 }
 
 // In rising node number each word becomes its word's word: that is the leader, since the words before it are leaders already.

@@ -1,17 +1,19 @@
--- Meeting a leaf, by its cases in the code.
-use mathlib.Core.List.{List}
+-- Meeting a leaf: its leader is a node, whose word becomes a number or stays.
+use mathlib.Core.Bool.{true, false}
+use mathlib.Core.List.{List, [], _∷_}
 use mathlib.Core.Logic.{⊎-elim}
-use mathlib.Core.Path.{_≡_, sym, _∙_}
+use mathlib.Core.Path.{_≡_, _∙_}
 use Prim.Native.Nat.{ℕ, _+_, _≤_, _<_}
 use native.Mathlib.Omega.{arith}
-use lib.ListN.{length, set}
+use lib.Dec.{eqb, ltb}
+use lib.ListN.{length, getD, set}
 use lib.Seq.{set-getD}
-use borrow.Author.Tests.{eq-eqb, ne-eqb, lt-ltb, le-ltb}
-use Rattle.base.proofs.BoolLaws.{lt-or-ge}
+use borrow.Author.Tests.{lt-ltb, le-ltb}
+use Rattle.base.proofs.BoolLaws.{by-bool, lt-or-ge}
 use Rattle.quad.specs.Numbers.{black}
 use Rattle.table.specs.Table.{type}
 use Rattle.joins.specs.Led.{wordOf}
-use Rattle.ponds.specs.Counted.{leadOf, metCount, metWords, Met}
+use Rattle.ponds.specs.Counted.{leadOf, metCount, metWords, getsOf, Met}
 
 -- a leader is a node
 pub lead-below : (W : List ℕ) (p l m : ℕ) → l ≡ leadOf W p → p < m → length W ≡ m → l < length W
@@ -22,24 +24,29 @@ lead-below W p l m e lt s =
     (λ (g : length W ≤ wordOf W p). rw (e, le-ltb (wordOf W p) (length W) g) (omega arith))
     (lt-or-ge (wordOf W p) (length W))
 
-module _ (T W : List ℕ) (p kind : ℕ) (is : kind ≡ type T p) where
-  -- a white leaf
-  pub meet-white : (k : ℕ) → (kind ≡ black → ⊥) → Met T W p k k W
-  unfolding metCount metWords
-  meet-white k z = let e = ne-eqb (type T p) black (λ q. z (is ∙ q)) in record { count = rw e; words = rw e }
+-- the leader's word becomes its number, or stays
+module _ (T W : List ℕ) (p kind l which k : ℕ) (is : kind ≡ type T p) (lead : l ≡ leadOf W p) (gets : which ≡ getsOf kind (wordOf W l) (length W)) where
+  after : List ℕ
+  after = set W l (getD (wordOf W l ∷ (length W + k + 1) ∷ []) which 0)
 
-  module _ (wet : kind ≡ black) (l : ℕ) (lead : l ≡ leadOf W p) where
-    -- a black one whose leader has a number, or has none
-    pub meet-old : (k : ℕ) → length W ≤ wordOf W l → Met T W p k k (set W l (wordOf W l))
-    unfolding metCount metWords
-    meet-old k h =
-        let e = eq-eqb (type T p) black (sym is ∙ wet) in
-        let f = le-ltb (wordOf W (leadOf W p)) (length W) (rw lead at h) in
-        record { count = rw (e, f); words = rw (e, f) (set-getD W l 0) }
+  stays : which ≡ 0 → (k + which ≡ k) × (after ≡ W)
+  unfolding after
+  stays w = (omega (arith, w), rw w (set-getD W l 0))
 
-    pub meet-new : (k : ℕ) → wordOf W l < length W → Met T W p k (k + 1) (set W l (length W + k + 1))
-    unfolding metCount metWords
-    meet-new k h =
-        let e = eq-eqb (type T p) black (sym is ∙ wet) in
-        let f = lt-ltb (wordOf W (leadOf W p)) (length W) (rw lead at h) in
-        record { count = rw (e, f); words = rw (e, f, lead) }
+  pub meet-done : Met T W p k (k + which) (set W l (getD (wordOf W l ∷ (length W + k + 1) ∷ []) which 0))
+  unfolding after metCount metWords getsOf
+  meet-done =
+      ⊎-elim
+      (λ (b : eqb (type T p) black ≡ true).
+      ⊎-elim
+      (λ (h : ltb (wordOf W (leadOf W p)) (length W) ≡ true).
+      let w : which ≡ 1 = gets ∙ rw (is, lead, b, h) in
+      record { count = rw (b, h, w); words = rw (b, h, w, lead) })
+      (λ (h : ltb (wordOf W (leadOf W p)) (length W) ≡ false).
+      let s = stays (gets ∙ rw (is, lead, b, h)) in
+      record { count = rw (b, h) (s .0); words = rw (b, h) (s .1) })
+      (by-bool (ltb (wordOf W (leadOf W p)) (length W))))
+      (λ (b : eqb (type T p) black ≡ false).
+      let s = stays (gets ∙ rw (is, b)) in
+      record { count = rw b (s .0); words = rw b (s .1) })
+      (by-bool (eqb (type T p) black))

@@ -45,6 +45,10 @@ metWords T words p k =
     (cond (ltb (wordOf words (leadOf words p)) (length words)) (set words (leadOf words p) (length words + k + 1)) words)
     words
 
+-- 1 where a leaf of that type is met and its leader's word tells no number, else 0
+unfoldable pub getsOf : ℕ → ℕ → ℕ → ℕ
+getsOf kind word N = cond (eqb kind black) (cond (ltb word N) 1 0) 0
+
 pub record Met (T before : List ℕ) (p k r : ℕ) (after : List ℕ) : Type 0 where
   pub count : r ≡ metCount T before p k
   pub words : after ≡ metWords T before p k

@@ -13,7 +13,7 @@ ghost use Rattle.table.specs.Table.{nodes, type, isFork};
 ghost use Rattle.table.specs.Rules.{one, Accepted};
 ghost use Rattle.joins.specs.Led.{wordOf, Led};
 ghost use Rattle.ponds.specs.Numbered.{Numbered};
-ghost use Rattle.ponds.specs.Counted.{leadOf, leaders, Fresh, Meets, Met, Counting, partAbove, Reached, Passes, numberOf, Tells, Settled};
+ghost use Rattle.ponds.specs.Counted.{leadOf, leaders, Fresh, getsOf, Meets, Met, Counting, partAbove, Reached, Passes, numberOf, Tells, Settled};
 ghost use Rattle.ponds.specs.Calls.{blackLeaves, pondsTest, FindsInWords, FindsInEntries};
 ghost use Rattle.ponds.specs.Found.{Found};
 
@@ -55,24 +55,31 @@ fn leaders(table: &[u32], words: &[u32]) -> u32
     count
 }
 
-// Meets leaf p: where it is black and its leader has no number, that gets the next. Gives the count.
+// 1 where a leaf of that type is black and its leader's word tells no number yet, else 0.
+fn gets(kind: usize, word: u32, nodes: u32) -> usize
+    ensures { λ r. ⌜ (r ≡ getsOf kind word nodes) × (r ≤ 1) ⌝ }
+{
+    if kind == quad::BLACK {
+        if word < nodes {
+            return 1;
+        }
+    }
+    0
+}
+
+// Meets leaf p: where it is black and its leader has no number, that gets the next. Gives the count. Both words are at hand, so that nothing waits for a guess.
 fn meet(table: &[u32], words: &mut [u32], p: usize, count: u32) -> u32
     requires { ⌜ Meets (now table) (now words) p count ⌝ }
     ensures { λ r. ⌜ Met (now (table .entry)) (now (words .entry)) p count r (now (words .exit)) ⌝ }
 {
-    if word_at(table, p, 5) != quad::BLACK {
-        return count;
-    }
+    let kind = word_at(table, p, 5);
     let l = leader(words, p);
     let nodes = words.len() as u32;
-    let mut word = words[l];
-    let mut met = count;
-    if word < nodes {
-        word = nodes + count + 1;
-        met = count + 1;
-    }
-    words[l] = word;
-    met
+    let word = words[l];
+    let both: [u32; 2] = [word, nodes + count + 1];
+    let which = gets(kind, word, nodes);
+    words[l] = both[which];
+    count + which as u32
 }
 
 // The part of a sheet that lies above row y, in 2 ^ 32nds of its side.
@@ -98,7 +105,7 @@ fn leaf_row(table: &[u32], words: &mut [u32], p: usize, above: u32, count: u32) 
     if above != 0 {
         return count;
     }
-    meet(table, words, p, count)
+    meet(&*table, words, p, count)
 }
 
 // Meets the leaves that a row crosses under node p, from west to east: those under the western half of each fork, on the way down the eastern halves.
@@ -114,10 +121,10 @@ fn row(table: &[u32], words: &mut [u32], p: usize, above: u32, count: u32) -> u3
         let west = word_at(table, node, 1 + q);
         let east = word_at(table, node, 2 + q);
         part = part << 1;
-        met = west_row(table, words, west, part, met);
+        met = west_row(&*table, words, west, part, met);
         node = east;
     }
-    leaf_row(table, words, node, part, met)
+    leaf_row(&*table, words, node, part, met)
 }
 
 // The same; a leaf takes no walk.
@@ -126,9 +133,9 @@ fn west_row(table: &[u32], words: &mut [u32], p: usize, above: u32, count: u32) 
     ensures { λ r. ⌜ Passes (now (table .entry)) p above (now (words .entry)) count (now (words .exit)) r ⌝ }
 {
     if word_at(table, p, 5) == quad::FORK {
-        return row(table, words, p, above, count);
+        return row(&*table, words, p, above, count);
     }
-    leaf_row(table, words, p, above, count)
+    leaf_row(&*table, words, p, above, count)
 }
 
 // Meets the leaves of the rows, from the top, until each leader has its number. Gives the count.

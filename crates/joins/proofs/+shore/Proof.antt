@@ -4,15 +4,15 @@ use mathlib.Core.Path.{_≡_, refl, _∙_}
 use native.Mathlib.Omega.{arith}
 use lib.ListN.{length}
 use Rattle.table.proofs.AcceptedLaws.{fork-above}
-use Rattle.table.proofs.SeenLaws.{told-fork}
-use Rattle.joins.proofs.MeetLaws.{NearMet, near-small, near-none, near-ashore, near-more, near-all, reached-other, reached-black}
+use Rattle.table.proofs.SeenLaws.{told-fork, told-leaf}
+use Rattle.joins.proofs.MeetLaws.{NearMet, near-small, near-none, near-ashore, near-more, near-all, ashore-touching, reached-touched}
 use Prim.Native.Nat.{ℕ, _-_, _≤_, _<_}
 use borrow.Fn.Kinds.{In}
 use borrow.Fn.PlainCycle.{Measures, is, falls, and}
 use Rattle.joins.proofs.shore.Reads as shore
 use Rattle.joins.proofs.shore.Kinds as shore-kinds
 use Rattle.joins.proofs.+shore.Lts-shore as shore-lts
-use Rattle.joins.proofs.join.Reads as join-reads
+use Rattle.joins.proofs.touch.Reads as touch-reads
 use Rattle.table.proofs.word_at.Reads as word-at-reads
 use Rattle.joins.proofs.+shore.{statement}
 use Rattle.joins.proofs.+shore.Tie.{close}
@@ -27,7 +27,7 @@ abbrev shore-below : ℕ → In 2 shore-kinds.ps
 shore-below t = and 2 shore-kinds.ps (falls 2 shore-kinds.ps _<_ μ-shore t) shore.Pre
 
 abbrev calls : ℕ → shore-lts.Claims
-calls t = (word-at-reads.Asked, word-at-reads.Learnt, shore-below t, shore.Post, join-reads.Asked, join-reads.Learnt)
+calls t = (word-at-reads.Asked, word-at-reads.Learnt, shore-below t, shore.Post, touch-reads.Asked, touch-reads.Learnt)
 
 abbrev shore-Inv-loop : shore-lts.InvT-loop
 shore-Inv-loop table words₀ p node level side half far k₀ words k =
@@ -87,46 +87,26 @@ shore-loop-again t c = let v = c .before .before .before .before .before .before
   near-more (c .before .before .before .before .before .before .before .before .before .before .before .pre .1 .1) (v .k) _ _ _ _ (omega arith) (v .inv .3) (v .inv .2) (c .before .before .before .before .before .before .word-at .ensures) (v .inv .4) _ (c .before .before .shore .ensures),
 )
 
-shore-cast-join : (t : ℕ) → shore-lts.Need-cast-join (calls t) (shore-at t) shore.Post shore-Inv-loop shore-μ-loop
-shore-cast-join t c = let z = c .before .before .before .before .before .before .before .before .before .pre .1 .0 .bank in omega (arith, z .place .accepted .sized .few, z .water .node)
-
-shore-cast-join-2 : (t : ℕ) → shore-lts.Need-cast-join-2 (calls t) (shore-at t) shore.Post shore-Inv-loop shore-μ-loop
-shore-cast-join-2 t c = let v = c .before .before .before .before .before .before .loop in
-    let z = c .before .before .before .before .before .before .before .before .before .pre .1 in
-    let son = near-ashore (z .1) (v .k) _ _ _ _ (omega arith) (v .inv .3) (v .inv .2) (c .before .before .before .before .word-at .ensures) (v .inv .4) (z .0) in
-    omega (arith, son .bank .place .accepted .sized .few, son .bank .place .node)
-
-shore-join-requires : (t : ℕ) → shore-lts.Need-join-requires (calls t) (shore-at t) shore.Post shore-Inv-loop shore-μ-loop
-shore-join-requires t c κs = let v = c .before .before .before .before .before .before .loop in
-    let z = c .before .before .before .before .before .before .before .before .before .pre .1 in
-    let son = near-ashore (z .1) (v .k) _ _ _ _ (omega arith) (v .inv .3) (v .inv .2) (c .before .before .before .before .word-at .ensures) (v .inv .4) (z .0) in
-    (omega (arith, son .wired .each, son .bank .water .node), omega (arith, son .wired .each, son .bank .place .node), son .wired .falling)
+shore-touch-requires : (t : ℕ) → shore-lts.Need-touch-requires (calls t) (shore-at t) shore.Post shore-Inv-loop shore-μ-loop
+shore-touch-requires t c κs = let v = c .before .before .before .before .before .loop in
+    let z = c .before .before .before .before .before .before .before .before .pre .1 in
+    ashore-touching (near-ashore (z .1) (v .k) _ _ _ _ (omega arith) (v .inv .3) (v .inv .2) (c .before .before .before .word-at .ensures) (v .inv .4) (z .0))
 
 shore-loop-less-2 : (t : ℕ) → shore-lts.Need-loop-less-2 (calls t) (shore-at t) shore.Post shore-Inv-loop shore-μ-loop
 shore-loop-less-2 t c = omega arith
 
 shore-loop-again-2 : (t : ℕ) → shore-lts.Need-loop-again-2 (calls t) (shore-at t) shore.Post shore-Inv-loop shore-μ-loop
-shore-loop-again-2 t c = let v = c .before .before .before .before .before .before .before .before .before .loop in (
-  omega arith,
-  c .before .before .join .kept .0 ∙ v .inv .1,
-  v .inv .2,
-  v .inv .3,
-  near-more (c .before .before .before .before .before .before .before .before .before .before .before .before .pre .1 .1) (v .k) _ _ _ _ (omega arith) (v .inv .3) (v .inv .2) (c .before .before .before .before .before .before .before .word-at .ensures) (v .inv .4) _
-      (reached-black _ (c .before .before .before .before .before .before .word-at2 .ensures) _ _ (c .before .before .before .before .if2 .taken) (c .before .before .join .ensures)),
-)
-
-shore-loop-less-3 : (t : ℕ) → shore-lts.Need-loop-less-3 (calls t) (shore-at t) shore.Post shore-Inv-loop shore-μ-loop
-shore-loop-less-3 t c = omega arith
-
-shore-loop-again-3 : (t : ℕ) → shore-lts.Need-loop-again-3 (calls t) (shore-at t) shore.Post shore-Inv-loop shore-μ-loop
-shore-loop-again-3 t c = let v = c .before .before .before .before .before .loop in (
-  omega arith,
-  v .inv .1,
-  v .inv .2,
-  v .inv .3,
-  near-more (c .before .before .before .before .before .before .before .before .pre .1 .1) (v .k) _ _ _ _ (omega arith) (v .inv .3) (v .inv .2) (c .before .before .before .word-at .ensures) (v .inv .4) _
-      (reached-other _ (c .before .before .word-at2 .ensures) _ (c .before .if1 .left) (c .if2 .left)),
-)
+shore-loop-again-2 t c = let u = c .before .before .before .before .before .before .before .before in
+    let v = u .loop in
+    let z = u .before .before .before .pre .1 in
+    let son = c .before .before .before .before .before .before .word-at in
+    let leaf = told-leaf (u .before .before .before .args .table .now) (son .result) _ (c .before .before .before .before .before .word-at2 .ensures) (c .before .before .before .before .if1 .left) in (
+      omega arith,
+      c .before .before .touch .kept .0 ∙ v .inv .1,
+      v .inv .2,
+      v .inv .3,
+      near-more (z .1) (v .k) _ _ _ _ (omega arith) (v .inv .3) (v .inv .2) (son .ensures) (v .inv .4) _ (reached-touched _ _ (z .0 .root) leaf (c .before .before .touch .ensures)),
+    )
 
 shore-same-length : (t : ℕ) → shore-lts.Need-same-length (calls t) (shore-at t) shore.Post shore-Inv-loop shore-μ-loop
 shore-same-length t c = c .before .loop .inv .1
@@ -151,12 +131,8 @@ pub +shore-spec : {M : Type 1} → statement M
     (shore-shore-requires t)
     (shore-loop-less t)
     (shore-loop-again t)
-    (shore-cast-join t)
-    (shore-cast-join-2 t)
-    (shore-join-requires t)
+    (shore-touch-requires t)
     (shore-loop-less-2 t)
     (shore-loop-again-2 t)
-    (shore-loop-less-3 t)
-    (shore-loop-again-3 t)
     (shore-same-length t)
     (shore-returns t)

@@ -1,16 +1,12 @@
--- `ponds::meet`: a white leaf, a black leaf whose leader has no number, and one whose leader has one. Assumes nothing.
-use mathlib.Core.Logic.{⊎-elim}
+-- `ponds::meet`: the leader's word and the next number are at hand, and one of them is written. Assumes nothing.
 use native.Mathlib.Omega.{arith}
-use Rattle.ponds.proofs.MeetLaws.{lead-below, meet-white, meet-old, meet-new}
+use Rattle.ponds.proofs.MeetLaws.{lead-below, meet-done}
 use borrow.Author.Needs.{needs}
 use Rattle.ponds.proofs.meet.Statement.{statement}
 use Rattle.ponds.proofs.meet.Tie as tie
 
 word-at-requires : tie.Need-word-at-requires
 word-at-requires c κs = search needs
-
-returns : tie.Need-returns
-returns c = search (meet-white, needs)
 
 leader-requires : tie.Need-leader-requires
 leader-requires c κs = search needs
@@ -19,50 +15,61 @@ cast-nodes : tie.Need-cast-nodes
 cast-nodes c = search needs
 
 mul-word : tie.Need-mul-word
-mul-word c = let h = c .before .before .before .before .before .before .pre in omega (arith, lead-below _ _ _ _ (c .leader .ensures) (h .node) (h .size), h .size, h .room)
+mul-word c = let h = c .before .before .before .before .before .pre in omega (arith, lead-below _ _ _ _ (c .leader .ensures) (h .node) (h .size), h .size, h .room)
 
 slice-read-word : tie.Need-slice-read-word
-slice-read-word c = let h = c .before .before .before .before .before .before .before .pre in omega (arith, lead-below _ _ _ _ (c .before .leader .ensures) (h .node) (h .size))
+slice-read-word c = let h = c .before .before .before .before .before .before .pre in omega (arith, lead-below _ _ _ _ (c .before .leader .ensures) (h .node) (h .size))
 
-add-word : tie.Need-add-word
-add-word c = search needs
+add-words : tie.Need-add-words
+add-words c = search needs
 
-add-word-2 : tie.Need-add-word-2
-add-word-2 c = search needs
+add-words-2 : tie.Need-add-words-2
+add-words-2 c = search needs
 
-add-met : tie.Need-add-met
-add-met c = search needs
+gets-requires : tie.Need-gets-requires
+gets-requires c κs = search needs
 
 mul-words : tie.Need-mul-words
-mul-words c = let h = c .before .before .before .before .before .before .before .before .pre in omega (arith, lead-below _ _ _ _ (c .before .before .leader .ensures) (h .node) (h .size), h .size, h .room)
+mul-words c = search needs
+
+array-read-words : tie.Need-array-read-words
+array-read-words c = search needs
+
+mul-words-2 : tie.Need-mul-words-2
+mul-words-2 c = let h = c .before .before .before .before .before .before .before .pre in omega (arith, lead-below _ _ _ _ (c .before .before .leader .ensures) (h .node) (h .size), h .size, h .room)
 
 slice-write-words : tie.Need-slice-write-words
-slice-write-words c = let h = c .before .before .before .before .before .before .before .before .pre in omega (arith, lead-below _ _ _ _ (c .before .before .leader .ensures) (h .node) (h .size))
+slice-write-words c = let h = c .before .before .before .before .before .before .before .pre in omega (arith, lead-below _ _ _ _ (c .before .before .leader .ensures) (h .node) (h .size))
+
+cast-result : tie.Need-cast-result
+cast-result c = search needs
+
+add-result : tie.Need-add-result
+add-result c = search needs
 
 same-length : tie.Need-same-length
 same-length c = search needs
 
-returns-2 : tie.Need-returns-2
-returns-2 c = let w = c .before .before .before .before .before .word-at .ensures in
-    ⊎-elim
-    (λ m. rw (m .1, m .2) (meet-new _ _ _ _ w (omega (arith, c .before .before .before .before .if1 .left)) _ (c .before .before .leader .ensures) _ (m .0 .taken)))
-    (λ m. rw (m .1, m .2) (meet-old _ _ _ _ w (omega (arith, c .before .before .before .before .if1 .left)) _ (c .before .before .leader .ensures) _ (m .0 .left)))
-    (c .if2 .came)
+returns : tie.Need-returns
+returns c = meet-done _ _ _ _ _ _ _ (c .before .before .before .before .word-at .ensures) (c .before .before .leader .ensures) (c .gets .ensures .0)
 
 pub meet-spec : {M : Type 1} → statement M
 meet-spec =
     tie.close
     (tie.spec
     word-at-requires
-    returns
     leader-requires
     cast-nodes
     mul-word
     slice-read-word
-    add-word
-    add-word-2
-    add-met
+    add-words
+    add-words-2
+    gets-requires
     mul-words
+    array-read-words
+    mul-words-2
     slice-write-words
+    cast-result
+    add-result
     same-length
-    returns-2)
+    returns)
