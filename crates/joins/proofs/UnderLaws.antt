@@ -16,11 +16,10 @@ use Rattle.table.specs.Rules.{one, Accepted, AtLevel}
 use Rattle.table.proofs.AcceptedLaws.{fork-above, level-is, root-at, son-at}
 use Rattle.table.proofs.UnderLaws.{under-still, under-leaf, under-fork, under-all}
 use Rattle.neighbour.specs.declared.Found.{Found}
-use Rattle.neighbour.specs.declared.Found.the-variants.{At, Off}
 use Rattle.neighbour.specs.Neighbour.{neighbourFound}
-use Rattle.neighbour.specs.SonBeside.{partIn, Forward, besideSon}
+use Rattle.neighbour.specs.SonBeside.{Forward, besideSon}
 use Rattle.neighbour.specs.Surround.{numberOf, partOf}
-use Rattle.neighbour.proofs.SurroundLaws.{quarter-picked}
+use Rattle.neighbour.proofs.SurroundLaws.{quarter-picked, part-number}
 use Rattle.neighbour.proofs.BesideLaws.{beside-of-son, none-beside}
 use Rattle.joins.specs.Joining.{Together, Wired, Further, MetSides, MetUnder, MetAll, Beside, Along, MetAlong, Facing, FacingMet, Touched, besideAt, Dry}
 use Rattle.joins.proofs.LeaderLaws.{same-or-not, last-or-before}
@@ -50,17 +49,12 @@ pub quarter-of : (T : List ℕ) (w k c kind which : ℕ) → c ≡ son T w k →
 quarter-of T w k c kind which ec is e = rw ec (quarter-picked T w k kind which is e)
 
 -- quadrants and neighbours as they are found, by their numbers
-part-number : (T : List ℕ) (x k : ℕ) → isFork T x ≡ false → (g : Found) → partOf T k (numberOf x g) ≡ numberOf x (partIn T k g)
-unfolding numberOf partIn partOf
-part-number T x k f Off = rw f
-part-number T x k f (At m l) = ⊎-elim (λ (h : isFork T m ≡ true). rw h) (λ (h : isFork T m ≡ false). rw h) (by-bool (isFork T m))
-
 beside-number : (T : List ℕ) (x p half q D : ℕ) → isFork T x ≡ false → (g : Found) → besideAt T p (numberOf x g) q D ≡ numberOf x (besideSon T p half g q D)
 unfolding besideAt besideSon
 beside-number T x p half q D f g =
     ⊎-elim
     (λ (h : eqb (q / D % 2) 0 ≡ true). rw h (unfold numberOf in refl))
-    (λ (h : eqb (q / D % 2) 0 ≡ false). rw h (part-number T x (q - D) f g))
+    (λ (h : eqb (q / D % 2) 0 ≡ false). rw h (sym (part-number T x (q - D) f g)))
     (by-bool (eqb (q / D % 2) 0))
 
 -- what a fork's son is beside, from what the fork is

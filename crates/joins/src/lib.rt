@@ -1,13 +1,13 @@
 // Which black leaves are one pond: those that share a length of side are joined, and each one's word becomes its pond's leader. The words themselves are
 // the sets: a leaf's word is a leaf of its set that is not above it, and a leader's is itself.
+use neighbour::around::fork_one;
 use table::word_at;
 ghost use mathlib.Core.Bool.{true};
 ghost use mathlib.Core.Path.{_≡_};
 ghost use Prim.Native.Nat.{_<_, _≤_};
-ghost use lib.Dec.{eqb};
 ghost use lib.ListN.{length};
 ghost use Rattle.base.specs.Tab.{tab};
-ghost use Rattle.quad.specs.Numbers.{forkType, maxWords};
+ghost use Rattle.quad.specs.Numbers.{maxWords};
 ghost use Rattle.table.specs.Table.{nodes, isFork};
 ghost use Rattle.table.specs.Rules.{one, Accepted};
 ghost use Rattle.neighbour.specs.SonBeside.{Forward};
@@ -147,16 +147,6 @@ fn across(table: &[u32], words: &mut [u32], p: usize, node: usize, level: u32, s
         return;
     }
     join(words, p as u32, node as u32);
-}
-
-// 1 for a fork's type, else 0.
-fn fork_one(kind: usize) -> usize
-    ensures { λ r. ⌜ (r ≡ one (eqb kind forkType)) × (r ≤ 1) ⌝ }
-{
-    if kind == quad::FORK {
-        return 1;
-    }
-    0
 }
 
 // A quadrant of a node: a fork's son there, and a leaf itself. Both are at hand, and the type picks one, so that nothing waits for a guess.

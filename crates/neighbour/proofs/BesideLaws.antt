@@ -1,7 +1,7 @@
 -- The neighbour of a fork's son is the quadrant that the move's mirror names of the fork's own neighbour, in the direction in which the move leads on from the
 -- fork: the path of the block beside the son's is that quadrant and the path beside the fork's. Nothing lies beside the whole sheet.
 use mathlib.Core.Bool.{Bool, true, false, cond, _&&_}
-use mathlib.Core.List.{List, [], _∷_}
+use mathlib.Core.List.{List}
 use mathlib.Core.Logic.{⊎-elim}
 use mathlib.Core.Path.{_≡_, refl, ap, sym, _∙_}
 use Prim.Native.Nat.{ℕ, _+_, _-_, _/_, _%_, _≤_, _<_}
@@ -11,19 +11,17 @@ use borrow.Author.Tests.{ne-eqb, eq-eqb, eqb-true, leb-true}
 use Rattle.base.specs.All.{all2}
 use Rattle.base.proofs.AllLaws.{all2-at}
 use Rattle.base.proofs.BoolLaws.{by-bool, and-left, and-right}
-use Rattle.quad.specs.Numbers.{forkType}
-use Rattle.table.specs.Table.{nodes, son, type, isFork}
+use Rattle.table.specs.Table.{nodes, son, isFork}
 use Rattle.table.specs.Rules.{Accepted, AtLevel}
 use Rattle.table.specs.Nodes.{pathTo, holder, levelOf}
-use Rattle.table.proofs.AcceptedLaws.{sons-of, depth-son, fork-deep, level-is}
+use Rattle.table.proofs.AcceptedLaws.{sons-of, depth-son, level-is}
 use Rattle.table.proofs.NodeLaws.{path-root, holder-fork, holder-leaf}
 use Rattle.table.proofs.HolderLaws.{held, own-quadrants, own-path, path-son}
 use Rattle.neighbour.specs.declared.Found.{Found}
 use Rattle.neighbour.specs.declared.Found.the-variants.{At, Off}
 use Rattle.neighbour.specs.Neighbour.{neighbourFound}
 use Rattle.neighbour.specs.Search.{stay, onwardOf, mirrorOf, Where, off, block, inner, moved}
-use Rattle.neighbour.specs.SonBeside.{InTable, partIn, Forward, besideSon}
-use Rattle.neighbour.proofs.FoundLaws.{found-facts}
+use Rattle.neighbour.specs.SonBeside.{partIn, Forward, besideSon}
 use Rattle.neighbour.proofs.SearchLaws.{MovedTo, moved-to, steers, moved-stay, heldBy, beside-moved}
 
 module _ (n : ℕ) (T : List ℕ) (acc : Accepted n T) where
@@ -67,14 +65,6 @@ module _ (n : ℕ) (T : List ℕ) (acc : Accepted n T) where
   pub none-beside : (D : ℕ) → D < stay → Off ≡ neighbourFound n T 0 D
   unfolding heldBy moved
   none-beside D lt = sym (by-moves 0 D (acc .sized .some) (omega arith) ∙ rw (path-root T n, ne-eqb D stay (λ e. omega arith)))
-
-  -- what is beside a node is a node of the table
-  in-table : (p D : ℕ) → p < nodes T → D ≤ stay → (g : Found) → neighbourFound n T p D ≡ g → InTable T g
-  unfolding InTable
-  in-table p D lt le Off e = tt
-  in-table p D lt le (At m l) e =
-      let h = found-facts n T acc p D lt le m l e in
-      (h .below, λ f. omega (arith, h .level, fork-deep n T acc m (h .below) f))
 
 -- sides E and S by the quadrants' numbers, as one test
 forthOk : ℕ → ℕ → Bool
@@ -123,9 +113,6 @@ module _ (D q : ℕ) (way : Forward D) (q4 : q < 4) where
 
 -- fork p, of level l, and its own neighbour on side D
 module _ {n : ℕ} {T : List ℕ} {p l : ℕ} (z : AtLevel n T p l) (D : ℕ) (way : Forward D) (found : Found) (is : found ≡ neighbourFound n T p D) where
-  pub found-in : InTable T found
-  found-in = rw is (in-table n T (z .accepted) p D (z .node) (omega (arith, way .1)) (neighbourFound n T p D) refl)
-
   -- is enough for its sons'
   pub beside-of-son : isFork T p ≡ true → (half q : ℕ) → half ≡ l - 1 → q < 4 → besideSon T p half found q D ≡ neighbourFound n T (son T p q) D
   unfolding besideSon partIn
@@ -140,35 +127,3 @@ module _ {n : ℕ} {T : List ℕ} {p l : ℕ} (z : AtLevel n T p l) (D : ℕ) (w
       let b = to-next D q way q4 h in
       rw (h, is) (sym (step ∙ rw (b .0, b .1))))
       (by-bool (eqb (q / D % 2) 0))
-
--- the code's own values
-pub part-off : (T : List ℕ) (q : ℕ) (found : Found) → found ≡ Off → Off ≡ partIn T q found
-unfolding partIn
-part-off T q found e = rw e
-
-module _ (T : List ℕ) (found : Found) (h : InTable T found) (m l : ℕ) (at : found ≡ At m l) where
-  pub in-node : m < nodes T
-  unfolding InTable
-  in-node = (rw at at h) .0
-
-  pub in-above : (kind : ℕ) → kind ≡ type T m → kind ≡ forkType → 0 < l
-  unfolding InTable
-  in-above kind is k = (rw at at h) .1 (eq-eqb (type T m) forkType (sym is ∙ k))
-
-module _ (T : List ℕ) (q : ℕ) (found : Found) (m l : ℕ) (at : found ≡ At m l) (kind : ℕ) (is : kind ≡ type T m) where
-  pub part-leaf : (kind ≡ forkType → ⊥) → At m l ≡ partIn T q found
-  unfolding partIn
-  part-leaf k = rw (at, ne-eqb (type T m) forkType (λ e. k (is ∙ e)))
-
-  pub part-fork : (s : ℕ) → kind ≡ forkType → s ≡ son T m q → At s (l - 1) ≡ partIn T q found
-  unfolding partIn
-  part-fork s k e = rw (at, eq-eqb (type T m) forkType (sym is ∙ k), e)
-
-module _ (T : List ℕ) (p half : ℕ) (found : Found) (q D : ℕ) where
-  pub son-brother : (s : ℕ) → q / D % 2 ≡ 0 → s ≡ son T p (q + D) → At s half ≡ besideSon T p half found q D
-  unfolding besideSon
-  son-brother s h e = rw (eq-eqb (q / D % 2) 0 h, e)
-
-  pub son-next : (r : Found) → (q / D % 2 ≡ 0 → ⊥) → r ≡ partIn T (q - D) found → r ≡ besideSon T p half found q D
-  unfolding besideSon
-  son-next r h e = rw (ne-eqb (q / D % 2) 0 h) e

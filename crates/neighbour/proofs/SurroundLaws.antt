@@ -60,7 +60,7 @@ sons-placed T p (suc (suc (suc zero))) near old a b c d e q4 z ea eb ec ed ee = 
 sons-placed T p (suc (suc (suc (suc q)))) near old a b c d e q4 z ea eb ec ed ee = absurd (omega arith)
 
 -- a part of what was found has the part's number
-part-number : (T : List ℕ) (x k : ℕ) → isFork T x ≡ false → (g : Found) → numberOf x (partIn T k g) ≡ partOf T k (numberOf x g)
+pub part-number : (T : List ℕ) (x k : ℕ) → isFork T x ≡ false → (g : Found) → numberOf x (partIn T k g) ≡ partOf T k (numberOf x g)
 unfolding numberOf partIn partOf
 part-number T x k f Off = rw f
 part-number T x k f (At m l) =

@@ -1,17 +1,11 @@
 -- The neighbour of a fork's son from the fork's own. Inner definitions: no outside call's statement cites them.
-use mathlib.Core.Bool.{true, cond}
+use mathlib.Core.Bool.{cond}
 use mathlib.Core.List.{List}
-use mathlib.Core.Path.{_≡_}
 use Prim.Native.Nat.{ℕ, _+_, _-_, _/_, _%_, _<_}
 use lib.Dec.{eqb}
-use Rattle.table.specs.Table.{nodes, son, isFork}
+use Rattle.table.specs.Table.{son, isFork}
 use Rattle.neighbour.specs.declared.Found.{Found}
 use Rattle.neighbour.specs.declared.Found.the-variants.{At, Off}
-
--- what was found is a node of the table, and a fork is above the pixels
-unfoldable pub InTable : List ℕ → Found → Type 0
-InTable T Off = Unit {0}
-InTable T (At m l) = (m < nodes T) × (isFork T m ≡ true → 0 < l)
 
 -- quadrant q of what was found: a fork's son, and a leaf itself
 unfoldable pub partIn : List ℕ → ℕ → Found → Found

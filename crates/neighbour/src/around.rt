@@ -11,7 +11,7 @@ ghost use Rattle.table.specs.Rules.{one};
 ghost use Rattle.neighbour.specs.Surround.{partOf, InNodes, sonSurround};
 
 // 1 for a fork's type, else 0.
-fn fork_one(kind: usize) -> usize
+pub fn fork_one(kind: usize) -> usize
     ensures { λ r. ⌜ (r ≡ one (eqb kind forkType)) × (r ≤ 1) ⌝ }
 {
     if kind == quad::FORK {

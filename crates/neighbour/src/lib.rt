@@ -15,7 +15,6 @@ ghost use Rattle.neighbour.specs.Neighbour.{neighbourFound, outcomeOf, l
 ghost use Rattle.neighbour.specs.Calls.{Neighbours, CornerLeaves, DiagonalLeaves};
 
 pub mod around;
-pub mod beside;
 
 // What a search ends on: a node and its level, or no block of the sheet.
 pub enum Found {
