@@ -9,11 +9,12 @@
  * searches, and how many times the others' time the library takes; after a kind's
  * levels, how a unit's time grows from n = 4 to n = 7, and what a table numbered
  * at random takes. The distance is also held against plain C of the same method, in
- * the tree, and against two passes over the raster; the ponds also against plain C
- * that has no memory but the lent words and a row's worth, where the other paints the
- * raster. A call that searches is also held against the check alone, and on the sparse sheets of n = 7, where the check is short, what is left of it when
- * the check is taken away against what is left of plain C. In the end a table has
- * each call's worst at n = 7, its bound, and its stack.
+ * the tree, and against two passes over the raster. The ponds are also held against
+ * plain C that, like the library, has no memory that grows with the sheet, in place;
+ * the other paints the raster. A call that searches is also held against the check
+ * alone, and on the sparse sheets of n = 7, where the check is short, what is left of
+ * it when the check is taken away against what is left of plain C. In the end a table
+ * has each call's worst at n = 7, its bound, and its stack.
  *
  * A call is not timed, and the status is 1, where the library or plain C does not
  * give the second implementation's answer. A bound that is not kept leaves the
@@ -36,7 +37,7 @@ enum { LOWEST = 3, EARLY = 4, HIGHEST = SHEET_HIGHEST_LEVEL, SAMPLES_OF_A_CALL =
 enum { PROVED, PLAIN, FLOOR, CHECK, PLAIN_CHECK };
 
 /* Plain C, with one way or another to the distances and to the ponds. */
-#define PLAIN_CALLS(distance, ponds)                                                                           \
+#define PLAIN_CALLS(distance, ponds)                                                                      \
     {                                                                                                     \
         plain_check, plain_build, plain_decode, plain_neighbour, plain_corner_leaf, plain_diagonal_leaf,  \
             distance, ponds, plain_read, plain_write, plain_centre                                        \

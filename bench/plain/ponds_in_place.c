@@ -354,7 +354,7 @@ static inline void begin_entry(uint32_t *entry, uint32_t row)
 /* Numbers the leaders, and gives back how many there are. */
 static uint32_t number_leaders(struct water *w)
 {
-    uint16_t before[1 + MOST_SIDE] = {0}; /* the ponds that begin above a row; the first is for those that do not lead */
+    uint16_t before[1 + MOST_SIDE] = {0}; /* the ponds above a row, from 1 on; 0 takes labels that do not lead */
     uint32_t ponds = 0, last = 0;
     for (uint32_t label = 1; label < w->next; label++) {
         uint32_t link = w->words[label].half.link, at = link & LEADS ? 1 + (link & ~LEADS) : 0;
