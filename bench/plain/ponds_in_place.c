@@ -35,12 +35,17 @@ union word {
 /* Columns and rows go by pairs. A pair's labels are in two halves, the first the
  * lower, 0 for white; which are black is said again by bits 4 and 5 for columns and
  * by bits 6 and 7 for rows, and known before the labels are. */
+union line {
+    uint32_t pair[MOST_PAIRS];
+    int16_t label[MOST_SIDE]; /* the same, in one order or another */
+};
+
 struct water {
     const uint32_t *table;
     union word *words;
     uint32_t *reg;
     uint32_t next; /* the label that is free */
-    uint32_t north[MOST_PAIRS], west[MOST_PAIRS];
+    union line north, west;
     uint8_t north_black[MOST_PAIRS], west_black[MOST_PAIRS];
 };
 
@@ -138,7 +143,7 @@ static uint32_t join(struct water *w, uint32_t a, uint32_t b)
 /* The labels beside a pair of columns and a pair of rows. */
 static inline uint64_t labels_beside(const struct water *w, uint32_t column, uint32_t row)
 {
-    return w->north[column] | (uint64_t)w->west[row] << 32;
+    return w->north.pair[column] | (uint64_t)w->west.pair[row] << 32;
 }
 
 static uint32_t join_touched(struct water *w, uint32_t label, uint64_t labels, uint64_t touched)
@@ -162,7 +167,7 @@ typedef void label_walk(struct water *w, uint32_t p, uint32_t column, uint32_t r
 static APART void label_diagonal(struct water *w, uint32_t pattern, uint32_t p, uint32_t column, uint32_t row)
 {
     const uint32_t *sons = plain_node(w->table, p) + 1;
-    uint32_t north = w->north[column], west = w->west[row], upper, lower;
+    uint32_t north = w->north.pair[column], west = w->west.pair[row], upper, lower;
     if (pattern == NW_SE) {
         uint32_t from_north = north & 0xffff, from_west = west & 0xffff;
         upper = free_label(w, 2 * row, (from_north | from_west) == 0);
@@ -171,7 +176,7 @@ static APART void label_diagonal(struct water *w, uint32_t pattern, uint32_t p, 
             upper = join(w, upper, from_west);
         lower = free_label(w, 2 * row + 1, 1);
         w->words[sons[3]].half.label = (uint16_t)lower;
-        w->north[column] = w->west[row] = lower << 16;
+        w->north.pair[column] = w->west.pair[row] = lower << 16;
         w->north_black[column] = 1 << 5;
         w->west_black[row] = 1 << 7;
     } else {
@@ -180,8 +185,8 @@ static APART void label_diagonal(struct water *w, uint32_t pattern, uint32_t p, 
         lower = free_label(w, 2 * row + 1, west >> 16 == 0);
         lower = west >> 16 != 0 ? west >> 16 : lower;
         w->words[sons[2]].half.label = (uint16_t)lower;
-        w->north[column] = lower;
-        w->west[row] = upper;
+        w->north.pair[column] = lower;
+        w->west.pair[row] = upper;
         w->north_black[column] = 1 << 4;
         w->west_black[row] = 1 << 6;
     }
@@ -191,8 +196,8 @@ static APART void label_diagonal(struct water *w, uint32_t pattern, uint32_t p, 
 static INLINE void settle(struct water *w, uint32_t label, const struct meeting *m, uint32_t p, uint32_t column,
                           uint32_t row)
 {
-    w->north[column] = in_both(label) & m->south;
-    w->west[row] = in_both(label) & m->east;
+    w->north.pair[column] = in_both(label) & m->south;
+    w->west.pair[row] = in_both(label) & m->east;
     w->north_black[column] = m->south_black;
     w->west_black[row] = m->east_black;
     w->words[p].half.label = (uint16_t)label;
@@ -235,20 +240,13 @@ static APART void label_black_four(struct water *w, uint32_t p, uint32_t column,
 static INLINE void fill_lines(struct water *w, uint32_t label, uint32_t is_black, uint32_t column, uint32_t row,
                               uint32_t pairs)
 {
-    uint32_t *north = w->north + column, *west = w->west + row;
+    uint32_t *north = w->north.pair + column, *west = w->west.pair + row;
     for (uint32_t i = 0; i < pairs; i++)
         north[i] = in_both(label);
     for (uint32_t i = 0; i < pairs; i++)
         west[i] = in_both(label);
     memset(w->north_black + column, (int)(is_black * (3 << 4)), pairs);
     memset(w->west_black + row, (int)(is_black * (3 << 6)), pairs);
-}
-
-/* Not 0 if one of a pair is a label and not this one. */
-static inline uint32_t differing(uint32_t pair, uint32_t label)
-{
-    uint32_t some = (pair + UINT32_C(0x7fff7fff)) & UINT32_C(0x80008000);
-    return (pair ^ in_both(label)) & ((some << 1) - (some >> 15));
 }
 
 static APART uint32_t join_sides(struct water *w, uint32_t label, uint32_t column, uint32_t row, uint32_t pairs)
@@ -260,35 +258,38 @@ static APART uint32_t join_sides(struct water *w, uint32_t label, uint32_t colum
     return label;
 }
 
-typedef int16_t eight_labels __attribute__((vector_size(16)));
-
-/* One of the labels of so many pairs, or 0. */
-static INLINE uint32_t any_of(const uint32_t *pair, uint32_t pairs)
+/* The greatest of the labels of so many pairs, or 0. */
+static INLINE uint32_t most_of(const union line *l, uint32_t from, uint32_t pairs)
 {
-    uint64_t labels[2] = {pair[0] | (uint64_t)pair[1] << 32, 0};
-    if (pairs > 2) {
-        eight_labels most = {0}, next;
-        for (uint32_t i = 0; i < pairs; i += 4) {
-            memcpy(&next, pair + i, sizeof next);
-            eight_labels is_more = next > most;
-            most = (next & is_more) | (most & ~is_more);
-        }
-        memcpy(labels, &most, sizeof labels);
+    const int16_t *label = l->label + 2 * from;
+    int16_t most = 0;
+    for (uint32_t i = 0; i < 2 * pairs; i++)
+        most = label[i] > most ? label[i] : most;
+    return (uint32_t)most;
+}
+
+/* The least of them, less 1, where 0 is none; or 32767. */
+static INLINE uint32_t least_of(const union line *l, uint32_t from, uint32_t pairs)
+{
+    const int16_t *label = l->label + 2 * from;
+    int16_t least = INT16_MAX;
+    for (uint32_t i = 0; i < 2 * pairs; i++) {
+        int16_t less_one = (int16_t)((label[i] - 1) & INT16_MAX);
+        least = less_one < least ? less_one : least;
     }
-    uint64_t found = labels[0] != 0 ? labels[0] : labels[1];
-    return found >> (__builtin_ctzll(found | UINT64_C(1) << 63) & 48) & 0xffff;
+    return (uint32_t)least;
 }
 
 static INLINE void label_black(struct water *w, uint32_t p, uint32_t column, uint32_t row, uint32_t pairs)
 {
-    const uint32_t *north = w->north + column, *west = w->west + row;
-    uint32_t label = any_of(north, pairs), differ = 0;
-    label = label != 0 ? label : west[0] & 0xffff;
+    uint32_t on_north = most_of(&w->north, column, pairs), on_west = most_of(&w->west, row, pairs);
+    uint32_t least_north = least_of(&w->north, column, pairs), least_west = least_of(&w->west, row, pairs);
+    uint32_t most = on_north > on_west ? on_north : on_west;
+    uint32_t least = 1 + (least_north < least_west ? least_north : least_west);
+    uint32_t label = on_north != 0 ? on_north : w->west.pair[row] & 0xffff;
     uint32_t is_new = label == 0, next = free_label(w, 2 * row, is_new);
     label |= next & -is_new;
-    for (uint32_t i = 0; i < pairs; i++)
-        differ |= differing(north[i], label) | differing(west[i], label);
-    if (differ)
+    if (most != 0 && (most != label || least != label))
         label = join_sides(w, label, column, row, pairs);
     fill_lines(w, label, 1, column, row, pairs);
     w->words[p].half.label = (uint16_t)label;
@@ -423,7 +424,7 @@ static APART void number_diagonal(struct water *w, uint32_t pattern, uint32_t p,
     w->words[sons[5 - last]].half.label = 0;
 }
 
-static void number_four(struct water *w, uint32_t p, box corner)
+static INLINE void number_four(struct water *w, uint32_t p, box corner)
 {
     static const struct {
         box extent;
@@ -518,8 +519,8 @@ static uint32_t fill_both(struct water *w, uint32_t n, size_t numbers_len)
 {
     uint32_t pairs = UINT32_C(1) << (n - 1);
     w->next = 1;
-    memset(w->north, 0, sizeof *w->north * pairs);
-    memset(w->west, 0, sizeof *w->west * pairs);
+    memset(w->north.pair, 0, sizeof *w->north.pair * pairs);
+    memset(w->west.pair, 0, sizeof *w->west.pair * pairs);
     memset(w->north_black, 0, pairs);
     memset(w->west_black, 0, pairs);
     label_fork_of[n](w, 0, 0, 0);
