@@ -9,10 +9,12 @@
  * searches, and how many times the others' time the library takes; after a kind's
  * levels, how a unit's time grows from n = 4 to n = 7, and what a table numbered
  * at random takes. The distance is also held against plain C of the same method, in
- * the tree, and against two passes over the raster. A call that searches is also held against the check alone, and
- * on the sparse sheets of n = 7, where the check is short, what is left of it when
- * the check is taken away against what is left of plain C. In the end a table has
- * each call's worst at n = 7, its bound, and its stack.
+ * the tree, and against two passes over the raster. The ponds are also held against
+ * plain C that, like the library, has no memory that grows with the sheet, in place;
+ * the other paints the raster. A call that searches is also held against the check
+ * alone, and on the sparse sheets of n = 7, where the check is short, what is left of
+ * it when the check is taken away against what is left of plain C. In the end a table
+ * has each call's worst at n = 7, its bound, and its stack.
  *
  * A call is not timed, and the status is 1, where the library or plain C does not
  * give the second implementation's answer. A bound that is not kept leaves the
@@ -34,17 +36,18 @@ enum { LOWEST = 3, EARLY = 4, HIGHEST = SHEET_HIGHEST_LEVEL, SAMPLES_OF_A_CALL =
 
 enum { PROVED, PLAIN, FLOOR, CHECK, PLAIN_CHECK };
 
-/* Plain C, with one way or another to the distances. */
-#define PLAIN_CALLS(distance)                                                                             \
+/* Plain C, with one way or another to the distances and to the ponds. */
+#define PLAIN_CALLS(distance, ponds)                                                                      \
     {                                                                                                     \
         plain_check, plain_build, plain_decode, plain_neighbour, plain_corner_leaf, plain_diagonal_leaf,  \
-            distance, plain_ponds, plain_read, plain_write, plain_centre                                  \
+            distance, ponds, plain_read, plain_write, plain_centre                                        \
     }
 
-static const struct calls plain_calls = PLAIN_CALLS(plain_distance);
-static const struct calls in_tree_calls = PLAIN_CALLS(plain_distance_in_tree);
-static const struct calls two_pass_calls = PLAIN_CALLS(plain_two_pass);
-static const struct calls by_rows_calls = PLAIN_CALLS(plain_two_pass_rows);
+static const struct calls plain_calls = PLAIN_CALLS(plain_distance, plain_ponds);
+static const struct calls in_tree_calls = PLAIN_CALLS(plain_distance_in_tree, plain_ponds);
+static const struct calls two_pass_calls = PLAIN_CALLS(plain_two_pass, plain_ponds);
+static const struct calls by_rows_calls = PLAIN_CALLS(plain_two_pass_rows, plain_ponds);
+static const struct calls in_place_calls = PLAIN_CALLS(plain_distance, plain_ponds_in_place);
 
 static const struct kind {
     const char *name;
@@ -151,6 +154,11 @@ static uint64_t run_by_rows(const void *in)
     return put_all(in, &by_rows_calls);
 }
 
+static uint64_t run_in_place(const void *in)
+{
+    return put_all(in, &in_place_calls);
+}
+
 /* The rivals of a call, and which of them stand in its lines beside plain C and the
  * floor. */
 static const struct field {
@@ -162,11 +170,15 @@ static const struct field {
   distance = {{run_proved, run_plain, run_floor, run_in_tree, run_two_pass, run_by_rows},
               6,
               3,
-              {"in tree", "2 passes", "by rows"}};
+              {"in tree", "2 passes", "by rows"}},
+  ponds = {{run_proved, run_plain, run_floor, run_in_place}, 4, 1, {"in place"}};
 
 static const struct field *field_of(enum call call)
 {
-    return call_searches(call) ? &searching : call == CALL_DISTANCE ? &distance : &most_calls;
+    return call_searches(call)     ? &searching
+           : call == CALL_DISTANCE ? &distance
+           : call == CALL_PONDS    ? &ponds
+                                   : &most_calls;
 }
 
 /* ---- the answers */
@@ -185,7 +197,8 @@ static int agree(const struct question *q)
 {
     return is_answered_by(q, &library_calls) && is_answered_by(q, &plain_calls) &&
            (q->call != CALL_DISTANCE || (is_answered_by(q, &in_tree_calls) && is_answered_by(q, &two_pass_calls) &&
-                                         is_answered_by(q, &by_rows_calls)));
+                                         is_answered_by(q, &by_rows_calls))) &&
+           (q->call != CALL_PONDS || is_answered_by(q, &in_place_calls));
 }
 
 static int agree_on_samples(enum call call)
@@ -253,6 +266,8 @@ static void print_growth(enum call call, const char *where, const struct line *l
     if (call == CALL_DISTANCE)
         printf(" %17s %8.2f %8s %8.2f %8s %8.2f", "", growth(late, early, FLOOR + 1), "", growth(late, early, FLOOR + 2), "",
                growth(late, early, FLOOR + 3));
+    if (call == CALL_PONDS)
+        printf(" %17s %8.2f", "", growth(late, early, FLOOR + 1));
     printf("\n");
 }
 

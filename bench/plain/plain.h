@@ -24,6 +24,9 @@ uint64_t plain_two_pass_rows(uint32_t n, const uint32_t *table, size_t table_len
 
 uint64_t plain_ponds(uint32_t n, const uint32_t *table, size_t table_len, uint32_t *numbers, size_t numbers_len,
                      uint32_t *reg, size_t reg_len);
+/* The ponds with no memory but the lent words and a row's worth. */
+uint64_t plain_ponds_in_place(uint32_t n, const uint32_t *table, size_t table_len, uint32_t *numbers,
+                              size_t numbers_len, uint32_t *reg, size_t reg_len);
 uint64_t plain_read(const uint8_t *file, size_t file_len, uint32_t *table, size_t table_len);
 uint64_t plain_write(uint32_t n, const uint32_t *table, size_t table_len, uint8_t *file, size_t file_len);
 uint64_t plain_centre(uint32_t n, const uint32_t *table, size_t table_len, uint32_t node, double east, double north,
