@@ -15,8 +15,10 @@
 
 /* Every line has about as many nodes, however small its sheets, so that what the
  * machine keeps of them from one turn to the next is the same; where that would
- * be too many pixels, so many. */
-enum { LEAST_NODES = 5000, MOST_NODES = SHEET_LONGEST_TABLE / SHEET_NODE_WORDS, ENOUGH_PIXELS = 8 * 128 * 128 };
+ * be too many pixels, so many. There are so many that a processor does not learn
+ * which way each test goes: with a fourth of them it learns small sheets by heart
+ * and large ones in part, though to a caller each sheet is new. */
+enum { LEAST_NODES = 20000, MOST_NODES = SHEET_LONGEST_TABLE / SHEET_NODE_WORDS, ENOUGH_PIXELS = 32 * 128 * 128 };
 
 /* A line has so many questions about nodes at least. */
 enum { LEAST_QUESTIONS = 16, MOST_QUESTIONS = LEAST_NODES / 5 + LEAST_QUESTIONS };

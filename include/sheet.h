@@ -598,11 +598,11 @@ uint64_t sheet_distance(uint32_t n, const uint32_t *table, size_t table_len, uin
  *            numbers; the answer is then a refusal. With reg_len 0 the register
  *            may be NULL; the answer is then a refusal, or SHEET_OK with value 0
  *            for a sheet that has no black pixel.
- * Cost:      sheet_check's; for each black leaf a search for its neighbours to
- *            the east and to the south, and down the near edge of a grey one; a
- *            way along the rows from leaf to leaf until each pond has its
- *            number; and for each black leaf a climb to the root. No memory that
- *            grows with N.
+ * Cost:      sheet_check's; a pass down the sheet that joins each black leaf with
+ *            those to its east and to its south, down the near edge of a grey
+ *            block there; a way along the rows from leaf to leaf until each pond
+ *            has its number; and a pass that enters each black leaf. No memory
+ *            that grows with N.
  *
  * Example: the table of sheet_check's example, which is called 'table'.
  *
