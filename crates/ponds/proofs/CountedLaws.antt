@@ -191,7 +191,7 @@ module _ (n : ℕ) (T first : List ℕ) (led : Led n T first) where
       let e : i + suc width ≡ i + width + 1 = omega arith in
       rw e (passed W (i + width) k c (λ w. rw at (m (rw at at w))))
 
-  pub passed-more : (W : List ℕ) (i k p width : ℕ) → Counted n T first W i k → (Water T p → nodes T ≤ wordOf W (wordOf first p))
+  passed-more : (W : List ℕ) (i k p width : ℕ) → Counted n T first W i k → (Water T p → nodes T ≤ wordOf W (wordOf first p))
       → ((j : ℕ) → j < width → leafAt n T (i + j) ≡ p) → Counted n T first W (i + width) k
   passed-more W i k p zero c m h = rw (add-zero i) c
   passed-more W i k p (suc width) c m h =

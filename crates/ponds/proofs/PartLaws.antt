@@ -1,11 +1,10 @@
 -- The part of a block that lies above a row, in 2 ^ 32nds of the side: its first binary digit tells the half that the row crosses, and the others the part of
--- that half; none lies above where the row is the block's first.
-use mathlib.Core.Logic.{⊎-elim}
+-- that half.
 use mathlib.Core.Path.{_≡_, ap, sym, _∙_}
-use Prim.Native.Nat.{ℕ, _+_, _-_, _*_, _/_, _%_, _^_, _≤_, _<_, zero-le}
-use native.Mathlib.Nat.{add-mul, mul-assoc, mul-left-comm, zero-mul, div-add-mod', mod-lt, mod-eq-of-lt, eq-or-lt-of-le}
+use Prim.Native.Nat.{ℕ, _+_, _-_, _*_, _/_, _%_, _^_, _≤_, _<_}
+use native.Mathlib.Nat.{add-mul, mul-assoc, mul-left-comm, mod-lt, mod-eq-of-lt}
 use native.Mathlib.Omega.{arith}
-use lib.Arith.{digits-lt, digits-div}
+use lib.Arith.{digits-lt}
 use lib.Pow.{pow-pos, mod-pow-add}
 use Rattle.base.proofs.PowLaws.{pow-less, pow-product}
 use Rattle.quad.specs.Numbers.{topLevel}
@@ -46,18 +45,6 @@ module _ (l y : ℕ) (pos : 0 < l) (top : l ≤ 32) where
       let side : 2 ^ (32 - (l - 1)) ≡ 2 * 2 ^ (32 - l) = rw s at (pow-less 2 (32 - (l - 1)) (omega arith)) in
       let e : m * 2 ^ (32 - (l - 1)) ≡ 2 * (m * 2 ^ (32 - l)) = ap (λ (k : ℕ). m * k) side ∙ mul-left-comm m 2 (2 ^ (32 - l)) in
       omega (arith, e, digits, rest)
-
--- where a part lies above, the row before crosses the block too
-pub part-some : (l y : ℕ) → (partAbove l y ≡ 0 → ⊥) → 0 < y % 2 ^ l
-unfolding partAbove
-part-some l y z = ⊎-elim (λ (e : 0 ≡ y % 2 ^ l). absurd (z (rw (← e) (zero-mul (2 ^ (32 - l)))))) (λ lt. lt) (eq-or-lt-of-le zero-le)
-
-pub row-before : (w y : ℕ) → 0 < y % w → 0 < w → (0 < y) × ((y - 1) / w ≡ y / w)
-row-before w y some pos =
-    let d = div-add-mod' y w in
-    let lt = mod-lt y pos in
-    let e : y - 1 ≡ y / w * w + (y % w - 1) = omega arith in
-    (omega arith, ap (λ (k : ℕ). k / w) e ∙ digits-div (y / w) (omega arith))
 
 -- the whole sheet, in the code's numbers
 module _ (n y : ℕ) (top : n ≤ topLevel) (lt : y < 2 ^ n) where

@@ -1,8 +1,7 @@
--- Numbering along a row: a leaf's pixels in the row are met at once, in its first row, and passed as they are in the others; a fork's are those of the two sons
--- that the row crosses, the western first.
+-- Numbering along a row: a leaf's pixels in the row are met at once; a fork's are those of the two sons that the row crosses, the western first.
 use mathlib.Core.Bool.{true, false}
 use mathlib.Core.List.{List}
-use mathlib.Core.Path.{_≡_, refl, ap, sym, _∙_}
+use mathlib.Core.Path.{_≡_, ap, sym, _∙_}
 use Prim.Native.Nat.{ℕ, suc, _+_, _-_, _*_, _/_, _%_, _^_, _≤_, _<_}
 use native.Mathlib.Nat.{add-mul, one-mul, zero-mul, div-eq-of-lt}
 use native.Mathlib.Omega.{arith}
@@ -20,9 +19,9 @@ use Rattle.table.proofs.HolderLaws.{path-son}
 use Rattle.joins.specs.Led.{Led}
 use Rattle.register.specs.Entries.{leafAt}
 use Rattle.ponds.specs.Counted.{metCount, metWords, Meets, Met, Counting, startOf, partAbove, Crossed, Reached, Passes}
-use Rattle.ponds.proofs.PartLaws.{part-half, part-rest, part-side, part-some, row-before}
+use Rattle.ponds.proofs.PartLaws.{part-half, part-rest, part-side}
 use Rattle.ponds.proofs.LeafLaws.{leaf-along}
-use Rattle.ponds.proofs.CountedLaws.{counted-none, counted-few, passed-more, met-leaf}
+use Rattle.ponds.proofs.CountedLaws.{counted-none, counted-few, met-leaf}
 
 -- the root is crossed by every row, which begins where the row does
 pub crossed-root : {n : ℕ} {T : List ℕ} → Accepted n T → (y above : ℕ) → y < 2 ^ n → above ≡ partAbove n y → Crossed n T 0 n y above
@@ -33,21 +32,13 @@ pub start-root : (n : ℕ) (T : List ℕ) (y : ℕ) → startOf n T 0 y ≡ y * 
 unfolding startOf column
 start-root n T y = rw (startOf, path-root T n) (omega arith)
 
--- a row begins after the one above
-start-above : (n : ℕ) (T : List ℕ) (p y : ℕ) → 0 < y → startOf n T p (y - 1) + 0 < startOf n T p y
-unfolding startOf
-start-above n T p y pos =
-    let e : y - 1 + 1 ≡ y = omega arith in
-    let m : y * 2 ^ n ≡ (y - 1) * 2 ^ n + 2 ^ n = rw (add-mul (y - 1) 1 (2 ^ n), one-mul (2 ^ n)) at (ap (λ (k : ℕ). k * 2 ^ n) (sym e)) in
-    omega (arith, m, pow-pos n)
-
 module _ {n : ℕ} {T : List ℕ} {p l y above : ℕ} (h : Crossed n T p l y above) where
   -- a leaf's pixels in a row that crosses its block
-  along : (v : ℕ) → isFork T p ≡ false → v / 2 ^ l ≡ y / 2 ^ l → (j : ℕ) → j < 2 ^ l → leafAt n T (startOf n T p v + j) ≡ p
+  along : isFork T p ≡ false → (j : ℕ) → j < 2 ^ l → leafAt n T (startOf n T p y + j) ≡ p
   unfolding startOf
-  along v f e j lt =
-      let s : v * 2 ^ n + leftOf n T p + j ≡ v * 2 ^ n + (leftOf n T p + j) = omega arith in
-      rw s (leaf-along n T (h .place .accepted) p l v j (h .place) f (e ∙ h .down) lt)
+  along f j lt =
+      let s : y * 2 ^ n + leftOf n T p + j ≡ y * 2 ^ n + (leftOf n T p + j) = omega arith in
+      rw s (leaf-along n T (h .place .accepted) p l y j (h .place) f (h .down) lt)
 
   -- a leaf that is met
   counting-leaf : {W : List ℕ} {k : ℕ} → isFork T p ≡ false → Counting n T W (startOf n T p y) k
@@ -55,22 +46,8 @@ module _ {n : ℕ} {T : List ℕ} {p l y above : ℕ} (h : Crossed n T p l y abo
   counting-leaf {W} {k} f c = record {
     first = c .first;
     led = c .led;
-    counted = met-leaf n T (c .first) (c .led) W (startOf n T p y) k p (2 ^ l) (c .counted) (h .place .node) (pow-pos l) (along y f refl);
+    counted = met-leaf n T (c .first) (c .led) W (startOf n T p y) k p (2 ^ l) (c .counted) (h .place .node) (pow-pos l) (along f);
   }
-
-  -- a leaf that was met in the row above
-  counting-old : {W : List ℕ} {k : ℕ} → isFork T p ≡ false → (above ≡ 0 → ⊥) → Counting n T W (startOf n T p y) k
-      → Counting n T W (startOf n T p y + 2 ^ l) k
-  counting-old {W} {k} f z c =
-      let u = row-before (2 ^ l) y (part-some l y (λ e. z (h .part ∙ e))) (pow-pos l) in
-      let is = along (y - 1) f (u .1) 0 (pow-pos l) in
-      record {
-        first = c .first;
-        led = c .led;
-        counted = passed-more n T (c .first) (c .led) W (startOf n T p y) k p (2 ^ l) (c .counted)
-            (λ w. rw is at (c .counted .met (startOf n T p (y - 1) + 0) (start-above n T p y (u .0)) (rw is w)))
-            (along y f refl);
-      }
 
   -- a fork's sons that the row crosses are its northern or its southern ones
   module _ (f : isFork T p ≡ true) where
@@ -185,13 +162,9 @@ module _ {T : List ℕ} {p above q west east part : ℕ} (f : isFork T p ≡ tru
           },
         )
 
--- a leaf is met, or was met
-module _ {T W : List ℕ} {p above k : ℕ} (f : isFork T p ≡ false) where
-  pub row-leaf : {W₁ : List ℕ} {r : ℕ} → Met T W p k r W₁ → Passes T p above W k W₁ r
-  row-leaf m = record { on = λ n l y h c. rw (m .count, m .words) (counting-leaf h f c) }
-
-  pub row-old : (above ≡ 0 → ⊥) → Passes T p above W k W k
-  row-old some = record { on = λ n l y h c. counting-old h f some c }
+-- a leaf is met
+pub row-leaf : {T W W₁ : List ℕ} {p above k r : ℕ} → isFork T p ≡ false → Met T W p k r W₁ → Passes T p above W k W₁ r
+row-leaf f m = record { on = λ n l y h c. rw (m .count, m .words) (counting-leaf h f c) }
 
 -- what meeting leaf p asks for
 pub meets : {T W : List ℕ} {p above k : ℕ} → Reached T W p above k → Meets T W p k

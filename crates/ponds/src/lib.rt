@@ -97,18 +97,8 @@ fn western(above: u32) -> usize
     2 * (above >> 31) as usize
 }
 
-// Meets leaf p, which a row crosses: where a part of it lies above the row, it was met in the row before.
-fn leaf_row(table: &[u32], words: &mut [u32], p: usize, above: u32, count: u32) -> u32
-    requires { ⌜ Reached (now table) (now words) p above count × (isFork (now table) p ≡ false) ⌝ }
-    ensures { λ r. ⌜ Passes (now (table .entry)) p above (now (words .entry)) count (now (words .exit)) r ⌝ }
-{
-    if above != 0 {
-        return count;
-    }
-    meet(&*table, words, p, count)
-}
-
-// Meets the leaves that a row crosses under node p, from west to east: those under the western half of each fork, on the way down the eastern halves.
+// Meets the leaves that a row crosses under node p, from west to east: those under the western half of each fork, on the way down the eastern halves. One that
+// was met in the row before is met again, which changes nothing.
 fn row(table: &[u32], words: &mut [u32], p: usize, above: u32, count: u32) -> u32
     requires { ⌜ Reached (now table) (now words) p above count ⌝ }
     ensures { λ r. ⌜ Passes (now (table .entry)) p above (now (words .entry)) count (now (words .exit)) r ⌝ }
@@ -124,7 +114,7 @@ fn row(table: &[u32], words: &mut [u32], p: usize, above: u32, count: u32) -> u3
         met = west_row(&*table, words, west, part, met);
         node = east;
     }
-    leaf_row(&*table, words, node, part, met)
+    meet(&*table, words, node, met)
 }
 
 // The same; a leaf takes no walk.
@@ -135,7 +125,7 @@ fn west_row(table: &[u32], words: &mut [u32], p: usize, above: u32, count: u32) 
     if word_at(table, p, 5) == quad::FORK {
         return row(&*table, words, p, above, count);
     }
-    leaf_row(&*table, words, p, above, count)
+    meet(&*table, words, p, count)
 }
 
 // Meets the leaves of the rows, from the top, until each leader has its number. Gives the count.

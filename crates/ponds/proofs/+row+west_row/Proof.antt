@@ -9,14 +9,14 @@ use borrow.Author.Tests.{eq-eqb, ne-eqb}
 use borrow.Fn.Kinds.{In}
 use borrow.Fn.PlainCycle.{Measures, is, falls, and}
 use Rattle.quad.specs.Numbers.{maxWords}
-use Rattle.ponds.proofs.RowLaws.{part-below, Onward, onward-none, to-west, to-east}
+use Rattle.ponds.proofs.RowLaws.{part-below, Onward, onward-none, to-west, to-east, row-leaf, meets}
 use Rattle.ponds.proofs.row.Reads as row
 use Rattle.ponds.proofs.row.Kinds as row-kinds
 use Rattle.ponds.proofs.+row+west_row.Lts-row as row-lts
 use Rattle.ponds.proofs.west_row.Reads as west-row
 use Rattle.ponds.proofs.west_row.Kinds as west-row-kinds
 use Rattle.ponds.proofs.+row+west_row.Lts-west_row as west-row-lts
-use Rattle.ponds.proofs.leaf_row.Reads as leaf-row-reads
+use Rattle.ponds.proofs.meet.Reads as meet-reads
 use Rattle.ponds.proofs.western.Reads as western-reads
 use Rattle.table.proofs.word_at.Reads as word-at-reads
 use Rattle.ponds.proofs.+row+west_row.{statement}
@@ -56,12 +56,12 @@ in-row t = (
   western-reads.Learnt,
   west-row-below t,
   west-row.Post,
-  leaf-row-reads.Asked,
-  leaf-row-reads.Learnt,
+  meet-reads.Asked,
+  meet-reads.Learnt,
 )
 
 abbrev in-west-row : ℕ → west-row-lts.Claims
-in-west-row t = (word-at-reads.Asked, word-at-reads.Learnt, row-below t, row.Post, leaf-row-reads.Asked, leaf-row-reads.Learnt)
+in-west-row t = (word-at-reads.Asked, word-at-reads.Learnt, row-below t, row.Post, meet-reads.Asked, meet-reads.Learnt)
 
 module _ (t : ℕ) where
   row-loop-holds : row-lts.Need-loop-holds (in-row t) (row-at t) row.Post Inv-loop μ-loop
@@ -121,16 +121,17 @@ module _ (t : ℕ) where
       let s = to-east fork (q .western .ensures) (east .before .word-at2 .ensures) (east .word-at3 .ensures) refl (v .1) (west .west-row .ensures) in
       (west .west-row .kept .1 .0 ∙ v .0, s .1)
 
-  row-leaf-row-requires : row-lts.Need-leaf-row-requires (in-row t) (row-at t) row.Post Inv-loop μ-loop
-  row-leaf-row-requires c κs =
-      let kind = c .before .before in
-      (kind .before .loop .inv .1 .reached, ne-eqb _ _ (λ e. c .before .if1 .left (kind .word-at .ensures ∙ e)))
+  row-meet-requires : row-lts.Need-meet-requires (in-row t) (row-at t) row.Post Inv-loop μ-loop
+  row-meet-requires c κs = meets (c .before .before .before .loop .inv .1 .reached)
 
   row-same-length : row-lts.Need-same-length (in-row t) (row-at t) row.Post Inv-loop μ-loop
-  row-same-length c = c .before .before .leaf-row .kept .1 .0 ∙ c .before .before .before .before .before .before .loop .inv .0
+  row-same-length c = c .before .before .meet .kept .1 .0 ∙ c .before .before .before .before .before .before .loop .inv .0
 
   row-returns : row-lts.Need-returns (in-row t) (row-at t) row.Post Inv-loop μ-loop
-  row-returns c = c .before .before .before .before .before .before .loop .inv .1 .whole _ _ (c .before .before .leaf-row .ensures)
+  row-returns c =
+      let kind = c .before .before .before .before .before in
+      let leaf = ne-eqb _ _ (λ e. c .before .before .before .before .if1 .left (kind .word-at .ensures ∙ e)) in
+      kind .before .loop .inv .1 .whole _ _ (row-leaf leaf (c .before .before .meet .ensures))
 
   west-word-at-requires : west-row-lts.Need-word-at-requires (in-west-row t) (west-row-at t) west-row.Post
   west-word-at-requires c κs = (c .before .before .pre .1 .crossed .place .node, omega arith)
@@ -146,16 +147,16 @@ module _ (t : ℕ) where
   west-returns : west-row-lts.Need-returns (in-west-row t) (west-row-at t) west-row.Post
   west-returns c = c .before .before .row .ensures
 
-  west-leaf-row-requires : west-row-lts.Need-leaf-row-requires (in-west-row t) (west-row-at t) west-row.Post
-  west-leaf-row-requires c κs =
-      let kind = c .before .before in
-      (kind .before .before .before .pre .1, ne-eqb _ _ (λ e. c .before .if1 .left (kind .word-at .ensures ∙ e)))
+  west-meet-requires : west-row-lts.Need-meet-requires (in-west-row t) (west-row-at t) west-row.Post
+  west-meet-requires c κs = meets (c .before .before .before .before .before .pre .1)
 
   west-same-length-2 : west-row-lts.Need-same-length-2 (in-west-row t) (west-row-at t) west-row.Post
-  west-same-length-2 c = c .before .before .leaf-row .kept .1 .0
+  west-same-length-2 c = c .before .before .meet .kept .1 .0
 
   west-returns-2 : west-row-lts.Need-returns-2 (in-west-row t) (west-row-at t) west-row.Post
-  west-returns-2 c = c .before .before .leaf-row .ensures
+  west-returns-2 c =
+      let kind = c .before .before .before .before .before in
+      row-leaf (ne-eqb _ _ (λ e. c .before .before .before .before .if1 .left (kind .word-at .ensures ∙ e))) (c .before .before .meet .ensures)
 
 pub +row+west-row-spec : {M : Type 1} → statement M
 +row+west-row-spec =
@@ -171,7 +172,7 @@ pub +row+west-row-spec : {M : Type 1} → statement M
     (row-west-row-requires t)
     (row-loop-less t)
     (row-loop-again t)
-    (row-leaf-row-requires t)
+    (row-meet-requires t)
     (row-same-length t)
     (row-returns t))
     (λ t. west-row-lts.spec (in-west-row t) (west-row-at t) west-row.Post
@@ -179,6 +180,6 @@ pub +row+west-row-spec : {M : Type 1} → statement M
     (west-row-requires t)
     (west-same-length t)
     (west-returns t)
-    (west-leaf-row-requires t)
+    (west-meet-requires t)
     (west-same-length-2 t)
     (west-returns-2 t))

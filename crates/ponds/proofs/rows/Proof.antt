@@ -3,6 +3,7 @@ use mathlib.Core.Path.{_≡_, refl, _∙_}
 use Prim.Native.Nat.{_*_, _-_, _^_, _≤_}
 use native.Mathlib.Omega.{arith}
 use lib.ListN.{length}
+use lib.Pow.{pow-pos}
 use borrow.Author.Needs.{needs}
 use Rattle.ponds.specs.Counted.{leaders, Counting, startOf, Crossed}
 use Rattle.ponds.proofs.LeaderLaws.{fresh, rows-enough}
@@ -26,7 +27,7 @@ leaders-requires c κs = let h = c .before .before .before .before .pre in fresh
 loop-holds : tie.Need-loop-holds Inv-loop μ-loop
 loop-holds c =
     let side = c .before .before in
-    (omega arith, side .side .ensures, refl, c .leaders .ensures, rows-none (side .before .before .before .pre .1))
+    (omega (arith, side .side .ensures, pow-pos (side .before .before .before .args .n)), side .side .ensures, refl, c .leaders .ensures, rows-none (side .before .before .before .pre .1))
 
 same-length : tie.Need-same-length Inv-loop μ-loop
 same-length c = c .before .before .loop .inv .2
