@@ -153,7 +153,7 @@ fn pass_fork(table: &[u32], numbers: &[u32], reg: &mut [u32], p: usize, b: Block
     ensures { λ _. ⌜ Entered (now (table .entry)) (now (numbers .entry)) p b (now (reg .entry)) (now (reg .exit)) ⌝ }
 {
     if b.level == 1 {
-        pass_pixels(table, numbers, reg, p, b);
+        pass_pixels(&*table, &*numbers, reg, p, b);
         return;
     }
     let mut q = 0;
@@ -162,7 +162,7 @@ fn pass_fork(table: &[u32], numbers: &[u32], reg: &mut [u32], p: usize, b: Block
         let its = part(b, q);
         q += 1;
         if word_at(table, son, 5) == quad::FORK {
-            pass_fork(table, numbers, reg, son, its);
+            pass_fork(&*table, &*numbers, reg, son, its);
         } else {
             pass(numbers, reg, son, its);
         }
