@@ -71,7 +71,8 @@ struct line {
     double units, work;
 };
 
-static struct input input;
+/* The sheets of a line, and those of n = 4 that they are held against. */
+static struct input input, early_input;
 
 /* ---- the rivals */
 
@@ -157,6 +158,15 @@ static uint64_t run_by_rows(const void *in)
 static uint64_t run_in_place(const void *in)
 {
     return put_all(in, &in_place_calls);
+}
+
+/* A rival on the early sheets, whatever it is handed. */
+static rival *rival_of_early;
+
+static uint64_t run_early(const void *in)
+{
+    (void)in;
+    return rival_of_early(&early_input);
 }
 
 /* The rivals of a call, and which of them stand in its lines beside plain C and the
@@ -253,21 +263,25 @@ static void print_line(enum call call, const char *where, uint32_t level, const 
     fflush(stdout);
 }
 
-static double growth(const struct line *late, const struct line *early, int rival)
+/* How much longer a rival takes for a node or a pixel on the line's sheets than on the
+ * early ones: both in turns, as a machine that changes its pace would spoil it. */
+static double growth(rival *run, double work, double early_work)
 {
-    return late->times.taken[rival] / late->work / (early->times.taken[rival] / early->work);
+    rival *pair[] = {run, run_early};
+    rival_of_early = run;
+    return race(&input, pair, 2).first_to[1] * early_work / work;
 }
 
 /* How much longer a node or a pixel takes at n = 7 than at n = 4. */
-static void print_growth(enum call call, const char *where, const struct line *late, const struct line *early)
+static void print_growth(enum call call, const struct kind *kind, const struct line *late, const struct line *early)
 {
-    printf("%-18s n 7/4 %6s %8.2f %8.2f %8.2f", where, "", growth(late, early, PROVED), growth(late, early, PLAIN),
-           growth(late, early, FLOOR));
-    if (call == CALL_DISTANCE)
-        printf(" %17s %8.2f %8s %8.2f %8s %8.2f", "", growth(late, early, FLOOR + 1), "", growth(late, early, FLOOR + 2), "",
-               growth(late, early, FLOOR + 3));
-    if (call == CALL_PONDS)
-        printf(" %17s %8.2f", "", growth(late, early, FLOOR + 1));
+    const struct field *f = field_of(call);
+    input_draw(&early_input, call, kind->pictures, EARLY, 0);
+    printf("%-18s n 7/4 %6s", kind->name, "");
+    for (int rival = PROVED; rival <= FLOOR; rival++)
+        printf(" %8.2f", growth(f->rivals[rival], late->work, early->work));
+    for (size_t i = 0; i < f->also && !call_searches(call); i++)
+        printf(" %*s %8.2f", i == 0 ? 17 : 8, "", growth(f->rivals[FLOOR + 1 + i], late->work, early->work));
     printf("\n");
 }
 
@@ -338,7 +352,7 @@ static int time_kind(enum call call, const struct kind *kind, struct summary *s)
     for (uint32_t level = LOWEST; level <= HIGHEST; level++)
         if (!time_line(call, kind, level, 0, s, &line[level]))
             return 0;
-    print_growth(call, kind->name, &line[HIGHEST], &line[EARLY]);
+    print_growth(call, kind, &line[HIGHEST], &line[EARLY]);
     if (call_searches(call) && kind->pictures == PICTURE_LONE_PIXEL)
         print_search(&line[HIGHEST]);
     return call == CALL_BUILD || call == CALL_READ || time_line(call, kind, HIGHEST, 1, s, &at_random);
