@@ -1,4 +1,4 @@
-// The types of the largest blocks of a raster, noted in slots, and their nodes counted on the way: each pixel is read once.
+// The types of the largest blocks of a raster, noted in slots, and their nodes counted on the way: a pixel is looked at once for the types of all levels.
 ghost use mathlib.Core.Path.{_≡_};
 ghost use Prim.Native.Nat.{_+_, _-_, _*_, _≤_, _<_, _^_};
 ghost use lib.ListN.{length, set};
