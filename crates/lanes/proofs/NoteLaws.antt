@@ -150,7 +150,7 @@ joined-like a b c d =
     (λ (f : eqb a forkType ≡ false). rw f (alike-or a (eqb a b) (eqb a c) (eqb a d)))
     (by-bool (eqb a forkType))
 
-twice : (l : ℕ) → 0 < l → 2 ^ l ≡ 2 * 2 ^ (l - 1)
+pub twice : (l : ℕ) → 0 < l → 2 ^ l ≡ 2 * 2 ^ (l - 1)
 twice zero pos = absurd (omega arith)
 twice (suc m) pos =
     let e : suc m - 1 ≡ m = omega arith in

@@ -2,7 +2,7 @@
 use mathlib.Core.List.{List}
 use mathlib.Core.Path.{_≡_, refl, ap, sym, _∙_}
 use Prim.Native.Nat.{ℕ, suc, _+_, _-_, _*_, _/_, _%_, _^_, _≤_, _<_}
-use native.Mathlib.Nat.{add-mul, mul-assoc, mul-left-comm, pow-succ', pow-le-pow-right}
+use native.Mathlib.Nat.{add-mul, mul-assoc, mul-left-comm, pow-le-pow-right}
 use native.Mathlib.Omega.{arith}
 use lib.ListN.{getD}
 use Rattle.base.proofs.PowLaws.{four-pow}
@@ -14,7 +14,7 @@ use Rattle.lanes.specs.Lanes.{window, kindOf}
 use Rattle.lanes.specs.Notes.{slotsOf, partAt, Noted, Lies}
 use Rattle.lanes.proofs.WindowLaws.{window-tree}
 use Rattle.lanes.proofs.TellLaws.{told-kind, told-pixels, told-sixteen}
-use Rattle.lanes.proofs.NoteLaws.{slots-fit, slots-part, slots-four, times-below, noted-own}
+use Rattle.lanes.proofs.NoteLaws.{twice, slots-fit, slots-part, slots-four, times-below, noted-own}
 use Rattle.raster.specs.Raster.{pictureOf}
 use Rattle.raster.specs.Blocks.{Picture}
 use Rattle.raster.specs.Kinds.{Known}
@@ -60,11 +60,6 @@ small-two n R pic lt z e = omega (arith, fork-pos n n 0 0 R pic e, other)
   where
     other : n ≡ 1 → ⊥
     other = z
-
-twice : (l : ℕ) → 0 < l → 2 ^ l ≡ 2 * 2 ^ (l - 1)
-twice l pos =
-    let e : l ≡ suc (l - 1) = omega arith in
-    ap (λ (k : ℕ). 2 ^ k) e ∙ pow-succ' 2 (l - 1)
 
 -- where a quarter begins
 part-place : (l x y q w : ℕ) → 0 < l → partAt w (y * 2 ^ l * w + x * 2 ^ l) (2 ^ (l - 1)) q ≡ (2 * y + q / 2) * 2 ^ (l - 1) * w + (2 * x + q % 2) * 2 ^ (l - 1)
