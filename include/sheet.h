@@ -599,10 +599,10 @@ uint64_t sheet_distance(uint32_t n, const uint32_t *table, size_t table_len, uin
  *            may be NULL; the answer is then a refusal, or SHEET_OK with value 0
  *            for a sheet that has no black pixel.
  * Cost:      sheet_check's; a pass down the sheet that joins each black leaf with
- *            those to its east and to its south, down the near edge of a grey
- *            block there; a way along the rows from leaf to leaf until each pond
- *            has its number; and a pass that enters each black leaf. No memory
- *            that grows with N.
+ *            those to its north and to its west, which two lines of 128 words tell;
+ *            a pass that numbers the ponds, only where one begins; one along the
+ *            numbers; and a pass that enters each black leaf. No memory that grows
+ *            with N.
  *
  * Example: the table of sheet_check's example, which is called 'table'.
  *

@@ -25,9 +25,9 @@ use Rattle.table.specs.Rules.{depthTo, allOf, typeOk, fatherOk, onceOk, sonOk, 
 use Rattle.table.specs.Nodes.{holder, pixel}
 use Rattle.table.specs.SheetA.{tableA}
 use Rattle.neighbour.proofs.SmallestLaws.{holder-contains}
-use Rattle.joins.specs.Chain.{Chain, end}
-use Rattle.joins.specs.Led.{wordOf}
-use Rattle.joins.proofs.ChainLaws.{chain-start, chain-end}
+use Rattle.chains.specs.Chain.{Chain, end}
+use Rattle.chains.specs.Words.{wordOf}
+use Rattle.chains.proofs.ChainLaws.{chain-start, chain-end}
 use Rattle.register.specs.declared.Pond.{Pond}
 use Rattle.register.specs.Entries.{leafAt, numberAt, entryOf, entries, entriesFrom, wordsOf}
 use Rattle.ponds.specs.Numbered.{Numbered}

@@ -1,22 +1,19 @@
 -- The black leaves are counted node by node; the register has room for as many.
-use mathlib.Core.Bool.{Bool, false, not}
 use mathlib.Core.List.{List}
 use mathlib.Core.Path.{_≡_, refl}
-use Prim.Native.Nat.{ℕ, zero, suc, _+_, _*_, _≤_, _<_}
-use native.Mathlib.Nat.{mul-le-mul-right}
+use Prim.Native.Nat.{ℕ, suc, _+_, _*_, _≤_, _<_}
+use native.Mathlib.Nat.{le-trans, mul-le-mul, mul-le-mul-left}
 use native.Mathlib.Omega.{arith}
 use lib.Dec.{eqb}
 use borrow.Author.Tests.{lt-ltb, le-ltb}
 use Rattle.base.specs.Tab.{sum}
 use Rattle.base.proofs.CaseLaws.{cond-case}
-use Rattle.answer.specs.declared.Outcome.{Outcome}
 use Rattle.answer.specs.declared.Outcome.the-variants.{Answered, NoRoom}
-use Rattle.answer.specs.Numbers.{answers}
-use Rattle.answer.proofs.OutcomeLaws.{then-go}
-use Rattle.quad.specs.Numbers.{black, maxWords}
+use Rattle.answer.specs.Numbers.{room}
+use Rattle.quad.specs.Numbers.{black}
 use Rattle.table.specs.Table.{nodes, type}
-use Rattle.table.specs.Rules.{one, eachNodeOf, Accepted}
-use Rattle.ponds.specs.Calls.{blackLeaves, pondsTest}
+use Rattle.table.specs.Rules.{one}
+use Rattle.ponds.specs.Calls.{blackLeaves, mostBlack}
 
 -- among the first p nodes
 abbrev pub blackTo : List ℕ → ℕ → ℕ
@@ -43,24 +40,17 @@ pub black-all : (T : List ℕ) (all p count : ℕ) → all ≡ nodes T → all �
 unfolding blackLeaves
 black-all T all p count e low high h = let at : p ≡ nodes T = omega arith in rw at at h
 
--- there are no more of them than nodes, so what they need of a register is small
-black-few : (T : List ℕ) (p : ℕ) → blackTo T p ≤ p
-black-few T zero = omega (arith, black-none T)
-black-few T (suc p) = omega (arith, next (λ q. one (eqb (type T q) black)) p, black-few T p, black-one T p _ refl)
+-- what they need of a register is small
+pub need-few : (T : List ℕ) (wide count : ℕ) → blackLeaves T ≤ mostBlack → wide ≤ 5 → count ≡ blackLeaves T → wide * count ≤ 5 * mostBlack
+need-few T wide count most w e = mul-le-mul {n₂ = 5} {m₂ = mostBlack} w (rw e most)
 
-pub need-few : (n : ℕ) (T : List ℕ) (wide count : ℕ) → Accepted n T → wide ≤ 5 → count ≡ blackLeaves T → wide * count ≤ maxWords
-unfolding blackLeaves
-need-few n T wide count acc w e =
-    let few : count ≤ nodes T = rw e (black-few T (nodes T)) in
-    omega (arith, mul-le-mul-right count w, acc .sized .few, acc .sized .whole)
+-- the test for room; where there is room for the most that a sheet can have, it passes whatever their count
+module _ (T : List ℕ) (wide have : ℕ) where
+  pub room-for-most : blackLeaves T ≤ mostBlack → wide * mostBlack ≤ have → Answered 0 ≡ room (wide * blackLeaves T) have
+  room-for-most most l = rw (le-ltb have (wide * blackLeaves T) (le-trans (mul-le-mul-left wide most) l))
 
--- the test for room
-module _ (n : ℕ) (T : List ℕ) (words wide count have : ℕ) (s : Outcome) (u : Bool) (e : s ≡ eachNodeOf n T words) (a : u ≡ answers s) (h : not u ≡ false)
-    (c : count ≡ blackLeaves T) where
-  pub no-room : have < wide * count → NoRoom (wide * count) ≡ pondsTest n T words (wide * blackLeaves T) have
-  unfolding pondsTest
-  no-room l = then-go (eachNodeOf n T words) s _ u e a _ h (rw (← c, lt-ltb have (wide * count) l))
+  pub no-room : (count : ℕ) → count ≡ blackLeaves T → have < wide * count → NoRoom (wide * count) ≡ room (wide * blackLeaves T) have
+  no-room count e l = rw (← e, lt-ltb have (wide * count) l)
 
-  pub all-passed : wide * count ≤ have → Answered 0 ≡ pondsTest n T words (wide * blackLeaves T) have
-  unfolding pondsTest
-  all-passed l = then-go (eachNodeOf n T words) s _ u e a _ h (rw (← c, le-ltb have (wide * count) l))
+  pub all-passed : (count : ℕ) → count ≡ blackLeaves T → wide * count ≤ have → Answered 0 ≡ room (wide * blackLeaves T) have
+  all-passed count e l = rw (← e, le-ltb have (wide * count) l)

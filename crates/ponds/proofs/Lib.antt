@@ -6,9 +6,5 @@ pub mod FewPonds
 pub mod CallLaws
 pub mod PictureLaws
 pub mod LongestRegister
-pub mod CountedLaws
-pub mod LeaderLaws
-pub mod PartLaws
-pub mod RowLaws
-pub mod SettledLaws
-pub mod MeetLaws
+pub mod RankedLaws
+pub mod OneLeafLaws

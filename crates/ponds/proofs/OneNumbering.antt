@@ -18,8 +18,8 @@ use Rattle.quad.specs.Numbers.{black}
 use Rattle.table.specs.Table.{nodes, type}
 use Rattle.table.specs.Rules.{Accepted}
 use Rattle.table.specs.Nodes.{pixel}
-use Rattle.joins.specs.Chain.{Water, Chain}
-use Rattle.joins.specs.Led.{wordOf}
+use Rattle.chains.specs.Chain.{Water, Chain}
+use Rattle.chains.specs.Words.{wordOf}
 use Rattle.register.specs.Entries.{leafAt, numberAt}
 use Rattle.ponds.specs.Numbered.{Numbered}
 use Rattle.ponds.proofs.LeafLaws.{black-leaf, leaf-node, leaf-pixel}

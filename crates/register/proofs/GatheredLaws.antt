@@ -1,4 +1,5 @@
--- The entries of all ponds: a block changes that of its own number alone, or none. So does a node passed.
+-- The entries of all ponds, where one changes, or none. So it is with a node passed.
+use mathlib.Core.Bool.{cond}
 use mathlib.Core.List.{List, _∷_}
 use mathlib.Core.Path.{_≡_, refl, ap, ap₂, sym, _∙_}
 use Prim.Native.Nat.{ℕ, zero, suc, _+_, _*_, _^_, _≤_, _<_}
@@ -10,14 +11,17 @@ use lib.ListN.{length, getD, set, replicate}
 use borrow.Author.Tests.{eq-eqb, ne-eqb}
 use Rattle.base.proofs.CaseLaws.{cond-case}
 use Rattle.quad.specs.Numbers.{topLevel}
-use Rattle.table.specs.declared.block.Block.{Block}
 use Rattle.table.specs.Table.{nodes}
 use Rattle.table.specs.Blocks.{blockOf}
 use Rattle.table.proofs.BlockLaws.{on-sheet}
 use Rattle.register.specs.declared.Pond.{Pond}
 use Rattle.register.specs.Entries.{entryOf, entriesFrom}
-use Rattle.register.specs.Gathered.{emptyPond, grownOf, grownAt, Fitting, gathered, pondsFrom, gatherings, Numbers}
+use Rattle.register.specs.Gathered.{emptyPond, grownOf, Fitting, gathered, pondsFrom, gatherings, Numbers}
 use Rattle.register.proofs.GrownLaws.{square-small}
+
+-- the ponds' entries where pond k's has changed
+abbrev pub changedAt : ℕ → (Pond → Pond) → (ℕ → Pond) → ℕ → Pond
+changedAt k g E j = cond (eqb k j) (g (E j)) (E j)
 
 module _ (E : ℕ → Pond) where
   pub ponds-length : (count k : ℕ) → length (pondsFrom E count k) ≡ count
@@ -38,34 +42,34 @@ module _ (E : ℕ → Pond) where
   ponds-same F zero k h = refl
   ponds-same F (suc count) k h = ap₂ _∷_ (h k (omega arith)) (ponds-same F count (k + 1) (λ j l. h j (omega arith)))
 
-  -- a block of a number below theirs
-  below-all : (j : ℕ) (b : Block) (count k : ℕ) → j < k → pondsFrom (grownAt j b E) count k ≡ pondsFrom E count k
+  -- a change of an entry whose number is below theirs
+  below-all : (j : ℕ) (g : Pond → Pond) (count k : ℕ) → j < k → pondsFrom (changedAt j g E) count k ≡ pondsFrom E count k
   unfolding pondsFrom
-  below-all j b zero k h = refl
-  below-all j b (suc count) k h = ap₂ _∷_ (rw (ne-eqb j k (λ e. omega arith))) (below-all j b count (k + 1) (omega arith))
+  below-all j g zero k h = refl
+  below-all j g (suc count) k h = ap₂ _∷_ (rw (ne-eqb j k (λ e. omega arith))) (below-all j g count (k + 1) (omega arith))
 
-  -- a block of one of their numbers
-  one-of : (j : ℕ) (b : Block) (count k i : ℕ) → i < count → j ≡ k + i
-      → pondsFrom (grownAt j b E) count k ≡ set (pondsFrom E count k) i (grownOf (E (k + i)) b)
+  -- of one that is theirs
+  one-of : (j : ℕ) (g : Pond → Pond) (count k i : ℕ) → i < count → j ≡ k + i
+      → pondsFrom (changedAt j g E) count k ≡ set (pondsFrom E count k) i (g (E (k + i)))
   unfolding pondsFrom
-  one-of j b zero k i h e = absurd (not-suc-le-zero h)
-  one-of j b (suc count) k zero h e =
+  one-of j g zero k i h e = absurd (not-suc-le-zero h)
+  one-of j g (suc count) k zero h e =
       let z : k + 0 ≡ k = add-zero k in
-      rw z (ap₂ _∷_ (rw (eq-eqb j k (e ∙ z))) (below-all j b count (k + 1) (omega arith)))
-  one-of j b (suc count) k (suc i) h e =
+      rw z (ap₂ _∷_ (rw (eq-eqb j k (e ∙ z))) (below-all j g count (k + 1) (omega arith)))
+  one-of j g (suc count) k (suc i) h e =
       let s : k + suc i ≡ k + 1 + i = omega arith in
-      rw s (ap₂ _∷_ (rw (ne-eqb j k (λ q. omega arith))) (one-of j b count (k + 1) i (omega arith) (e ∙ s)))
+      rw s (ap₂ _∷_ (rw (ne-eqb j k (λ q. omega arith))) (one-of j g count (k + 1) i (omega arith) (e ∙ s)))
 
-  -- a block for ponds 1 to `count`: 0 is no pond's number
-  module _ (j : ℕ) (b : Block) (count : ℕ) where
-    pub grown-none : j ≡ 0 → pondsFrom (grownAt j b E) count 1 ≡ pondsFrom E count 1
-    grown-none e = below-all j b count 1 (omega arith)
+  -- of one of ponds 1 to `count`: 0 is no pond's number
+  module _ (j : ℕ) (g : Pond → Pond) (count : ℕ) where
+    pub changed-none : j ≡ 0 → pondsFrom (changedAt j g E) count 1 ≡ pondsFrom E count 1
+    changed-none e = below-all j g count 1 (omega arith)
 
-    pub grown-one : (i : ℕ) → i < count → j ≡ suc i
-        → pondsFrom (grownAt j b E) count 1 ≡ set (pondsFrom E count 1) i (grownOf (getD (pondsFrom E count 1) i emptyPond) b)
-    grown-one i h e =
+    pub changed-one : (i : ℕ) → i < count → j ≡ suc i
+        → pondsFrom (changedAt j g E) count 1 ≡ set (pondsFrom E count 1) i (g (getD (pondsFrom E count 1) i emptyPond))
+    changed-one i h e =
         let s : 1 + i ≡ suc i = omega arith in
-        rw (ponds-at count 1 i emptyPond h) (one-of j b count 1 i h (e ∙ sym s))
+        rw (ponds-at count 1 i emptyPond h) (one-of j g count 1 i h (e ∙ sym s))
 
 pub empty-ponds : (count k : ℕ) → pondsFrom (λ j. emptyPond) count k ≡ replicate count emptyPond
 unfolding pondsFrom
@@ -85,13 +89,13 @@ module _ (n : ℕ) (T numbers : List ℕ) where
 
   pub gatherings-same : (p count : ℕ) → getD numbers p 0 ≡ 0 → gatherings n T numbers (p + 1) count ≡ gatherings n T numbers p count
   unfolding gathered
-  gatherings-same p count e = rw (add-one p) (grown-none (λ j. gathered n T numbers j p) (getD numbers p 0) (blockOf n T p) count e)
+  gatherings-same p count e = rw (add-one p) (changed-none (λ j. gathered n T numbers j p) (getD numbers p 0) (λ e. grownOf e (blockOf n T p)) count e)
 
   pub gatherings-more : (p count i : ℕ) → i < count → getD numbers p 0 ≡ suc i
       → gatherings n T numbers (p + 1) count
       ≡ set (gatherings n T numbers p count) i (grownOf (getD (gatherings n T numbers p count) i emptyPond) (blockOf n T p))
   unfolding gathered
-  gatherings-more p count i h e = rw (add-one p) (grown-one (λ j. gathered n T numbers j p) (getD numbers p 0) (blockOf n T p) count i h e)
+  gatherings-more p count i h e = rw (add-one p) (changed-one (λ j. gathered n T numbers j p) (getD numbers p 0) (λ e. grownOf e (blockOf n T p)) count i h e)
 
   module _ (count : ℕ) (s : Numbers n T numbers count) where
     -- a node's block has at most a sheet's pixels

@@ -5,6 +5,8 @@ pub mod EntryLaws
 pub mod CountsSum
 pub mod WordLaws
 pub mod FoldLaws
+pub mod FourLaws
 pub mod UnderLaws
+pub mod PixelLaws
 pub mod SliceLaws
 pub mod WalkLaws

@@ -32,7 +32,7 @@ use Rattle.register.specs.declared.Pond.{Pond}
 use Rattle.register.specs.Entries.{entryOf, entries, wordsOf}
 use Rattle.register.specs.Gathered.{emptyPond, grownOf, grownAt, Fitting, Numbers}
 use Rattle.register.specs.Words.{registerOf, passedOf, Passing}
-use Rattle.register.specs.Under.{partOf, Parted, foldUnder, ifHas, pixelsOf, firstRow, lastRow, firstColumn, lastColumn, underOf, together, withUnder, Entering, Entered}
+use Rattle.register.specs.Under.{blockAt, partOf, Parted, foldUnder, ifHas, pixelsOf, firstRow, lastRow, firstColumn, lastColumn, underOf, together, withUnder, Entering, Entered}
 use Rattle.register.proofs.GrownLaws.{first-fits}
 use Rattle.register.proofs.EntryLaws.{same-pond, overNodes, gathered-over, gathered-entry}
 use Rattle.register.proofs.FoldLaws.{fold-leaf, fold-fork, sum-under, least-under, greatest-under}
@@ -151,11 +151,11 @@ module _ (n : ℕ) (T numbers : List ℕ) where
         omega (arith, gained-few z f q (omega arith), few-fold k l (son T p q) (rw e at (son-at z f q h)))
 
 -- a quadrant of a fork's block is its son's
-sheet-block : (n : ℕ) (T : List ℕ) → Accepted n T → _≡_ {A = Block} (record { column = 0; row = 0; level = n }) (blockOf n T 0)
+sheet-block : (n : ℕ) (T : List ℕ) → Accepted n T → blockAt 0 0 n ≡ blockOf n T 0
 unfolding blockOf column row
 sheet-block n T acc = let e : n - 0 ≡ n = omega arith in rw (path-root T n, depth-root T n, e)
 
-part-block : (n : ℕ) (T : List ℕ) (p q : ℕ) → Accepted n T → p < nodes T → isFork T p ≡ true → q < 4 → partOf (blockOf n T p) q ≡ blockOf n T (son T p q)
+pub part-block : (n : ℕ) (T : List ℕ) (p q : ℕ) → Accepted n T → p < nodes T → isFork T p ≡ true → q < 4 → partOf (blockOf n T p) q ≡ blockOf n T (son T p q)
 unfolding blockOf column row
 part-block n T p q acc lt f q4 =
     let d = depth-son n T acc p q lt f q4 in
@@ -173,7 +173,7 @@ module _ {T numbers : List ℕ} {p : ℕ} {b : Block} {words : List ℕ} (z : En
   pub entering-at : AtLevel (z .n) T p (b .level)
   entering-at = record { accepted = z .told .accepted; node = z .node; level = omega (arith, level-of, depth-le T (z .n) p) }
 
-  fits : (k : ℕ) → Fitting (z .E k) b
+  pub fits : (k : ℕ) → Fitting (z .E k) b
   unfolding blockOf
   fits k =
       let on = on-sheet (record { accepted = z .told .accepted; node = z .node }) in
@@ -214,6 +214,14 @@ module _ {T numbers : List ℕ} {p : ℕ} {b : Block} {words : List ℕ} (z : En
   module _ (f : isFork T p ≡ true) where
     pub parted : Parted b
     parted = record { level = fork-above entering-at f; column = fits 0 .column; row = fits 0 .row }
+
+-- its block's level by another name
+module _ {T numbers : List ℕ} {p : ℕ} {b : Block} {words : List ℕ} {l : ℕ} (e : b .level ≡ l) where
+  pub at-level : Entering T numbers p b words → Entering T numbers p (blockAt (b .column) (b .row) l) words
+  at-level z = rw (← e) z
+
+  pub level-entered : {words' : List ℕ} → Entered T numbers p (blockAt (b .column) (b .row) l) words words' → Entered T numbers p b words words'
+  level-entered h = rw (← e) at h
 
 -- a fork p, whose first q sons have been passed
 abbrev pub Gained : List ℕ → List ℕ → ℕ → Block → List ℕ → ℕ → List ℕ → Type 0
@@ -271,9 +279,6 @@ module _ {T numbers : List ℕ} {p : ℕ} {b : Block} {words : List ℕ} (f : is
       ∙ (fork-gives (z .n) T numbers l p k (z .E) f ∙ ap (λ (m : ℕ). withUnder (z .n) T numbers m p (z .E) k) up))
 
 -- the whole sheet, from a cleared register
-abbrev sheetBlock : ℕ → Block
-sheetBlock n = record { column = 0; row = 0; level = n }
-
 module _ {n : ℕ} {T numbers : List ℕ} {count : ℕ} (s : Numbers n T numbers count) where
   empty-with : (k : ℕ) → 0 < k → withUnder n T numbers n 0 (λ j. emptyPond) k ≡ entryOf n T numbers k
   unfolding together entryOf
@@ -282,7 +287,7 @@ module _ {n : ℕ} {T numbers : List ℕ} {count : ℕ} (s : Numbers n T numbers
       (same-pond _ _ (omega arith) (min-eq-right (least-top none _ (4 ^ n))) (omega arith) (min-eq-right (least-top none _ (4 ^ n))) (omega arith))
 
   module _ (old words : List ℕ) (room : 5 * count ≤ length old) (cleared : words ≡ overlay (wordsOf (replicate count emptyPond)) old) where
-    pub sheet-entering : Entering T numbers 0 (sheetBlock n) words
+    pub sheet-entering : Entering T numbers 0 (blockAt 0 0 n) words
     sheet-entering = record {
       n = n;
       count = count;
@@ -298,7 +303,7 @@ module _ {n : ℕ} {T numbers : List ℕ} {count : ℕ} (s : Numbers n T numbers
       room = λ k. omega (arith, pow-le-pow-right {n = 4} (omega arith) {i = n} {j = topLevel} (s .accepted .sized .level));
     }
 
-    pub sheet-filled : (out : List ℕ) → Entered T numbers 0 (sheetBlock n) words out → out ≡ overlay (wordsOf (entries n T numbers count)) old
+    pub sheet-filled : (out : List ℕ) → Entered T numbers 0 (blockAt 0 0 n) words out → out ≡ overlay (wordsOf (entries n T numbers count)) old
     unfolding sheet-entering
     sheet-filled out h =
         h sheet-entering

@@ -16,7 +16,7 @@ use Rattle.register.specs.declared.Pond.{Pond}
 use Rattle.register.specs.Entries.{entryOf, entries, wordsOf}
 use Rattle.register.specs.Gathered.{emptyPond, grownOf, grownAt, Fitting, pondsFrom}
 use Rattle.register.specs.Words.{pondAt, putAt, pondWords, passedOf, Passing, registerOf}
-use Rattle.register.proofs.GatheredLaws.{ponds-length, ponds-at, ponds-same, empty-ponds, entries-ponds, grown-none, grown-one}
+use Rattle.register.proofs.GatheredLaws.{ponds-length, ponds-at, ponds-same, empty-ponds, entries-ponds, changedAt, changed-none, changed-one}
 
 words-length : (es : List Pond) → length (wordsOf es) ≡ 5 * length es
 unfolding wordsOf
@@ -87,6 +87,10 @@ module _ (before : List ℕ) where
       → reg ≡ overlay (wordsOf (replicate count emptyPond)) before
   cleared-all i count reg le ge inv = let e : i ≡ count = omega arith in rw e at inv
 
+-- the number of the node that a word names
+pub named-number : (numbers : List ℕ) (s t : ℕ) → s ≡ t → getD numbers s 0 ≡ getD numbers t 0
+named-number numbers s t e = rw e
+
 -- an entry that is read, grown and written
 pub fitting-read : (e f : Pond) (b : Block) → e ≡ f → Fitting f b → Fitting e b
 fitting-read e f b q h = rw q h
@@ -136,20 +140,25 @@ module _ (count : ℕ) (before : List ℕ) (E : ℕ → Pond) where
       fits = λ pos. rw (register-at k pos h) f;
     }
 
-    pub register-passed : (b : Block) (k : ℕ) → k ≤ count → passedOf b k (registerOf count before E) ≡ registerOf count before (grownAt k b E)
-    unfolding passedOf
-    register-passed b k h =
-        ⊎-elim
-        (λ (z : k ≡ 0). rw (eq-eqb k 0 z) (ap (λ (fs : List Pond). overlay (wordsOf fs) before) (sym (grown-none E k b count z))))
-        (λ (pos : 0 < k).
+    -- pond k's entry read, changed and written
+    pub register-changed : (g : Pond → Pond) (k : ℕ) → 0 < k → k ≤ count
+        → putAt (registerOf count before E) (k - 1) (g (pondAt (registerOf count before E) (k - 1))) ≡ registerOf count before (changedAt k g E)
+    register-changed g k pos h =
         let i : ℕ = k - 1 in
         let lt : i < count = omega arith in
         let there : pondAt (registerOf count before E) i ≡ getD es i emptyPond = overlay-at before es i emptyPond (omega (arith, size)) in
         let e : k ≡ suc i = omega arith in
-        rw (ne-eqb k 0 (λ z. omega arith))
-        (ap (λ (f : Pond). putAt (registerOf count before E) i (grownOf f b)) there
-        ∙ (overlay-put before es i (grownOf (getD es i emptyPond) b) (omega (arith, size))
-        ∙ ap (λ (fs : List Pond). overlay (wordsOf fs) before) (sym (grown-one E k b count i lt e)))))
+        ap (λ (f : Pond). putAt (registerOf count before E) i (g f)) there
+        ∙ (overlay-put before es i (g (getD es i emptyPond)) (omega (arith, size))
+        ∙ ap (λ (fs : List Pond). overlay (wordsOf fs) before) (sym (changed-one E k g count i lt e)))
+
+    pub register-passed : (b : Block) (k : ℕ) → k ≤ count → passedOf b k (registerOf count before E) ≡ registerOf count before (grownAt k b E)
+    unfolding passedOf
+    register-passed b k h =
+        let g : Pond → Pond = λ e. grownOf e b in
+        ⊎-elim
+        (λ (z : k ≡ 0). rw (eq-eqb k 0 z) (ap (λ (fs : List Pond). overlay (wordsOf fs) before) (sym (changed-none E k g count z))))
+        (λ (pos : 0 < k). rw (ne-eqb k 0 (λ z. omega arith)) (register-changed g k pos h))
         (eq-zero-or-pos k)
 
   -- other entries of the same ponds

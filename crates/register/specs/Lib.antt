@@ -1,4 +1,5 @@
 pub mod Entries
 pub mod Gathered
 pub mod Words
+pub mod Four
 pub mod Under

@@ -14,6 +14,10 @@ use Rattle.register.specs.declared.Pond.{Pond}
 use Rattle.register.specs.Gathered.{Numbers}
 use Rattle.register.specs.Words.{registerOf}
 
+-- the block of that column, row and level
+abbrev pub blockAt : ℕ → ℕ → ℕ → Block
+blockAt column row level = record { column = column; row = row; level = level }
+
 -- quadrant q of a block
 abbrev pub partOf : Block → ℕ → Block
 partOf b q = record { column = 2 * b .column + q % 2; row = 2 * b .row + q / 2; level = b .level - 1 }

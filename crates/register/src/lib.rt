@@ -6,11 +6,12 @@ ghost use mathlib.Core.Bool.{true};
 ghost use lib.ListN.{length, getD, replicate};
 ghost use Prim.Native.Nat.{_+_, _*_, _≤_, _<_, min, max};
 ghost use Rattle.base.specs.Tab.{overlay};
-ghost use Rattle.table.specs.Table.{isFork};
+ghost use Rattle.table.specs.Table.{nodes, son, isFork};
 ghost use Rattle.register.specs.Entries.{entries, wordsOf};
 ghost use Rattle.register.specs.Gathered.{emptyPond, grownOf, Fitting, Numbers};
 ghost use Rattle.register.specs.Words.{pondAt, putAt, passedOf, Passing};
-ghost use Rattle.register.specs.Under.{partOf, Parted, Entering, Entered};
+ghost use Rattle.register.specs.Four.{presentOf, eitherOf, alikeOf, grownFour};
+ghost use Rattle.register.specs.Under.{blockAt, partOf, Parted, Entering, Entered};
 
 pub mod slice;
 
@@ -110,15 +111,15 @@ fn grow_at(reg: &mut [u32], i: usize, b: Block)
     put_entry(reg, i, e);
 }
 
-// Quadrant q of a block.
-fn part(b: Block, q: usize) -> Block
-    requires { ⌜ Parted b × (q < 4) ⌝ }
-    ensures { λ r. ⌜ r ≡ partOf b q ⌝ }
+// Quadrant q of the block of that column, row and level.
+fn part(column: u32, row: u32, level: u32, q: usize) -> Block
+    requires { ⌜ Parted (blockAt column row level) × (q < 4) ⌝ }
+    ensures { λ r. ⌜ r ≡ partOf (blockAt column row level) q ⌝ }
 {
     Block {
-        column: 2 * b.column + (q % 2) as u32,
-        row: 2 * b.row + (q / 2) as u32,
-        level: b.level - 1,
+        column: 2 * column + (q % 2) as u32,
+        row: 2 * row + (q / 2) as u32,
+        level: level - 1,
     }
 }
 
@@ -134,35 +135,122 @@ fn pass(numbers: &[u32], reg: &mut [u32], p: usize, b: Block)
     grow_at(reg, number - 1, b);
 }
 
-// Adds the four pixels of a fork of level 1, whose block is given, to the entries of their numbers.
-fn pass_pixels(table: &[u32], numbers: &[u32], reg: &mut [u32], p: usize, b: Block)
-    requires { ⌜ Entering (now table) (now numbers) p b (now reg) × (isFork (now table) p ≡ true) × (b .level ≡ 1) ⌝ }
-    ensures { λ _. ⌜ Entered (now (table .entry)) (now (numbers .entry)) p b (now (reg .entry)) (now (reg .exit)) ⌝ }
+// The number of son q of a fork.
+fn son_number(table: &[u32], numbers: &[u32], p: usize, q: usize) -> u32
+    requires { ⌜ (p < nodes (now table)) × (q < 4) × (son (now table) p q < length (now numbers)) ⌝ }
+    ensures { λ r. ⌜ r ≡ getD (now (numbers .entry)) (son (now (table .entry)) p q) 0 ⌝ }
+{
+    numbers[word_at(table, p, 1 + q)]
+}
+
+// 1 for a pixel that has a number, 0 for one that has none.
+fn present(number: u32) -> u32
+    ensures { λ r. ⌜ (r ≡ presentOf number) × (r ≤ 1) ⌝ }
+{
+    if number == 0 {
+        return 0;
+    }
+    1
+}
+
+// 1 where one of two pixels has a number, else 0.
+fn either(a: u32, b: u32) -> u32
+    ensures { λ r. ⌜ (r ≡ eitherOf a b) × (r ≤ 1) ⌝ }
+{
+    if a == 0 {
+        return present(b);
+    }
+    1
+}
+
+// Whether those of four pixels that have a number all have this one, which is their greatest: so many times it is their sum.
+fn alike(number: u32, nw: u32, ne: u32, sw: u32, se: u32) -> bool
+    ensures { λ r. ⌜ r ≡ alikeOf number nw ne sw se ⌝ }
+{
+    let many = present(nw) + present(ne) + present(sw) + present(se);
+    number as usize * many as usize == nw as usize + ne as usize + sw as usize + se as usize
+}
+
+// The entry with those pixels more that have a number, of the four of a fork of level 1 whose column and row are given.
+fn grown_four(e: Pond, column: u32, row: u32, nw: u32, ne: u32, sw: u32, se: u32) -> Pond
+    requires { ⌜ Fitting e (blockAt column row 1) ⌝ }
+    ensures { λ r. ⌜ r ≡ grownFour e column row nw ne sw se ⌝ }
+{
+    Pond {
+        pixels: e.pixels + (present(nw) + present(ne) + present(sw) + present(se)),
+        top: lower(e.top, 2 * row + 1 - either(nw, ne)),
+        bottom: higher(e.bottom, 2 * row + either(sw, se)),
+        left: lower(e.left, 2 * column + 1 - either(nw, sw)),
+        right: higher(e.right, 2 * column + either(ne, se)),
+    }
+}
+
+// Adds them to entry i of the register.
+fn grow_four(reg: &mut [u32], i: usize, column: u32, row: u32, nw: u32, ne: u32, sw: u32, se: u32)
+    requires { ⌜ (5 * i + 5 ≤ length (now reg)) × Fitting (pondAt (now reg) i) (blockAt column row 1) ⌝ }
+    ensures { λ _. ⌜ now (reg .exit) ≡ putAt (now (reg .entry)) i (grownFour (pondAt (now (reg .entry)) i) column row nw ne sw se) ⌝ }
+{
+    let e = grown_four(entry_at(reg, i), column, row, nw, ne, sw, se);
+    put_entry(reg, i, e);
+}
+
+// Adds the four pixels of a fork of level 1, whose column and row are given, to the entries of their numbers, one after the other.
+fn pass_four(table: &[u32], numbers: &[u32], reg: &mut [u32], p: usize, column: u32, row: u32)
+    requires { ⌜ Entering (now table) (now numbers) p (blockAt column row 1) (now reg) × (isFork (now table) p ≡ true) ⌝ }
+    ensures { λ _. ⌜ Entered (now (table .entry)) (now (numbers .entry)) p (blockAt column row 1) (now (reg .entry)) (now (reg .exit)) ⌝ }
 {
     let mut quadrant = 0;
     while quadrant < 4 {
         let pixel = word_at(table, p, 1 + quadrant);
-        pass(numbers, reg, pixel, part(b, quadrant));
+        pass(numbers, reg, pixel, part(column, row, 1, quadrant));
         quadrant += 1;
     }
 }
 
-// Adds the leaves under a fork, whose block is given, to the entries of their numbers.
-fn pass_fork(table: &[u32], numbers: &[u32], reg: &mut [u32], p: usize, b: Block)
-    requires { ⌜ Entering (now table) (now numbers) p b (now reg) × (isFork (now table) p ≡ true) ⌝ }
-    ensures { λ _. ⌜ Entered (now (table .entry)) (now (numbers .entry)) p b (now (reg .entry)) (now (reg .exit)) ⌝ }
+// The same, and at once where all that have a number have the same one.
+fn pass_pixels(table: &[u32], numbers: &[u32], reg: &mut [u32], p: usize, column: u32, row: u32)
+    requires { ⌜ Entering (now table) (now numbers) p (blockAt column row 1) (now reg) × (isFork (now table) p ≡ true) ⌝ }
+    ensures { λ _. ⌜ Entered (now (table .entry)) (now (numbers .entry)) p (blockAt column row 1) (now (reg .entry)) (now (reg .exit)) ⌝ }
 {
-    if b.level == 1 {
-        pass_pixels(&*table, &*numbers, reg, p, b);
+    let nw = son_number(table, numbers, p, 0);
+    let ne = son_number(table, numbers, p, 1);
+    let sw = son_number(table, numbers, p, 2);
+    let se = son_number(table, numbers, p, 3);
+    let number = higher(higher(nw, ne), higher(sw, se));
+    if number == 0 {
         return;
     }
+    if alike(number, nw, ne, sw, se) {
+        grow_four(reg, number as usize - 1, column, row, nw, ne, sw, se);
+        return;
+    }
+    pass_four(table, numbers, reg, p, column, row);
+}
+
+// Adds the leaves under a fork, whose block is given, to the entries of their numbers. A fork of four pixels is done in its father's loop.
+fn pass_fork(
+    table: &[u32],
+    numbers: &[u32],
+    reg: &mut [u32],
+    p: usize,
+    column: u32,
+    row: u32,
+    level: u32,
+)
+    requires { ⌜ Entering (now table) (now numbers) p (blockAt column row level) (now reg) × (isFork (now table) p ≡ true) ⌝ }
+    ensures { λ _. ⌜ Entered (now (table .entry)) (now (numbers .entry)) p (blockAt column row level) (now (reg .entry)) (now (reg .exit)) ⌝ }
+{
     let mut q = 0;
     while q < 4 {
         let son = word_at(table, p, 1 + q);
-        let its = part(b, q);
+        let its = part(column, row, level, q);
         q += 1;
         if word_at(table, son, 5) == quad::FORK {
-            pass_fork(&*table, &*numbers, reg, son, its);
+            if its.level == 1 {
+                pass_pixels(table, numbers, reg, son, its.column, its.row);
+            } else {
+                pass_fork(&*table, &*numbers, reg, son, its.column, its.row, its.level);
+            }
         } else {
             pass(numbers, reg, son, its);
         }
@@ -187,14 +275,14 @@ pub fn fill(n: u32, table: &[u32], numbers: &[u32], reg: &mut [u32], count: usiz
     ensures { λ _. ⌜ now (reg .exit) ≡ overlay (wordsOf (entries n (now (table .entry)) (now (numbers .entry)) count)) (now (reg .entry)) ⌝ }
 {
     clear(reg, count);
+    if word_at(table, 0, 5) == quad::FORK {
+        pass_fork(table, numbers, reg, 0, 0, 0, n);
+        return;
+    }
     let sheet = Block {
         column: 0,
         row: 0,
         level: n,
     };
-    if word_at(table, 0, 5) == quad::FORK {
-        pass_fork(table, numbers, reg, 0, sheet);
-        return;
-    }
     pass(numbers, reg, 0, sheet);
 }

@@ -13,21 +13,14 @@ answered-requires c κs = search needs
 returns : tie.Need-returns
 returns c = search (not-numbered, needs)
 
-lead-requires : tie.Need-lead-requires
-lead-requires c κs =
-    let a = passed-call _ _ _ _ (c .before .before .before .before .before .before .args .numbers .now) _ _ (c .before .before .before .test .ensures) (c .before .before .answered .ensures) (c .before .if1 .left) in
-    (a .0, a .1)
-
 number-requires : tie.Need-number-requires
-number-requires c κs =
-    let a = passed-call _ _ _ _ (c .before .before .before .before .before .before .before .before .before .before .args .numbers .now) _ _ (c .before .before .before .before .before .before .before .test .ensures) (c .before .before .before .before .before .before .answered .ensures) (c .before .before .before .before .before .if1 .left) in
-    (a .0, c .before .before .before .lead .ensures)
+number-requires c κs = let a = passed-call _ _ _ _ (c .before .before .before .before .before .before .args .numbers .now) _ _ (c .before .before .before .test .ensures) (c .before .before .answered .ensures) (c .before .if1 .left) in (a .0, a .1)
 
 same-length : tie.Need-same-length
 same-length c = search needs
 
 returns-2 : tie.Need-returns-2
-returns-2 c = numbered-law _ _ _ _ _ _ _ (c .before .before .before .before .before .before .before .before .before .before .test .ensures) (c .before .before .before .before .before .before .before .before .before .answered .ensures) (c .before .before .before .before .before .before .before .before .if1 .left) _ _ (c .before .before .number .ensures)
+returns-2 c = numbered-law _ _ _ _ _ _ _ (c .before .before .before .before .before .before .test .ensures) (c .before .before .before .before .before .answered .ensures) (c .before .before .before .before .if1 .left) _ _ (c .before .before .number .ensures)
 
 pub numbered-spec : {M : Type 1} → statement M
-numbered-spec = tie.close (tie.spec test-requires answered-requires returns lead-requires number-requires same-length returns-2)
+numbered-spec = tie.close (tie.spec test-requires answered-requires returns number-requires same-length returns-2)

@@ -1,11 +1,12 @@
--- `register::pass_fork`: four pixels, and else the register has what the first q sons give. The measure is the block's level; the loop's, the sons left.
--- Assumes nothing.
+-- `register::pass_fork`: the register has what the first q sons give; a fork of four pixels is done at once. The measure is the block's level; the loop's, the
+-- sons left. Assumes nothing.
 use mathlib.Core.Path.{_≡_, refl, ap, _∙_}
 use native.Mathlib.Omega.{arith}
 use lib.ListN.{length}
 use Rattle.table.specs.declared.block.Block.{Block}
 use Rattle.table.proofs.SeenLaws.{told-fork, told-leaf}
-use Rattle.register.proofs.UnderLaws.{Gained, gained-none, parted, son-entering, number-there, entering-passing, leaf-entered, gained-more, gained-all}
+use Rattle.register.specs.Under.{blockAt}
+use Rattle.register.proofs.UnderLaws.{Gained, gained-none, parted, son-entering, at-level, level-entered, number-there, entering-passing, leaf-entered, gained-more, gained-all}
 use Prim.Native.Nat.{ℕ, _-_, _≤_, _<_}
 use borrow.Fn.Kinds.{In}
 use borrow.Fn.PlainCycle.{Measures, is, falls, and}
@@ -20,7 +21,7 @@ use Rattle.register.proofs.+pass_fork.{statement}
 use Rattle.register.proofs.+pass_fork.Tie.{close}
 
 abbrev μ-pass-fork : Measures 3 pass-fork-kinds.ps ℕ
-μ-pass-fork κs a = a .1 .1 .1 .1 .0 .level
+μ-pass-fork κs a = a .1 .1 .1 .1 .1 .1 .0
 
 abbrev pass-fork-at : ℕ → In 3 pass-fork-kinds.ps
 pass-fork-at t = and 3 pass-fork-kinds.ps (is 3 pass-fork-kinds.ps μ-pass-fork t) pass-fork.Pre
@@ -30,22 +31,14 @@ pass-fork-below t =
     and 3 pass-fork-kinds.ps (falls 3 pass-fork-kinds.ps _<_ μ-pass-fork t) pass-fork.Pre
 
 abbrev calls : ℕ → pass-fork-lts.Claims
-calls t = (pass-pixels-reads.Asked, pass-pixels-reads.Learnt, word-at-reads.Asked, word-at-reads.Learnt, part-reads.Asked, part-reads.Learnt, pass-fork-below t, pass-fork.Post, pass-reads.Asked, pass-reads.Learnt)
+calls t = (word-at-reads.Asked, word-at-reads.Learnt, part-reads.Asked, part-reads.Learnt, pass-pixels-reads.Asked, pass-pixels-reads.Learnt, pass-fork-below t, pass-fork.Post, pass-reads.Asked, pass-reads.Learnt)
 
 abbrev pass-fork-Inv-loop : pass-fork-lts.InvT-loop
-pass-fork-Inv-loop table numbers reg₀ p b q₀ reg q = (q ≤ 4) × (length reg ≡ length reg₀) × Gained table numbers p b reg₀ q reg
+pass-fork-Inv-loop table numbers reg₀ p column row level q₀ reg q =
+    (q ≤ 4) × (length reg ≡ length reg₀) × Gained table numbers p (blockAt column row level) reg₀ q reg
 
 abbrev pass-fork-μ-loop : pass-fork-lts.MeasureT-loop
-pass-fork-μ-loop table numbers reg₀ p b q₀ reg q = 4 - q
-
-pass-fork-pass-pixels-requires : (t : ℕ) → pass-fork-lts.Need-pass-pixels-requires (calls t) (pass-fork-at t) pass-fork.Post pass-fork-Inv-loop pass-fork-μ-loop
-pass-fork-pass-pixels-requires t c κs = (c .before .before .before .before .before .before .pre .1 .0, c .before .before .before .before .before .before .pre .1 .1, c .before .if1 .taken)
-
-pass-fork-same-length : (t : ℕ) → pass-fork-lts.Need-same-length (calls t) (pass-fork-at t) pass-fork.Post pass-fork-Inv-loop pass-fork-μ-loop
-pass-fork-same-length t c = c .before .before .pass-pixels .kept .1 .1 .0
-
-pass-fork-returns : (t : ℕ) → pass-fork-lts.Need-returns (calls t) (pass-fork-at t) pass-fork.Post pass-fork-Inv-loop pass-fork-μ-loop
-pass-fork-returns t c = c .before .before .pass-pixels .ensures
+pass-fork-μ-loop table numbers reg₀ p column row level q₀ reg q = 4 - q
 
 pass-fork-loop-holds : (t : ℕ) → pass-fork-lts.Need-loop-holds (calls t) (pass-fork-at t) pass-fork.Post pass-fork-Inv-loop pass-fork-μ-loop
 pass-fork-loop-holds t c = (omega arith, refl, gained-none)
@@ -54,63 +47,74 @@ pass-fork-add-word-at : (t : ℕ) → pass-fork-lts.Need-add-word-at (calls t) (
 pass-fork-add-word-at t c = omega arith
 
 pass-fork-word-at-requires : (t : ℕ) → pass-fork-lts.Need-word-at-requires (calls t) (pass-fork-at t) pass-fork.Post pass-fork-Inv-loop pass-fork-μ-loop
-pass-fork-word-at-requires t c κs = (c .before .before .before .before .before .before .before .pre .1 .0 .node, omega arith)
+pass-fork-word-at-requires t c κs = (c .before .before .before .before .before .pre .1 .0 .node, omega arith)
 
 pass-fork-part-requires : (t : ℕ) → pass-fork-lts.Need-part-requires (calls t) (pass-fork-at t) pass-fork.Post pass-fork-Inv-loop pass-fork-μ-loop
-pass-fork-part-requires t c κs = (parted (c .before .before .before .before .before .before .before .before .pre .1 .0) (c .before .before .before .before .before .before .before .before .pre .1 .1), omega arith)
+pass-fork-part-requires t c κs = (parted (c .before .before .before .before .before .before .pre .1 .0) (c .before .before .before .before .before .before .pre .1 .1), omega arith)
 
 pass-fork-add-q : (t : ℕ) → pass-fork-lts.Need-add-q (calls t) (pass-fork-at t) pass-fork.Post pass-fork-Inv-loop pass-fork-μ-loop
 pass-fork-add-q t c = omega arith
 
 pass-fork-word-at-requires-2 : (t : ℕ) → pass-fork-lts.Need-word-at-requires-2 (calls t) (pass-fork-at t) pass-fork.Post pass-fork-Inv-loop pass-fork-μ-loop
-pass-fork-word-at-requires-2 t c κs = let z = c .before .before .before .before .before .before .before .before .before .pre .1 in
-    let v = c .before .before .before .loop in
-    (son-entering (z .1) (v .q) _ _ _ (omega arith) (c .before .word-at .ensures) (c .part .ensures) (v .inv .2) (z .0) .node, omega arith)
+pass-fork-word-at-requires-2 t c κs =
+    (son-entering (c .before .before .before .before .before .before .before .pre .1 .1) (c .before .before .before .loop .q) _ _ _ (omega arith) (c .before .word-at .ensures) (c .part .ensures) (c .before .before .before .loop .inv .2) (c .before .before .before .before .before .before .before .pre .1 .0) .node, omega arith)
 
-pass-fork-pass-fork-requires : (t : ℕ) → pass-fork-lts.Need-pass-fork-requires (calls t) (pass-fork-at t) pass-fork.Post pass-fork-Inv-loop pass-fork-μ-loop
-pass-fork-pass-fork-requires t c κs = let u = c .before .before .before .before .before .before .before .before .before .before .before .before .pre in
-    let z = u .1 in
-    let v = c .before .before .before .before .before .before .loop in
-    let down = ap (λ (c : Block). c .level) (c .before .before .before .part .ensures) in (
-      omega (arith, u .0, down, parted (z .0) (z .1) .level),
-      (
-        son-entering (z .1) (v .q) _ _ _ (omega arith) (c .before .before .before .before .word-at .ensures) (c .before .before .before .part .ensures) (v .inv .2) (z .0),
-        told-fork (c .before .before .before .before .before .before .before .before .before .before .before .before .args .table .now) (c .before .before .before .before .word-at .result) _ (c .before .before .word-at2 .ensures) (c .before .if2 .taken),
-      ),
-    )
+pass-fork-pass-pixels-requires : (t : ℕ) → pass-fork-lts.Need-pass-pixels-requires (calls t) (pass-fork-at t) pass-fork.Post pass-fork-Inv-loop pass-fork-μ-loop
+pass-fork-pass-pixels-requires t c κs = (
+  at-level (c .before .if2 .taken) (son-entering (c .before .before .before .before .before .before .before .before .before .before .before .before .pre .1 .1) (c .before .before .before .before .before .before .before .before .loop .q) _ _ _ (omega arith) (c .before .before .before .before .before .before .word-at .ensures) (c .before .before .before .before .before .part .ensures) (c .before .before .before .before .before .before .before .before .loop .inv .2) (c .before .before .before .before .before .before .before .before .before .before .before .before .pre .1 .0)),
+  told-fork (c .before .before .before .before .before .before .before .before .before .before .before .before .args .table .now) (c .before .before .before .before .before .before .word-at .result) _ (c .before .before .before .before .word-at2 .ensures) (c .before .before .before .if1 .taken),
+)
 
 pass-fork-loop-less : (t : ℕ) → pass-fork-lts.Need-loop-less (calls t) (pass-fork-at t) pass-fork.Post pass-fork-Inv-loop pass-fork-μ-loop
 pass-fork-loop-less t c = omega arith
 
 pass-fork-loop-again : (t : ℕ) → pass-fork-lts.Need-loop-again (calls t) (pass-fork-at t) pass-fork.Post pass-fork-Inv-loop pass-fork-μ-loop
-pass-fork-loop-again t c = let v = c .before .before .before .before .before .before .before .before .before .loop in (
+pass-fork-loop-again t c = (
   omega arith,
-  c .before .before .pass-fork .kept .1 .1 .0 ∙ v .inv .1,
-  gained-more (c .before .before .before .before .before .before .before .before .before .before .before .before .before .before .before .pre .1 .1) (v .q) _ _ _ (omega arith) (c .before .before .before .before .before .before .before .word-at .ensures) (c .before .before .before .before .before .before .part .ensures) (v .inv .2) _ (c .before .before .pass-fork .ensures),
+  c .before .before .pass-pixels .kept .1 .1 .0 ∙ c .before .before .before .before .before .before .before .before .before .before .before .loop .inv .1,
+  gained-more (c .before .before .before .before .before .before .before .before .before .before .before .before .before .before .before .pre .1 .1) (c .before .before .before .before .before .before .before .before .before .before .before .loop .q) _ _ _ (omega arith) (c .before .before .before .before .before .before .before .before .before .word-at .ensures) (c .before .before .before .before .before .before .before .before .part .ensures) (c .before .before .before .before .before .before .before .before .before .before .before .loop .inv .2) _ (level-entered (c .before .before .before .before .if2 .taken) (c .before .before .pass-pixels .ensures)),
 )
 
-pass-fork-pass-requires : (t : ℕ) → pass-fork-lts.Need-pass-requires (calls t) (pass-fork-at t) pass-fork.Post pass-fork-Inv-loop pass-fork-μ-loop
-pass-fork-pass-requires t c κs = let z = c .before .before .before .before .before .before .before .before .before .before .before .before .pre .1 in
-    let v = c .before .before .before .before .before .before .loop in
-    let e = son-entering (z .1) (v .q) _ _ _ (omega arith) (c .before .before .before .before .word-at .ensures) (c .before .before .before .part .ensures) (v .inv .2) (z .0) in
-    (number-there e, entering-passing e)
+pass-fork-pass-fork-requires : (t : ℕ) → pass-fork-lts.Need-pass-fork-requires (calls t) (pass-fork-at t) pass-fork.Post pass-fork-Inv-loop pass-fork-μ-loop
+pass-fork-pass-fork-requires t c κs = (
+  omega (arith, c .before .before .before .before .before .before .before .before .before .before .before .before .pre .0, ap (λ (b : Block). b .level) (c .before .before .before .before .before .part .ensures), parted (c .before .before .before .before .before .before .before .before .before .before .before .before .pre .1 .0) (c .before .before .before .before .before .before .before .before .before .before .before .before .pre .1 .1) .level),
+  (
+    son-entering (c .before .before .before .before .before .before .before .before .before .before .before .before .pre .1 .1) (c .before .before .before .before .before .before .before .before .loop .q) _ _ _ (omega arith) (c .before .before .before .before .before .before .word-at .ensures) (c .before .before .before .before .before .part .ensures) (c .before .before .before .before .before .before .before .before .loop .inv .2) (c .before .before .before .before .before .before .before .before .before .before .before .before .pre .1 .0),
+    told-fork (c .before .before .before .before .before .before .before .before .before .before .before .before .args .table .now) (c .before .before .before .before .before .before .word-at .result) _ (c .before .before .before .before .word-at2 .ensures) (c .before .before .before .if1 .taken),
+  ),
+)
 
 pass-fork-loop-less-2 : (t : ℕ) → pass-fork-lts.Need-loop-less-2 (calls t) (pass-fork-at t) pass-fork.Post pass-fork-Inv-loop pass-fork-μ-loop
 pass-fork-loop-less-2 t c = omega arith
 
 pass-fork-loop-again-2 : (t : ℕ) → pass-fork-lts.Need-loop-again-2 (calls t) (pass-fork-at t) pass-fork.Post pass-fork-Inv-loop pass-fork-μ-loop
-pass-fork-loop-again-2 t c = let v = c .before .before .before .before .before .before .before .before .before .loop in
-    let leaf = told-leaf (c .before .before .before .before .before .before .before .before .before .before .before .before .before .before .before .args .table .now) (c .before .before .before .before .before .before .before .word-at .result) _ (c .before .before .before .before .before .word-at2 .ensures) (c .before .before .before .before .if2 .left) in (
+pass-fork-loop-again-2 t c = (
+  omega arith,
+  c .before .before .pass-fork .kept .1 .1 .0 ∙ c .before .before .before .before .before .before .before .before .before .before .before .loop .inv .1,
+  gained-more (c .before .before .before .before .before .before .before .before .before .before .before .before .before .before .before .pre .1 .1) (c .before .before .before .before .before .before .before .before .before .before .before .loop .q) _ _ _ (omega arith) (c .before .before .before .before .before .before .before .before .before .word-at .ensures) (c .before .before .before .before .before .before .before .before .part .ensures) (c .before .before .before .before .before .before .before .before .before .before .before .loop .inv .2) _ (c .before .before .pass-fork .ensures),
+)
+
+pass-fork-pass-requires : (t : ℕ) → pass-fork-lts.Need-pass-requires (calls t) (pass-fork-at t) pass-fork.Post pass-fork-Inv-loop pass-fork-μ-loop
+pass-fork-pass-requires t c κs =
+    let e = son-entering (c .before .before .before .before .before .before .before .before .before .before .pre .1 .1) (c .before .before .before .before .before .before .loop .q) _ _ _ (omega arith) (c .before .before .before .before .word-at .ensures) (c .before .before .before .part .ensures) (c .before .before .before .before .before .before .loop .inv .2) (c .before .before .before .before .before .before .before .before .before .before .pre .1 .0) in
+    (number-there e, entering-passing e)
+
+pass-fork-loop-less-3 : (t : ℕ) → pass-fork-lts.Need-loop-less-3 (calls t) (pass-fork-at t) pass-fork.Post pass-fork-Inv-loop pass-fork-μ-loop
+pass-fork-loop-less-3 t c = omega arith
+
+pass-fork-loop-again-3 : (t : ℕ) → pass-fork-lts.Need-loop-again-3 (calls t) (pass-fork-at t) pass-fork.Post pass-fork-Inv-loop pass-fork-μ-loop
+pass-fork-loop-again-3 t c =
+    let leaf = told-leaf (c .before .before .before .before .before .before .before .before .before .before .before .before .before .args .table .now) (c .before .before .before .before .before .before .before .word-at .result) _ (c .before .before .before .before .before .word-at2 .ensures) (c .before .before .before .before .if1 .left) in (
       omega arith,
-      c .before .before .pass .kept .1 .0 ∙ v .inv .1,
-      gained-more (c .before .before .before .before .before .before .before .before .before .before .before .before .before .before .before .pre .1 .1) (v .q) _ _ _ (omega arith) (c .before .before .before .before .before .before .before .word-at .ensures) (c .before .before .before .before .before .before .part .ensures) (v .inv .2) _ (λ e. leaf-entered e _ leaf (c .before .before .pass .ensures)),
+      c .before .before .pass .kept .1 .0 ∙ c .before .before .before .before .before .before .before .before .before .loop .inv .1,
+      gained-more (c .before .before .before .before .before .before .before .before .before .before .before .before .before .pre .1 .1) (c .before .before .before .before .before .before .before .before .before .loop .q) _ _ _ (omega arith) (c .before .before .before .before .before .before .before .word-at .ensures) (c .before .before .before .before .before .before .part .ensures) (c .before .before .before .before .before .before .before .before .before .loop .inv .2) _ (λ e. leaf-entered e _ leaf (c .before .before .pass .ensures)),
     )
 
-pass-fork-same-length-2 : (t : ℕ) → pass-fork-lts.Need-same-length-2 (calls t) (pass-fork-at t) pass-fork.Post pass-fork-Inv-loop pass-fork-μ-loop
-pass-fork-same-length-2 t c = c .before .loop .inv .1
+pass-fork-same-length : (t : ℕ) → pass-fork-lts.Need-same-length (calls t) (pass-fork-at t) pass-fork.Post pass-fork-Inv-loop pass-fork-μ-loop
+pass-fork-same-length t c = c .before .loop .inv .1
 
-pass-fork-returns-2 : (t : ℕ) → pass-fork-lts.Need-returns-2 (calls t) (pass-fork-at t) pass-fork.Post pass-fork-Inv-loop pass-fork-μ-loop
-pass-fork-returns-2 t c = let v = c .before .loop in gained-all (c .before .before .before .before .before .before .before .pre .1 .1) (v .q) _ (v .inv .0) (omega arith) (v .inv .2)
+pass-fork-returns : (t : ℕ) → pass-fork-lts.Need-returns (calls t) (pass-fork-at t) pass-fork.Post pass-fork-Inv-loop pass-fork-μ-loop
+pass-fork-returns t c = gained-all (c .before .before .before .before .before .pre .1 .1) (c .before .loop .q) _ (c .before .loop .inv .0) (omega arith) (c .before .loop .inv .2)
 
 pub +pass-fork-spec : {M : Type 1} → statement M
 +pass-fork-spec = close μ-pass-fork λ t. pass-fork-lts.spec (calls t)
@@ -118,20 +122,20 @@ pub +pass-fork-spec : {M : Type 1} → statement M
     pass-fork.Post
     pass-fork-Inv-loop
     pass-fork-μ-loop
-    (pass-fork-pass-pixels-requires t)
-    (pass-fork-same-length t)
-    (pass-fork-returns t)
     (pass-fork-loop-holds t)
     (pass-fork-add-word-at t)
     (pass-fork-word-at-requires t)
     (pass-fork-part-requires t)
     (pass-fork-add-q t)
     (pass-fork-word-at-requires-2 t)
-    (pass-fork-pass-fork-requires t)
+    (pass-fork-pass-pixels-requires t)
     (pass-fork-loop-less t)
     (pass-fork-loop-again t)
-    (pass-fork-pass-requires t)
+    (pass-fork-pass-fork-requires t)
     (pass-fork-loop-less-2 t)
     (pass-fork-loop-again-2 t)
-    (pass-fork-same-length-2 t)
-    (pass-fork-returns-2 t)
+    (pass-fork-pass-requires t)
+    (pass-fork-loop-less-3 t)
+    (pass-fork-loop-again-3 t)
+    (pass-fork-same-length t)
+    (pass-fork-returns t)

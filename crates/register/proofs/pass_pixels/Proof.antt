@@ -1,72 +1,78 @@
--- `register::pass_pixels`: the register has what the first pixels give. The measure is the pixels left. Assumes nothing.
-use Prim.Native.Nat.{_-_, _≤_}
-use mathlib.Core.Path.{_≡_, refl, ap, _∙_}
-use native.Mathlib.Omega.{arith}
-use lib.ListN.{length}
-use Rattle.table.specs.declared.block.Block.{Block}
-use Rattle.register.proofs.UnderLaws.{Gained, gained-none, parted, son-entering, number-there, entering-passing, pixel-entered, gained-more, gained-all}
+-- `register::pass_pixels`: nothing where the greatest number is 0; one growth where all that have a number have it; else pixel by pixel. Assumes nothing.
+use borrow.Author.Needs.{needs}
+use Rattle.register.proofs.PixelLaws.{pixel-below, pixels-none, four-stands, four-fits, pixels-alike}
 use Rattle.register.proofs.pass_pixels.Statement.{statement}
 use Rattle.register.proofs.pass_pixels.Tie as tie
 
-abbrev Inv-loop : tie.InvT-loop
-Inv-loop table numbers reg₀ p b quadrant₀ reg quadrant = (quadrant ≤ 4) × (length reg ≡ length reg₀) × Gained table numbers p b reg₀ quadrant reg
+son-number-requires : tie.Need-son-number-requires
+son-number-requires c κs = search (pixel-below, needs)
 
-abbrev μ-loop : tie.MeasureT-loop
-μ-loop table numbers reg₀ p b quadrant₀ reg quadrant = 4 - quadrant
+son-number-requires-2 : tie.Need-son-number-requires-2
+son-number-requires-2 c κs = search (pixel-below, needs)
 
-loop-holds : tie.Need-loop-holds Inv-loop μ-loop
-loop-holds c = (omega arith, refl, gained-none)
+son-number-requires-3 : tie.Need-son-number-requires-3
+son-number-requires-3 c κs = search (pixel-below, needs)
 
-add-word-at : tie.Need-add-word-at Inv-loop μ-loop
-add-word-at c = omega arith
+son-number-requires-4 : tie.Need-son-number-requires-4
+son-number-requires-4 c κs = search (pixel-below, needs)
 
-word-at-requires : tie.Need-word-at-requires Inv-loop μ-loop
-word-at-requires c κs = (c .before .before .before .before .before .pre .0 .node, omega arith)
+higher-requires : tie.Need-higher-requires
+higher-requires c κs = search needs
 
-part-requires : tie.Need-part-requires Inv-loop μ-loop
-part-requires c κs = (parted (c .before .before .before .before .before .before .before .pre .0) (c .before .before .before .before .before .before .before .pre .1), omega arith)
+higher-requires-2 : tie.Need-higher-requires-2
+higher-requires-2 c κs = search needs
 
-pass-requires : tie.Need-pass-requires Inv-loop μ-loop
-pass-requires c κs = let z = c .before .before .before .before .before .before .before .before .pre in
-    let v = c .before .before .before .before .loop in
-    let e = son-entering (z .1) (v .quadrant) _ _ _ (omega arith) (c .before .before .word-at .ensures) (c .part .ensures) (v .inv .2) (z .0) in
-    (number-there e, entering-passing e)
+higher-requires-3 : tie.Need-higher-requires-3
+higher-requires-3 c κs = search needs
 
-add-quadrant : tie.Need-add-quadrant Inv-loop μ-loop
-add-quadrant c = omega arith
+returns : tie.Need-returns
+returns c z = search (pixels-none, needs)
 
-loop-less : tie.Need-loop-less Inv-loop μ-loop
-loop-less c = omega arith
+alike-requires : tie.Need-alike-requires
+alike-requires c κs = search needs
 
-loop-again : tie.Need-loop-again Inv-loop μ-loop
-loop-again c = let z = c .before .before .before .before .before .before .before .before .before .before .before .pre in
-    let v = c .before .before .before .before .before .before .before .loop in
-    let down = ap (λ (b : Block). b .level) (c .before .before .before .part .ensures) in (
-      omega arith,
-      c .before .before .pass .kept .1 .0 ∙ v .inv .1,
-      gained-more (z .1) (v .quadrant) _ _ _ (omega arith) (c .before .before .before .before .before .word-at .ensures) (c .before .before .before .part .ensures) (v .inv .2) _
-          (λ e. pixel-entered e _ (omega (arith, down, z .2)) (c .before .before .pass .ensures)),
-    )
+cast-grow-four : tie.Need-cast-grow-four
+cast-grow-four c = search needs
 
-same-length : tie.Need-same-length Inv-loop μ-loop
-same-length c = c .before .loop .inv .1
+sub-grow-four : tie.Need-sub-grow-four
+sub-grow-four c = search needs
 
-returns : tie.Need-returns Inv-loop μ-loop
-returns c = let v = c .before .loop in gained-all (c .before .before .before .before .before .pre .1) (v .quadrant) _ (v .inv .0) (omega arith) (v .inv .2)
+grow-four-requires : tie.Need-grow-four-requires
+grow-four-requires c κs = search (four-stands, four-fits, needs)
+
+same-length : tie.Need-same-length
+same-length c = search needs
+
+returns-2 : tie.Need-returns-2
+returns-2 c z = search (pixels-alike, needs)
+
+pass-four-requires : tie.Need-pass-four-requires
+pass-four-requires c κs = search needs
+
+same-length-2 : tie.Need-same-length-2
+same-length-2 c = search needs
+
+returns-3 : tie.Need-returns-3
+returns-3 c = search needs
 
 pub pass-pixels-spec : {M : Type 1} → statement M
 pass-pixels-spec =
     tie.close
     (tie.spec
-    Inv-loop
-    μ-loop
-    loop-holds
-    add-word-at
-    word-at-requires
-    part-requires
-    pass-requires
-    add-quadrant
-    loop-less
-    loop-again
+    son-number-requires
+    son-number-requires-2
+    son-number-requires-3
+    son-number-requires-4
+    higher-requires
+    higher-requires-2
+    higher-requires-3
+    returns
+    alike-requires
+    cast-grow-four
+    sub-grow-four
+    grow-four-requires
     same-length
-    returns)
+    returns-2
+    pass-four-requires
+    same-length-2
+    returns-3)

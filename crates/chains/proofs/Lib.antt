@@ -1,0 +1,3 @@
+pub mod NodeLaws
+pub mod SonLaws
+pub mod ChainLaws

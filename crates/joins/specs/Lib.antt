@@ -1,3 +1,0 @@
-pub mod Chain
-pub mod Led
-pub mod Joining

@@ -1,0 +1,11 @@
+pub mod PlaceLaws
+pub mod SetsLaws
+pub mod JoinLaws
+pub mod WayLaws
+pub mod PlacedLaws
+pub mod TouchLaws
+pub mod LineLaws
+pub mod ShoreLaws
+pub mod LeafLaws
+pub mod ForkLaws
+pub mod LeadLaws

@@ -1,0 +1,5 @@
+pub mod Sets
+pub mod Labelled
+pub mod Lines
+pub mod Touch
+pub mod Walk

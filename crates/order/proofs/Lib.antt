@@ -1,0 +1,5 @@
+pub mod WordLaws
+pub mod PlaceLaws
+pub mod GivenLaws
+pub mod SonLaws
+pub mod RankLaws
