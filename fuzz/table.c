@@ -12,7 +12,9 @@
  * A table with any word changed is nearly always unsound, and changing bytes does
  * not lead from one sound table to another. A third of the inputs therefore are
  * changed as tables: a leaf is split, the nodes get other numbers, one fault is
- * put in, or another table is drawn; no tables to start from are needed.
+ * put in, or another table is drawn; no tables to start from are needed. The head
+ * is short beside a table, so a change of bytes seldom meets it: another third
+ * keep their table, and another question is asked about it.
  */
 #include <string.h>
 
@@ -281,14 +283,26 @@ static void change_table(struct dice *d)
         fault_damage(&table, 1, d);
 }
 
+/* Draws anew all that the head has beside the table's own numbers; most nodes are there. */
+static void change_question(uint8_t *head, struct dice *d)
+{
+    for (size_t i = NODE; i < WHOLE; i++)
+        head[i] = (uint8_t)dice_below(d, i == NODE_HIGH ? 144 : 256);
+}
+
 size_t LLVMFuzzerCustomMutator(uint8_t *bytes, size_t size, size_t most, unsigned seed)
 {
     struct dice d = dice_from(seed);
-    if (most < HEAD || dice_below(&d, 3) != 0)
+    uint32_t way = dice_below(&d, 3);
+    if (most < HEAD || way == 0)
         return LLVMFuzzerMutate(bytes, size, most);
     if (size < HEAD) {
         memset(bytes + size, 0, HEAD - size);
         size = HEAD;
+    }
+    if (way == 1) {
+        change_question(bytes, &d);
+        return size;
     }
     table_from(bytes, size);
     change_table(&d);

@@ -32,10 +32,11 @@ found_by_compare() { # FOLDER
     [ $? -eq 1 ] && grep -qxF "$(cat "$1/case")" "$1/alone.out"
 }
 
-# Does the fuzzer stop at an input, keep it, and stop at it again?
+# Does the fuzzer stop at an input, keep it, and stop at it again? It has a number of
+# inputs, not of seconds, so that a machine's other work does not count.
 found_by_fuzzer() { # FOLDER NAME
     rm -f "$1"/crash-*
-    "$1/$2" -seed=1 -max_len=4100 -max_total_time=60 -artifact_prefix="$1/" >"$1/fuzz.out" 2>&1 && return 1
+    "$1/$2" -seed=1 -max_len=4100 -runs=200000 -artifact_prefix="$1/" >"$1/fuzz.out" 2>&1 && return 1
     for input in "$1"/crash-*; do
         [ -f "$input" ] && ! "$1/$2" "$input" >"$1/again.out" 2>&1
         return
