@@ -21,8 +21,8 @@ use Rattle.table.proofs.AcceptedLaws.{depth-le}
 use Rattle.chains.specs.Chain.{Water}
 use Rattle.chains.proofs.ChainLaws.{chain-start, chain-end}
 use Rattle.labels.specs.Sets.{placeOf}
-use Rattle.order.specs.Ranked.{Ranked}
-use Rattle.order.proofs.PlaceLaws.{left-on, apart, place-only}
+use Rattle.ranks.specs.Ranked.{Ranked}
+use Rattle.ranks.proofs.PlaceLaws.{left-on, apart, place-only}
 use Rattle.register.specs.Entries.{leafAt, numberAt}
 use Rattle.register.proofs.LeafPixels.{pixel-leaf}
 use Rattle.ponds.specs.Numbered.{Numbered}

@@ -37,7 +37,7 @@ fn number(n: u32, table: &[u32], words: &mut [u32]) -> u32
         return one_leaf(n, table, words);
     }
     labels::lead(n, table, words);
-    order::number(n, table, words)
+    ranks::number(n, table, words)
 }
 
 // 1 for a black leaf, else 0.

@@ -1,0 +1,238 @@
+-- The sons of a fork in turn: the block of each comes after those of the sons before it, in its own rows west of it, so what a son asks holds once they are gone
+-- through; and a block that begins in the fork's begins in one son's.
+use mathlib.Core.Bool.{Bool, true, false}
+use mathlib.Core.List.{List}
+use mathlib.Core.Logic.{_⊎_, inl, inr, ⊎-elim}
+use mathlib.Core.Path.{_≡_, refl}
+use Prim.Native.Nat.{ℕ, _+_, _-_, _*_, _/_, _%_, _^_, _≤_, _<_}
+use native.Mathlib.Nat.{eq-or-lt-of-le}
+use native.Mathlib.Omega.{arith}
+use lib.ListN.{length}
+use lib.Pow.{pow-pos}
+use Rattle.base.proofs.BoolLaws.{by-bool, lt-or-ge}
+use Rattle.base.proofs.PowLaws.{pow-less}
+use Rattle.quad.specs.Numbers.{topLevel}
+use Rattle.table.specs.Table.{son, isFork}
+use Rattle.table.specs.Rules.{AtLevel}
+use Rattle.table.specs.Nodes.{leftOf, topOf}
+use Rattle.table.proofs.AcceptedLaws.{fork-above, son-at}
+use Rattle.chains.specs.Words.{wordOf}
+use Rattle.labels.specs.Sets.{Begins}
+use Rattle.ranks.specs.Ranks.{Leads, Given, West, Passed, Reach, Through, Room, Gave}
+use Rattle.ranks.proofs.PlaceLaws.{apart, top-top, son-left, son-top}
+use Rattle.ranks.proofs.GivenLaws.{leaf-room, leaf-passed, marked-passed}
+
+-- node i begins in the block of one of the first q sons
+pub record Among (n : ℕ) (T : List ℕ) (p l q i : ℕ) : Type 0 where
+  pub which : ℕ
+  pub before : which < q
+  pub begins : Begins n T i (leftOf n T (son T p which)) (topOf n T (son T p which)) (l - 1)
+
+-- the first q sons of fork p are gone through
+pub record Part (n : ℕ) (T F : List ℕ) (D : ℕ → Bool) (p l q : ℕ) (W R : List ℕ) : Type 0 where
+  pub now : ℕ → Bool
+  pub given : Given n T F now W R
+  pub kept : (i : ℕ) → D i ≡ true → now i ≡ true
+  pub only : (i : ℕ) → now i ≡ true → (D i ≡ true) ⊎ Among n T p l q i
+  pub all : (i : ℕ) → Leads T F i → Among n T p l q i → now i ≡ true
+
+-- the same, whatever the words were before
+abbrev pub Sons : List ℕ → List ℕ → List ℕ → ℕ → ℕ → ℕ → ℕ → List ℕ → List ℕ → Type 0
+Sons T W₀ R₀ p l y q W R = (n : ℕ) (F : List ℕ) (D : ℕ → Bool) → Reach n F D T W₀ R₀ p l y → Part n T F D p l q W R
+
+module _ {n : ℕ} {T F : List ℕ} {D : ℕ → Bool} {W R : List ℕ} {p l y : ℕ} (h : Reach n F D T W R p l y) where
+  pub part-none : Part n T F D p l 0 W R
+  part-none = record {
+    now = D;
+    given = h .given;
+    kept = λ i d. d;
+    only = λ i d. inl d;
+    all = λ i li a. absurd (omega (arith, a .before));
+  }
+
+  pub reach-row : y < 2 ^ topLevel
+  reach-row = omega (arith, h .top, top-top n T (h .place .accepted) p (h .place .node))
+
+  -- the row that a son begins in, as the code shifts its half
+  pub son-row : {q k : ℕ} → q < 4 → k ≡ son T p q → y + q / 2 * 2 ^ (l - 1) % 2 ^ 64 ≡ topOf n T k
+  son-row {q} {k} q4 e =
+      let i = son-at (h .place) (h .fork) q q4 in
+      rw e (omega (arith, h .top, son-top (h .place) (h .fork) q q4, top-top n T (h .place .accepted) (son T p q) (i .node)))
+
+  pub son-fits : {q : ℕ} → q < 4 → y + q / 2 * 2 ^ (l - 1) % 2 ^ 64 < 2 ^ 64
+  son-fits {q} q4 =
+      let i = son-at (h .place) (h .fork) q q4 in
+      omega (arith, son-row q4 refl, top-top n T (h .place .accepted) (son T p q) (i .node))
+
+  half : 2 ^ l ≡ 2 * 2 ^ (l - 1)
+  half = pow-less 2 l (fork-above (h .place) (h .fork))
+
+  module _ {q : ℕ} {W₁ R₁ : List ℕ} (s : Part n T F D p l q W₁ R₁) where
+    -- what the next son asks
+    pub son-west : q < 4 → West n T (s .now) (leftOf n T (son T p q)) (topOf n T (son T p q)) (l - 1)
+    son-west q4 i d north south =
+        let size = pow-pos (l - 1) in
+        let left = son-left (h .place) (h .fork) q q4 in
+        let top = son-top (h .place) (h .fork) q q4 in
+        ⊎-elim
+        (λ (old : D i ≡ true). omega (arith, left, h .west i old (omega (arith, top)) (omega (arith, top, half, apart (q / 2) 2 (2 ^ (l - 1)) size (omega arith)))))
+        (λ (a : Among n T p l q i).
+        let k : ℕ = a .which in
+        let lt : k < q = a .before in
+        let k4 : k < 4 = omega arith in
+        let b = a .begins in
+        ⊎-elim
+        (λ (up : k / 2 < q / 2).
+        absurd (omega (arith, top, son-top (h .place) (h .fork) k k4, b .south, apart (k / 2) (q / 2) (2 ^ (l - 1)) size up)))
+        (λ (ge : q / 2 ≤ k / 2).
+        omega (arith, left, son-left (h .place) (h .fork) k k4, b .east, apart (k % 2) (q % 2) (2 ^ (l - 1)) size (omega arith)))
+        (lt-or-ge (k / 2) (q / 2)))
+        (s .only i d)
+
+    -- and the next son gone through
+    pub part-more : q < 4 → {W₂ R₂ : List ℕ} → Passed n T F (s .now) (leftOf n T (son T p q)) (topOf n T (son T p q)) (l - 1) W₂ R₂
+        → Part n T F D p l (q + 1) W₂ R₂
+    part-more q4 t =
+        let on : (i : ℕ) → Among n T p l q i → Among n T p l (q + 1) i =
+        λ i a. record { which = a .which; before = omega (arith, a .before); begins = a .begins } in
+        record {
+          now = t .now;
+          given = t .given;
+          kept = λ i d. t .kept i (s .kept i d);
+          only = λ i d.
+              ⊎-elim
+              (λ (old : s .now i ≡ true). ⊎-elim (λ (o : D i ≡ true). inl o) (λ (a : Among n T p l q i). inr (on i a)) (s .only i old))
+              (λ (b : Begins n T i (leftOf n T (son T p q)) (topOf n T (son T p q)) (l - 1)).
+              inr (record { which = q; before = omega arith; begins = b }))
+              (t .only i d);
+          all = λ i li a.
+              let k : ℕ = a .which in
+              ⊎-elim
+              (λ (e : k ≡ q). t .all i li (rw e at (a .begins)))
+              (λ (lt : k < q). t .kept i (s .all i li (record { which = k; before = lt; begins = a .begins })))
+              (eq-or-lt-of-le (omega (arith, a .before)));
+        }
+
+    module _ (q4 : q < 4) {k : ℕ} (e : k ≡ son T p q) where
+      place : AtLevel n T k (l - 1)
+      place = rw e (son-at (h .place) (h .fork) q q4)
+
+      pub son-node : k < length W₁
+      son-node = omega (arith, s .given .size, place .node)
+
+      -- where the next son is a leaf
+      module _ (f : isFork T k ≡ false) {v : ℕ} (t : v ≡ topOf n T k) where
+        pub turn-room : Room W₁ R₁ k v
+        turn-room = leaf-room (s .given) (h .ready) place f t
+
+        pub turn-leaf : {W₂ R₂ : List ℕ} → Gave W₁ R₁ k v W₂ R₂ → Part n T F D p l (q + 1) W₂ R₂
+        turn-leaf a =
+            let west : West n T (s .now) (leftOf n T k) (topOf n T k) (l - 1) = rw e (son-west q4) in
+            part-more q4 (rw e at (leaf-passed (s .given) (h .ready) place f t west a))
+
+      -- where it is a fork
+      module _ (f : isFork T k ≡ true) where
+        pub son-reach : {m v : ℕ} → l - 1 ≡ m → v ≡ topOf n T k → Reach n F (s .now) T W₁ R₁ k m v
+        son-reach {m} {v} d t =
+            let at : Reach n F (s .now) T W₁ R₁ k (l - 1) v =
+            record {
+              ready = h .ready;
+              place = place;
+              fork = f;
+              top = t;
+              given = s .given;
+              west = rw e (son-west q4);
+            } in
+            rw d at at
+
+        pub turn-fork : {m v : ℕ} → l - 1 ≡ m → v ≡ topOf n T k → {W₂ R₂ : List ℕ} → Through T W₁ R₁ k m v W₂ R₂ → Part n T F D p l (q + 1) W₂ R₂
+        turn-fork d t g = part-more q4 (rw (e, ← d) at (g n F (s .now) (son-reach d t)))
+
+        pub turn-marked : (wordOf W₁ k ≡ 0 → ⊥) → Part n T F D p l (q + 1) W₁ R₁
+        turn-marked some = part-more q4 (rw e at (marked-passed (s .given) (h .ready) place f some))
+
+  -- a block that begins in the fork's, and in one of its sons'
+  in-son : (i k : ℕ) → k < 4 → leftOf n T p + k % 2 * 2 ^ (l - 1) ≤ leftOf n T i → leftOf n T i < leftOf n T p + k % 2 * 2 ^ (l - 1) + 2 ^ (l - 1)
+      → topOf n T p + k / 2 * 2 ^ (l - 1) ≤ topOf n T i → topOf n T i < topOf n T p + k / 2 * 2 ^ (l - 1) + 2 ^ (l - 1) → Among n T p l 4 i
+  in-son i k k4 west east north south =
+      let left = son-left (h .place) (h .fork) k k4 in
+      let top = son-top (h .place) (h .fork) k k4 in
+      record {
+        which = k;
+        before = k4;
+        begins = record { west = omega (arith, left); east = omega (arith, left); north = omega (arith, top); south = omega (arith, top) };
+      }
+
+  among : (i : ℕ) → Begins n T i (leftOf n T p) (topOf n T p) l → Among n T p l 4 i
+  among i b =
+      let e = half in
+      ⊎-elim
+      (λ (north : topOf n T i < topOf n T p + 2 ^ (l - 1)).
+      ⊎-elim
+      (λ (west : leftOf n T i < leftOf n T p + 2 ^ (l - 1)).
+      in-son i 0 (omega arith) (omega (arith, b .west)) (omega arith) (omega (arith, b .north)) (omega arith))
+      (λ (east : leftOf n T p + 2 ^ (l - 1) ≤ leftOf n T i).
+      in-son i 1 (omega arith) (omega arith) (omega (arith, b .east)) (omega (arith, b .north)) (omega arith))
+      (lt-or-ge (leftOf n T i) (leftOf n T p + 2 ^ (l - 1))))
+      (λ (south : topOf n T p + 2 ^ (l - 1) ≤ topOf n T i).
+      ⊎-elim
+      (λ (west : leftOf n T i < leftOf n T p + 2 ^ (l - 1)).
+      in-son i 2 (omega arith) (omega (arith, b .west)) (omega arith) (omega arith) (omega (arith, b .south)))
+      (λ (east : leftOf n T p + 2 ^ (l - 1) ≤ leftOf n T i).
+      in-son i 3 (omega arith) (omega arith) (omega (arith, b .east)) (omega arith) (omega (arith, b .south)))
+      (lt-or-ge (leftOf n T i) (leftOf n T p + 2 ^ (l - 1))))
+      (lt-or-ge (topOf n T i) (topOf n T p + 2 ^ (l - 1)))
+
+  within : (i : ℕ) → Among n T p l 4 i → Begins n T i (leftOf n T p) (topOf n T p) l
+  within i a =
+      let k : ℕ = a .which in
+      let k4 : k < 4 = a .before in
+      let b = a .begins in
+      let e = half in
+      let size = pow-pos (l - 1) in
+      let left = son-left (h .place) (h .fork) k k4 in
+      let top = son-top (h .place) (h .fork) k k4 in
+      record {
+        west = omega (arith, b .west, left);
+        east = omega (arith, b .east, left, apart (k % 2) 2 (2 ^ (l - 1)) size (omega arith));
+        north = omega (arith, b .north, top);
+        south = omega (arith, b .south, top, apart (k / 2) 2 (2 ^ (l - 1)) size (omega arith));
+      }
+
+  -- all four
+  pub part-all : {W' R' : List ℕ} → Part n T F D p l 4 W' R' → Passed n T F D (leftOf n T p) (topOf n T p) l W' R'
+  part-all s = record {
+    now = s .now;
+    given = s .given;
+    kept = s .kept;
+    only = λ i d. ⊎-elim (λ (o : D i ≡ true). inl o) (λ (a : Among n T p l 4 i). inr (within i a)) (s .only i d);
+    all = λ i li b. s .all i li (among i b);
+  }
+
+  pub part-end : {q : ℕ} {W' R' : List ℕ} → q ≤ 4 → 4 ≤ q → Part n T F D p l q W' R' → Passed n T F D (leftOf n T p) (topOf n T p) l W' R'
+  part-end {q} {W'} {R'} le ge s =
+      let e : q ≡ 4 = omega arith in
+      part-all (rw e at s)
+
+-- the pixels of a fork of level 1
+module _ {n : ℕ} {T F : List ℕ} {D : ℕ → Bool} {W R : List ℕ} {p y : ℕ} (h : Reach n F D T W R p 1 y) {W₁ R₁ : List ℕ} (q : ℕ) (q4 : q < 4)
+    (s : Part n T F D p 1 q W₁ R₁) {k v : ℕ} (e : k ≡ son T p q) (t : v ≡ y + q / 2) where
+  pixel-leaf : isFork T k ≡ false
+  pixel-leaf =
+      ⊎-elim
+      (λ (f : isFork T k ≡ true). absurd (omega (arith, fork-above (son-at (h .place) (h .fork) q q4) (rw e at f))))
+      (λ (f : isFork T k ≡ false). f)
+      (by-bool (isFork T k))
+
+  pixel-top : v ≡ topOf n T k
+  pixel-top = rw e (omega (arith, t, h .top, son-top (h .place) (h .fork) q q4))
+
+  pub pixel-room : Room W₁ R₁ k v
+  pixel-room = turn-room h s q4 e pixel-leaf pixel-top
+
+  pixel-given : {W₂ R₂ : List ℕ} → Gave W₁ R₁ k v W₂ R₂ → Part n T F D p 1 (q + 1) W₂ R₂
+  pixel-given a = turn-leaf h s q4 e pixel-leaf pixel-top a
+
+pub pixel-more : {n : ℕ} {T F : List ℕ} {D : ℕ → Bool} {W R : List ℕ} {p y : ℕ} → Reach n F D T W R p 1 y → {W₁ R₁ : List ℕ} (q : ℕ) → q < 4
+    → Part n T F D p 1 q W₁ R₁ → {k v : ℕ} → k ≡ son T p q → {W₂ R₂ : List ℕ} → Gave W₁ R₁ k v W₂ R₂ → v ≡ y + q / 2 → Part n T F D p 1 (q + 1) W₂ R₂
+pixel-more h q q4 s e a t = pixel-given h q q4 s e t a
