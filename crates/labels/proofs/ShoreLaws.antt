@@ -16,7 +16,7 @@ use Rattle.chains.proofs.NodeLaws.{same-or-not, last-or-before}
 use Rattle.labels.specs.Sets.{placeOf, Placed, Sets, Further, Alike}
 use Rattle.labels.specs.Lines.{Has, Label, Tells, Line, MetAt, Met, across}
 use Rattle.labels.specs.Touch.{oddOf}
-use Rattle.labels.specs.Walk.{Lines, Facing, Faced, Meets, Along, Shore, Shored, Shores, Quiet, Filled}
+use Rattle.labels.specs.Walk.{Lines, Facing, Faced, Meets, Nexts, Along, Shore, Shored, Shores, Quiet, Filled}
 use Rattle.labels.proofs.PlaceLaws.{own-pixel, has-across}
 use Rattle.labels.proofs.SetsLaws.{further-none, further-on, not-root}
 use Rattle.labels.proofs.TouchLaws.{set-chain, shares-north, shares-west}
@@ -67,6 +67,41 @@ module _ {n : ℕ} {T W : List ℕ} {f : ℕ → ℕ} {p e x y v label : ℕ} (s
               a .together j v (b .leaf) (b .label) (sym (b .one)) ∙ u .one some ∙ a .together label p (l .label) (l .leaf) (l .one),
             );
       }
+
+  -- where p's set has v's leaf already, nothing is to be done
+  edge-known : ((v ≡ 0 → ⊥) → f v ≡ f p) → EdgeMet n T W f p e x y W
+  edge-known known = record {
+    lead' = f;
+    further = further-none s;
+    met = λ k j w h. let b = d .line .on k .wet j w h in (b .leaf, sym (b .one) ∙ known (not-root s v (b .label .water)));
+  }
+
+  pub edge-next : (before : ℕ) → (v ≡ before → (v ≡ 0 → ⊥) → f v ≡ f p) → (W' : List ℕ) → Nexts W label v before W' → EdgeMet n T W f p e x y W'
+  edge-next before known W' m = same-or-not v before (λ e. rw (m .same e) (edge-known (known e))) (λ ne. edge-met W' (m .new ne))
+
+pub next-none : {W : List ℕ} {label other before : ℕ} → other ≡ before → Nexts W label other before W
+next-none e = record { same = λ f. refl; new = λ ne. absurd (ne e) }
+
+pub next-met : {W W' : List ℕ} {label other before : ℕ} → (other ≡ before → ⊥) → Meets W label other W' → Nexts W label other before W'
+next-met ne m = record { same = λ e. absurd (ne e); new = λ z. m }
+
+module _ {W W' : List ℕ} {label other before : ℕ} (m : Nexts W label other before W') where
+  pub next-long : length W' ≡ length W
+  next-long = same-or-not other before (λ e. ap (λ (l : List ℕ). length l) (m .same e)) (λ ne. m .new ne .long)
+
+  pub next-alike : Alike W W'
+  next-alike = same-or-not other before (λ e. rw (m .same e) (λ i z. z)) (λ ne. m .new ne .alike)
+
+-- what tells of the pixel before, and has been met there, is known of the next where both tell the same
+edge-before : {n : ℕ} {T W W₁ : List ℕ} {f g : ℕ → ℕ} {p e x y v : ℕ} → Sets n T W f → Line n T W f e x y v → Further n T W f W₁ g
+    → (0 < e → (j : ℕ) → Water T j → Has n T j x y → Placed T W₁ j × (g j ≡ g p)) → (v ≡ 0 → ⊥) → g v ≡ g p
+edge-before {e = e} {v = v} s l m met some =
+    same-or-not e 0 (λ z. absurd (some (l .off z)))
+    (λ z.
+    let k : 0 < e = omega arith in
+    let t = l .on k .dry some in
+    let b = t .2 in
+    m .together v (t .0) (b .label) (b .leaf) (b .one) ∙ met k (t .0) (b .leaf .water) (t .1) .1)
 
 pub along-still : {n : ℕ} {T W W' : List ℕ} {f g : ℕ → ℕ} {p x y k : ℕ} → Further n T W f W' g → Placed T W p → Along n T W f p x y k → Along n T W' g p x y k
 along-still {p = p} m h a = record {
@@ -122,18 +157,21 @@ module _ {W L : List ℕ} {label x y side : ℕ} where
       shares = λ e j h. shares-west (on-west k l) e h;
     }
 
-  module _ (k : ℕ) (W₁ : List ℕ) (lt : k < side) (h : Shores W L label x y side k W₁) (v : ℕ) (ev : v ≡ getD L (x + k) 0) where
+  module _ (k : ℕ) (W₁ : List ℕ) (some : 1 ≤ k) (lt : k < side) (h : Shores W L label x y side k W₁) (v : ℕ) (ev : v ≡ getD L (x + k) 0) where
     -- pixel k of the north side
     pub north-facing : Shore W L label x y side → Facing W₁ label v
     north-facing z =
         let s = h .shored z in
         rw ev (edge-facing (s .further .sets) (label-still (s .further) (z .own)) (edge-still (s .further) (north-edge z k lt)))
 
-    module _ (W₂ : List ℕ) (m : Meets W₁ label v W₂) where
+    module _ (b : ℕ) (eb : b ≡ getD L (x + k - 1) 0) (W₂ : List ℕ) (m : Nexts W₁ label v b W₂) where
       after-north : (z : Shore W L label x y side) → EdgeMet (z .n) (z .T) W₁ (h .shored z .lead') (z .p) y (x + k) (y - 1) W₂
       after-north z =
           let s = h .shored z in
-          edge-met (s .further .sets) (label-still (s .further) (z .own)) (edge-still (s .further) (north-edge z k lt)) W₂ (rw ev at m)
+          let here : x + k - 1 ≡ x + (k - 1) = omega (arith, some) in
+          edge-next (s .further .sets) (label-still (s .further) (z .own)) (edge-still (s .further) (north-edge z k lt)) b
+          (λ same. edge-before (z .sets) (rw (same, eb, here) (north-edge z (k - 1) (omega (arith, lt, some)) .line)) (s .further) (s .along .north (k - 1) (omega (arith, some))))
+          W₂ (rw ev at m)
 
       to-second : (z : Shore W L label x y side) → Further (z .n) (z .T) W (z .lead) W₂ (after-north z .lead')
       to-second z = further-on (h .shored z .further) (after-north z .further)
@@ -147,16 +185,21 @@ module _ {W L : List ℕ} {label x y side : ℕ} where
         pub west-facing : Shore W L label x y side → Facing W₂ label u
         west-facing z = edge-facing (to-second z .sets) (label-still (to-second z) (z .own)) (second-edge z)
 
-        pub shore-more : (W₃ : List ℕ) → Meets W₂ label u W₃ → Shores W L label x y side (k + 1) W₃
-        shore-more W₃ n₃ = record {
-          long = n₃ .long ∙ m .long ∙ h .long;
-          alike = λ i e. n₃ .alike i (m .alike i (h .alike i e));
+        pub shore-more : (c : ℕ) → c ≡ getD L (across + y + k - 1) 0 → (W₃ : List ℕ) → Nexts W₂ label u c W₃ → Shores W L label x y side (k + 1) W₃
+        shore-more c ec W₃ n₃ = record {
+          long = next-long n₃ ∙ next-long m ∙ h .long;
+          alike = λ i e. next-alike n₃ i (next-alike m i (h .alike i e));
           shored = λ z.
               let s = h .shored z in
               let a = after-north z in
-              let b = edge-met (to-second z .sets) (label-still (to-second z) (z .own)) (second-edge z) W₃ n₃ in
-              let two = further-on (a .further) (b .further) in
               let hp = s .further .placed (z .p) (z .own .leaf) in
+              let now = along-still (a .further) hp (s .along) in
+              let here : across + y + k - 1 ≡ across + (y + (k - 1)) = omega (arith, some) in
+              let b =
+              edge-next (to-second z .sets) (label-still (to-second z) (z .own)) (second-edge z) c
+              (λ same. edge-before (z .sets) (rw (same, ec, here) (west-edge z (k - 1) (omega (arith, lt, some)) .line)) (to-second z) (now .west (k - 1) (omega (arith, some))))
+              W₃ n₃ in
+              let two = further-on (a .further) (b .further) in
               let old = along-still two hp (s .along) in
               record {
                 lead' = b .lead';

@@ -72,6 +72,11 @@ pub record Meets (W : List ℕ) (label other : ℕ) (W' : List ℕ) : Type 0 whe
   pub faced : (n : ℕ) (T : List ℕ) (lead : ℕ → ℕ) → Sets n T W lead → Placed T W label → ((other ≡ 0 → ⊥) → Placed T W other)
       → ((other ≡ 0 → ⊥) → Chain n T label other) → Faced n T W lead label other W'
 
+-- the same for the next along a side: nothing where it is the one before
+pub record Nexts (W : List ℕ) (label other before : ℕ) (W' : List ℕ) : Type 0 where
+  pub same : other ≡ before → W' ≡ W
+  pub new : (other ≡ before → ⊥) → Meets W label other W'
+
 -- the black leaf p has its top left pixel at (x, y); its first k pixels along its north side have been met from there, and along its west side
 pub record Along (n : ℕ) (T W : List ℕ) (lead : ℕ → ℕ) (p x y k : ℕ) : Type 0 where
   pub north : (i : ℕ) → i < k → 0 < y → (j : ℕ) → Water T j → Has n T j (x + i) (y - 1) → Placed T W j × (lead j ≡ lead p)

@@ -9,7 +9,7 @@ ghost use Rattle.labels.specs.Lines.{across};
 ghost use Rattle.table.specs.Table.{nodes, isFork};
 ghost use Rattle.table.specs.Rules.{Accepted};
 ghost use Rattle.labels.specs.Labelled.{Cleared, Labelled};
-ghost use Rattle.labels.specs.Walk.{Facing, Meets, Shore, Shores, Quiet, Sides, Filled, ToLeaf, PastLeaf, Coming, Goes};
+ghost use Rattle.labels.specs.Walk.{Facing, Meets, Nexts, Shore, Shores, Quiet, Sides, Filled, ToLeaf, PastLeaf, Coming, Goes};
 ghost use Rattle.labels.specs.Touch.{orOf, blackOf, someOf, apartOf, sameOf, markOf, oddOf, Touching, Touches};
 ghost use Rattle.labels.specs.Sets.{Asking, Led, Shorter, Joining, Joined};
 
@@ -127,6 +127,17 @@ fn meet(words: &mut [u32], label: u32, other: u32)
     }
 }
 
+// The same for the next along a side: nothing is done where it is the one before, with which the label has been joined.
+fn next(words: &mut [u32], label: u32, other: u32, before: u32)
+    requires { ⌜ Facing (now words) label other ⌝ }
+    ensures { λ _. ⌜ Nexts (now (words .entry)) label other before (now (words .exit)) ⌝ }
+{
+    if other == before {
+        return;
+    }
+    meet(words, label, other);
+}
+
 // Joins a black leaf, by its label, with what the lines tell of all along its north side and its west side, from the second pixel on.
 fn shore(words: &mut [u32], lines: &[u32; 256], label: u32, x: usize, y: usize, side: usize)
     requires { ⌜ Shore (now words) (now lines) label x y side ⌝ }
@@ -134,8 +145,8 @@ fn shore(words: &mut [u32], lines: &[u32; 256], label: u32, x: usize, y: usize, 
 {
     let mut i = 1;
     while i < side {
-        meet(words, label, lines[x + i]);
-        meet(words, label, lines[ACROSS + y + i]);
+        next(words, label, lines[x + i], lines[x + i - 1]);
+        next(words, label, lines[ACROSS + y + i], lines[ACROSS + y + i - 1]);
         i += 1;
     }
 }

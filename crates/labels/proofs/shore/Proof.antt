@@ -9,40 +9,67 @@ use Rattle.labels.proofs.shore.Statement.{statement}
 use Rattle.labels.proofs.shore.Tie as tie
 
 abbrev Inv-loop : tie.InvT-loop
-Inv-loop words₀ lines label x y side i₀ words i = Shores words₀ lines label x y side i words × (i ≤ side)
+Inv-loop words₀ lines label x y side i₀ words i = Shores words₀ lines label x y side i words × (1 ≤ i) × (i ≤ side)
 
 abbrev μ-loop : tie.MeasureT-loop
 μ-loop words₀ lines label x y side i₀ words i = side - i
 
 loop-holds : tie.Need-loop-holds Inv-loop μ-loop
-loop-holds c = (shore-start, side-some (c .before .pre))
+loop-holds c = (shore-start, omega arith, side-some (c .before .pre))
 
-add-meet : tie.Need-add-meet Inv-loop μ-loop
-add-meet c = omega (arith, shore-bounds (c .before .before .before .before .pre) _ (c .before .loop-test .taken) .0)
+add-next : tie.Need-add-next Inv-loop μ-loop
+add-next c = omega (arith, c .before .before .loop .inv .1, shore-bounds (c .before .before .before .before .pre) _ (c .before .loop-test .taken) .0)
 
-mul-meet : tie.Need-mul-meet Inv-loop μ-loop
-mul-meet c = omega (arith, shore-bounds (c .before .before .before .before .pre) _ (c .before .loop-test .taken) .0)
+mul-next : tie.Need-mul-next Inv-loop μ-loop
+mul-next c = omega (arith, c .before .before .loop .inv .1, shore-bounds (c .before .before .before .before .pre) _ (c .before .loop-test .taken) .0)
 
-element-copy-out-meet : tie.Need-element-copy-out-meet Inv-loop μ-loop
-element-copy-out-meet c = omega (arith, shore-bounds (c .before .before .before .before .pre) _ (c .before .loop-test .taken) .0)
+element-copy-out-next : tie.Need-element-copy-out-next Inv-loop μ-loop
+element-copy-out-next c = omega (arith, c .before .before .loop .inv .1, shore-bounds (c .before .before .before .before .pre) _ (c .before .loop-test .taken) .0)
 
-meet-requires : tie.Need-meet-requires Inv-loop μ-loop
-meet-requires c κs = north-facing _ _ (c .before .before .loop-test .taken) (c .before .before .before .loop .inv .0) _ refl (c .before .before .before .before .before .pre)
+add-next-2 : tie.Need-add-next-2 Inv-loop μ-loop
+add-next-2 c = omega (arith, c .before .before .before .loop .inv .1, shore-bounds (c .before .before .before .before .before .pre) _ (c .before .before .loop-test .taken) .0)
 
-add-meet-2 : tie.Need-add-meet-2 Inv-loop μ-loop
-add-meet-2 c = omega (arith, shore-bounds (c .before .before .before .before .before .before .before .before .before .pre) _ (c .before .before .before .before .before .before .loop-test .taken) .1)
+sub-next : tie.Need-sub-next Inv-loop μ-loop
+sub-next c = omega (arith, c .before .before .before .loop .inv .1, shore-bounds (c .before .before .before .before .before .pre) _ (c .before .before .loop-test .taken) .0)
 
-add-meet-3 : tie.Need-add-meet-3 Inv-loop μ-loop
-add-meet-3 c = omega (arith, shore-bounds (c .before .before .before .before .before .before .before .before .before .pre) _ (c .before .before .before .before .before .before .loop-test .taken) .1)
+mul-next-2 : tie.Need-mul-next-2 Inv-loop μ-loop
+mul-next-2 c = omega (arith, c .before .before .before .loop .inv .1, shore-bounds (c .before .before .before .before .before .pre) _ (c .before .before .loop-test .taken) .0)
 
-mul-meet-2 : tie.Need-mul-meet-2 Inv-loop μ-loop
-mul-meet-2 c = omega (arith, shore-bounds (c .before .before .before .before .before .before .before .before .before .pre) _ (c .before .before .before .before .before .before .loop-test .taken) .1)
+element-copy-out-next-2 : tie.Need-element-copy-out-next-2 Inv-loop μ-loop
+element-copy-out-next-2 c = omega (arith, c .before .before .before .loop .inv .1, shore-bounds (c .before .before .before .before .before .pre) _ (c .before .before .loop-test .taken) .0)
 
-element-copy-out-meet-2 : tie.Need-element-copy-out-meet-2 Inv-loop μ-loop
-element-copy-out-meet-2 c = omega (arith, shore-bounds (c .before .before .before .before .before .before .before .before .before .pre) _ (c .before .before .before .before .before .before .loop-test .taken) .1)
+next-requires : tie.Need-next-requires Inv-loop μ-loop
+next-requires c κs = north-facing _ _ (c .before .before .before .before .loop .inv .1) (c .before .before .before .loop-test .taken) (c .before .before .before .before .loop .inv .0) _ refl (c .before .before .before .before .before .before .pre)
 
-meet-requires-2 : tie.Need-meet-requires-2 Inv-loop μ-loop
-meet-requires-2 c κs = west-facing _ _ (c .before .before .before .before .before .before .before .loop-test .taken) (c .before .before .before .before .before .before .before .before .loop .inv .0) _ refl _ (c .before .before .before .before .meet .ensures) _ refl (c .before .before .before .before .before .before .before .before .before .before .pre)
+add-next-3 : tie.Need-add-next-3 Inv-loop μ-loop
+add-next-3 c = omega (arith, c .before .before .before .before .before .before .before .before .loop .inv .1, shore-bounds (c .before .before .before .before .before .before .before .before .before .before .pre) _ (c .before .before .before .before .before .before .before .loop-test .taken) .1)
+
+add-next-4 : tie.Need-add-next-4 Inv-loop μ-loop
+add-next-4 c = omega (arith, c .before .before .before .before .before .before .before .before .loop .inv .1, shore-bounds (c .before .before .before .before .before .before .before .before .before .before .pre) _ (c .before .before .before .before .before .before .before .loop-test .taken) .1)
+
+mul-next-3 : tie.Need-mul-next-3 Inv-loop μ-loop
+mul-next-3 c = omega (arith, c .before .before .before .before .before .before .before .before .loop .inv .1, shore-bounds (c .before .before .before .before .before .before .before .before .before .before .pre) _ (c .before .before .before .before .before .before .before .loop-test .taken) .1)
+
+element-copy-out-next-3 : tie.Need-element-copy-out-next-3 Inv-loop μ-loop
+element-copy-out-next-3 c = omega (arith, c .before .before .before .before .before .before .before .before .loop .inv .1, shore-bounds (c .before .before .before .before .before .before .before .before .before .before .pre) _ (c .before .before .before .before .before .before .before .loop-test .taken) .1)
+
+add-next-5 : tie.Need-add-next-5 Inv-loop μ-loop
+add-next-5 c = omega (arith, c .before .before .before .before .before .before .before .before .before .loop .inv .1, shore-bounds (c .before .before .before .before .before .before .before .before .before .before .before .pre) _ (c .before .before .before .before .before .before .before .before .loop-test .taken) .1)
+
+add-next-6 : tie.Need-add-next-6 Inv-loop μ-loop
+add-next-6 c = omega (arith, c .before .before .before .before .before .before .before .before .before .loop .inv .1, shore-bounds (c .before .before .before .before .before .before .before .before .before .before .before .pre) _ (c .before .before .before .before .before .before .before .before .loop-test .taken) .1)
+
+sub-next-2 : tie.Need-sub-next-2 Inv-loop μ-loop
+sub-next-2 c = omega (arith, c .before .before .before .before .before .before .before .before .before .loop .inv .1, shore-bounds (c .before .before .before .before .before .before .before .before .before .before .before .pre) _ (c .before .before .before .before .before .before .before .before .loop-test .taken) .1)
+
+mul-next-4 : tie.Need-mul-next-4 Inv-loop μ-loop
+mul-next-4 c = omega (arith, c .before .before .before .before .before .before .before .before .before .loop .inv .1, shore-bounds (c .before .before .before .before .before .before .before .before .before .before .before .pre) _ (c .before .before .before .before .before .before .before .before .loop-test .taken) .1)
+
+element-copy-out-next-4 : tie.Need-element-copy-out-next-4 Inv-loop μ-loop
+element-copy-out-next-4 c = omega (arith, c .before .before .before .before .before .before .before .before .before .loop .inv .1, shore-bounds (c .before .before .before .before .before .before .before .before .before .before .before .pre) _ (c .before .before .before .before .before .before .before .before .loop-test .taken) .1)
+
+next-requires-2 : tie.Need-next-requires-2 Inv-loop μ-loop
+next-requires-2 c κs = west-facing _ _ (c .before .before .before .before .before .before .before .before .before .before .loop .inv .1) (c .before .before .before .before .before .before .before .before .before .loop-test .taken) (c .before .before .before .before .before .before .before .before .before .before .loop .inv .0) _ refl _ refl _ (c .before .before .before .before .before .next .ensures) _ refl (c .before .before .before .before .before .before .before .before .before .before .before .before .pre)
 
 add-i : tie.Need-add-i Inv-loop μ-loop
 add-i c = search needs
@@ -51,13 +78,13 @@ loop-less : tie.Need-loop-less Inv-loop μ-loop
 loop-less c = search needs
 
 loop-again : tie.Need-loop-again Inv-loop μ-loop
-loop-again c = (shore-more _ _ (c .before .before .before .before .before .before .before .before .before .before .loop-test .taken) (c .before .before .before .before .before .before .before .before .before .before .before .loop .inv .0) _ refl _ (c .before .before .before .before .before .before .before .meet .ensures) _ refl _ (c .before .before .meet2 .ensures), omega (arith, c .before .before .before .before .before .before .before .before .before .before .loop-test .taken))
+loop-again c = (shore-more _ _ (c .before .before .before .before .before .before .before .before .before .before .before .before .before .loop .inv .1) (c .before .before .before .before .before .before .before .before .before .before .before .before .loop-test .taken) (c .before .before .before .before .before .before .before .before .before .before .before .before .before .loop .inv .0) _ refl _ refl _ (c .before .before .before .before .before .before .before .before .next .ensures) _ refl _ refl _ (c .before .before .next2 .ensures), omega arith, omega (arith, c .before .before .before .before .before .before .before .before .before .before .before .before .loop-test .taken))
 
 same-length : tie.Need-same-length Inv-loop μ-loop
 same-length c = search needs
 
 returns : tie.Need-returns Inv-loop μ-loop
-returns c = shore-all (c .before .loop .inv .0) (c .before .loop .inv .1) (c .loop-test .left)
+returns c = shore-all (c .before .loop .inv .0) (c .before .loop .inv .2) (c .loop-test .left)
 
 pub shore-spec : {M : Type 1} → statement M
 shore-spec =
@@ -66,15 +93,24 @@ shore-spec =
     Inv-loop
     μ-loop
     loop-holds
-    add-meet
-    mul-meet
-    element-copy-out-meet
-    meet-requires
-    add-meet-2
-    add-meet-3
-    mul-meet-2
-    element-copy-out-meet-2
-    meet-requires-2
+    add-next
+    mul-next
+    element-copy-out-next
+    add-next-2
+    sub-next
+    mul-next-2
+    element-copy-out-next-2
+    next-requires
+    add-next-3
+    add-next-4
+    mul-next-3
+    element-copy-out-next-3
+    add-next-5
+    add-next-6
+    sub-next-2
+    mul-next-4
+    element-copy-out-next-4
+    next-requires-2
     add-i
     loop-less
     loop-again
