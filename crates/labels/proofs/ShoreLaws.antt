@@ -2,6 +2,7 @@
 use mathlib.Core.List.{List}
 use mathlib.Core.Logic.{⊎-elim}
 use mathlib.Core.Path.{_≡_, refl, ap, sym, _∙_}
+use Rattle.quad.specs.Numbers.{black}
 use Prim.Native.Nat.{ℕ, suc, _+_, _-_, _*_, _^_, _≤_, _<_}
 use native.Mathlib.Omega.{arith}
 use lib.ListN.{length, getD, set, length-set}
@@ -15,11 +16,11 @@ use Rattle.chains.proofs.ChainLaws.{chain-joined, chain-back}
 use Rattle.chains.proofs.NodeLaws.{same-or-not, last-or-before}
 use Rattle.labels.specs.Sets.{placeOf, Placed, Sets, Further, Alike}
 use Rattle.labels.specs.Lines.{Has, Label, Tells, Line, MetAt, Met, across}
-use Rattle.labels.specs.Touch.{oddOf}
-use Rattle.labels.specs.Walk.{Lines, Facing, Faced, Meets, Nexts, Along, Shore, Shored, Shores, Quiet, Filled}
+use Rattle.labels.specs.Touch.{apartOf, oddOf}
+use Rattle.labels.specs.Walk.{Lines, Facing, Faced, Meets, Nexts, Along, Shore, Shored, Shores, Quiet, Sides, Filled}
 use Rattle.labels.proofs.PlaceLaws.{own-pixel, has-across}
 use Rattle.labels.proofs.SetsLaws.{further-none, further-on, not-root}
-use Rattle.labels.proofs.TouchLaws.{set-chain, shares-north, shares-west}
+use Rattle.labels.proofs.TouchLaws.{apart-is, set-chain, shares-north, shares-west}
 use Rattle.labels.proofs.LineLaws.{line-still, label-still}
 
 -- v tells of the pixel (x, y) just beyond a side of p, where there is one
@@ -219,6 +220,31 @@ module _ {W L : List ℕ} {label x y side : ℕ} where
 pub shore-all : {W L W' : List ℕ} {label x y side i : ℕ} → Shores W L label x y side i W' → i ≤ side → side ≤ i → Shores W L label x y side side W'
 shore-all {side = side} {i} h a b = let e : i ≡ side = omega arith in rw e at h
 
+-- a leaf of two by two pixels: the second pixel of the north side, and then that of the west side
+before : (L : List ℕ) (i : ℕ) → getD L i 0 ≡ getD L (i + 1 - 1) 0
+before L i = let e : i ≡ i + 1 - 1 = omega arith in ap (λ (k : ℕ). getD L k 0) e
+
+pub two-north : {W L : List ℕ} {label x y : ℕ} → Shore W L label x y 2 → Facing W label (getD L (x + 1) 0)
+two-north {W} z = north-facing 1 W (omega arith) (omega arith) shore-start _ refl z
+
+module _ {W L W₂ : List ℕ} {label x y : ℕ} (m : Nexts W label (getD L (x + 1) 0) (getD L x 0) W₂) where
+  pub two-west : Shore W L label x y 2 → Facing W₂ label (getD L (across + y + 1) 0)
+  two-west z = west-facing 1 W (omega arith) (omega arith) shore-start _ refl _ (before L x) W₂ m _ refl z
+
+  pub two-shores : (W₃ : List ℕ) → Nexts W₂ label (getD L (across + y + 1) 0) (getD L (across + y) 0) W₃ → Shores W L label x y 2 2 W₃
+  two-shores W₃ m₂ = shore-more 1 W (omega arith) (omega arith) shore-start _ refl _ (before L x) W₂ m _ refl _ (before L (across + y)) W₃ m₂
+
+apart-none : (a b r : ℕ) → r ≡ apartOf a b → r ≡ 0 → a ≡ b
+apart-none a b r e z = same-or-not a b (λ s. s) (λ ne. absurd (omega (arith, apart-is a b r e ne, z)))
+
+pub two-quiet : {W L : List ℕ} {kind label x y a b : ℕ} → a ≡ apartOf (getD L (x + 1) 0) (getD L x 0)
+    → b ≡ apartOf (getD L (across + y + 1) 0) (getD L (across + y) 0) → 2 * kind + a + b ≤ 2 → Sides kind W L label x y 2 W
+two-quiet {W} {a = a} {b = b} ea eb few = record {
+  wet = λ wet.
+      two-shores (next-none (apart-none _ _ a ea (omega (arith, few, wet)))) W (next-none (apart-none _ _ b eb (omega (arith, few, wet))));
+  dry = λ z. refl;
+}
+
 -- the lines filled
 pub fill-none : (L : List ℕ) (label x y : ℕ) → Filled L label x y 0 L
 fill-none L label x y = record {
@@ -251,6 +277,14 @@ module _ {L L' : List ℕ} {label x y i : ℕ} (h : Filled L label x y i L') (lo
             ∙ inner j (λ e. a (omega (arith, e)) (omega (arith, e)))
             ∙ h .rest j (λ p q. a p (omega (arith, q))) (λ p q. b p (omega (arith, q)));
       }
+
+pub fill-two : (L : List ℕ) (label x y : ℕ) → length L ≡ 2 * across → x + 2 ≤ across → y + 2 ≤ across
+    → Filled L label x y 2 (set (set (set (set L x label) (across + y) label) (x + 1) label) (across + y + 1) label)
+fill-two L label x y long lx ly =
+    let ex : x + 0 ≡ x = omega arith in
+    let ey : across + y + 0 ≡ across + y = omega arith in
+    let one = fill-more (fill-none L label x y) long (omega (arith, lx)) (omega (arith, ly)) in
+    rw (ex, ey) at (fill-more one long (omega (arith, lx)) (omega (arith, ly)))
 
 pub fill-all : {L L' : List ℕ} {label x y side i : ℕ} → Filled L label x y i L' → i ≤ side → side ≤ i → Filled L label x y side L'
 fill-all {side = side} {i} h a b = let e : side ≡ i = omega arith in rw e h

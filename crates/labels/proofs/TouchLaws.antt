@@ -225,7 +225,7 @@ some-is : (a s : ℕ) → s ≡ someOf a → (a ≡ 0 → ⊥) → s ≡ 1
 unfolding someOf
 some-is a s e z = e ∙ (rw (ne-eqb a 0 z))
 
-apart-is : (a b s : ℕ) → s ≡ apartOf a b → (a ≡ b → ⊥) → s ≡ 1
+pub apart-is : (a b s : ℕ) → s ≡ apartOf a b → (a ≡ b → ⊥) → s ≡ 1
 unfolding apartOf
 apart-is a b s e z = e ∙ (rw (ne-eqb a b z))
 

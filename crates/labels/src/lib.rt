@@ -202,6 +202,27 @@ fn sides(
     shore(words, lines, label, x, y, side);
 }
 
+// The same for a leaf of two by two pixels. Mostly the second pixel of either side tells what the first told, and then nothing is to be done.
+fn two_sides(
+    words: &mut [u32],
+    lines: &[u32; 256],
+    kind: usize,
+    label: u32,
+    x: usize,
+    y: usize,
+)
+    requires { ⌜ (kind ≡ black → Shore (now words) (now lines) label x y 2) × (x + 2 ≤ across) × (y + 2 ≤ across) × (kind ≤ 1) ⌝ }
+    ensures { λ _. ⌜ Sides kind (now (words .entry)) (now (lines .entry)) label x y 2 (now (words .exit)) ⌝ }
+{
+    let north = apart(lines[x + 1], lines[x]);
+    let west = apart(lines[ACROSS + y + 1], lines[ACROSS + y]);
+    if 2 * kind + north + west <= 2 {
+        return;
+    }
+    next(words, label, lines[x + 1], lines[x]);
+    next(words, label, lines[ACROSS + y + 1], lines[ACROSS + y]);
+}
+
 // Writes a label to the lines, in the columns and the rows of a block.
 fn fill(lines: &mut [u32; 256], label: u32, x: usize, y: usize, side: usize)
     requires { ⌜ (length (now lines) ≡ 2 * across) × (x + side ≤ across) × (y + side ≤ across) ⌝ }
@@ -213,6 +234,17 @@ fn fill(lines: &mut [u32; 256], label: u32, x: usize, y: usize, side: usize)
         lines[ACROSS + y + i] = label;
         i += 1;
     }
+}
+
+// The same for a block of two by two pixels.
+fn fill_two(lines: &mut [u32; 256], label: u32, x: usize, y: usize)
+    requires { ⌜ (length (now lines) ≡ 2 * across) × (x + 2 ≤ across) × (y + 2 ≤ across) ⌝ }
+    ensures { λ _. ⌜ Filled (now (lines .entry)) label x y 2 (now (lines .exit)) ⌝ }
+{
+    lines[x] = label;
+    lines[ACROSS + y] = label;
+    lines[x + 1] = label;
+    lines[ACROSS + y + 1] = label;
 }
 
 // 1 for a leaf that is its own label, else 0.
@@ -249,6 +281,31 @@ fn leaf(
     );
     sides(words, lines, kind, label, x, y, side);
     fill(lines, label, x, y, side);
+    same(label, p)
+}
+
+// The same for a leaf of two by two pixels.
+fn two(
+    words: &mut [u32],
+    lines: &mut [u32; 256],
+    kind: usize,
+    p: usize,
+    x: usize,
+    y: usize,
+) -> u32
+    requires { ⌜ ToLeaf (now words) (now lines) kind p 2 x y ⌝ }
+    ensures { λ r. ⌜ PastLeaf (now (words .entry)) (now (lines .entry)) kind p 2 x y (now (words .exit)) (now (lines .exit)) r ⌝ }
+{
+    let label = touch(
+        words,
+        kind,
+        p,
+        lines[x],
+        lines[ACROSS + y],
+        (ACROSS * y + x) as u32,
+    );
+    two_sides(words, lines, kind, label, x, y);
+    fill_two(lines, label, x, y);
     same(label, p)
 }
 
@@ -345,7 +402,7 @@ fn fork(
             }
         } else {
             if half == 1 {
-                leaders = or(leaders, leaf(words, lines, kind, son, 2, sx, sy));
+                leaders = or(leaders, two(words, lines, kind, son, sx, sy));
             } else {
                 leaders = or(leaders, leaf(words, lines, kind, son, side, sx, sy));
             }

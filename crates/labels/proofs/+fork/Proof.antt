@@ -13,6 +13,7 @@ use borrow.Fn.PlainCycle.{Measures, is, falls, and}
 use Rattle.labels.proofs.fork.Reads as fork
 use Rattle.labels.proofs.fork.Kinds as fork-kinds
 use Rattle.labels.proofs.+fork.Lts-fork as fork-lts
+use Rattle.labels.proofs.two.Reads as two-reads
 use Rattle.labels.proofs.leaf.Reads as leaf-reads
 use Rattle.labels.proofs.mark.Reads as mark-reads
 use Rattle.labels.proofs.or.Reads as or-reads
@@ -43,6 +44,8 @@ calls t = (
   or-reads.Learnt,
   fork-below t,
   fork.Post,
+  two-reads.Asked,
+  two-reads.Learnt,
   leaf-reads.Asked,
   leaf-reads.Learnt,
   mark-reads.Asked,
@@ -116,8 +119,8 @@ fork-loop-less-2 t c = omega (arith, c .before .before .before .before .before .
 fork-loop-again-2 : (t : ℕ) → fork-lts.Need-loop-again-2 (calls t) (fork-at t) fork.Post fork-Inv-loop fork-μ-loop
 fork-loop-again-2 t c = (omega (arith, c .before .before .before .before .before .before .before .before .before .before .loop-test .taken), c .before .before .before .fork .kept .1 .0 ∙ c .before .before .before .before .before .before .before .before .before .before .before .loop .inv .1, c .before .before .before .before .before .before .before .before .before .before .before .loop .inv .2, c .before .before .before .before .before .before .before .before .before .before .before .loop .inv .3, rw (c .or2 .ensures) (firsts-fork _ _ _ _ _ _ _ (c .before .before .before .before .before .before .before .before .before .before .before .before .before .before .before .pre .1 .1) _ _ (c .before .before .before .before .before .before .before .before .before .before .before .loop .inv .3) (c .before .before .before .before .before .before .before .before .before .before .before .loop .inv .2) (c .before .before .before .before .before .before .before .before .before .before .before .loop .quadrant) (c .before .before .before .before .before .before .before .before .before .before .loop-test .taken) _ _ _ (c .before .before .before .before .before .before .before .before .before .before .before .loop .inv .4) _ _ _ (c .before .before .before .before .before .before .before .before .before .word-at .ensures) refl refl _ _ _ (c .before .before .before .fork .ensures)))
 
-fork-leaf-requires : (t : ℕ) → fork-lts.Need-leaf-requires (calls t) (fork-at t) fork.Post fork-Inv-loop fork-μ-loop
-fork-leaf-requires t c κs = son-leaf _ _ _ _ _ _ _ (c .before .before .before .before .before .before .before .before .before .before .before .pre .1 .1) _ _ (c .before .before .before .before .before .before .before .loop .inv .3) (c .before .before .before .before .before .before .before .loop .inv .2) (c .before .before .before .before .before .before .before .loop .quadrant) (c .before .before .before .before .before .before .loop-test .taken) _ _ _ (c .before .before .before .before .before .before .before .loop .inv .4) _ _ _ (c .before .before .before .before .before .word-at .ensures) refl refl _ _ (c .before .before .before .before .word-at2 .ensures) (c .before .before .before .if1 .left) (two-power _ (c .before .before .if3 .taken)) (c .before .before .before .before .before .before .before .before .before .before .before .pre .1 .0)
+fork-two-requires : (t : ℕ) → fork-lts.Need-two-requires (calls t) (fork-at t) fork.Post fork-Inv-loop fork-μ-loop
+fork-two-requires t c κs = son-leaf _ _ _ _ _ _ _ (c .before .before .before .before .before .before .before .before .before .before .before .pre .1 .1) _ _ (c .before .before .before .before .before .before .before .loop .inv .3) (c .before .before .before .before .before .before .before .loop .inv .2) (c .before .before .before .before .before .before .before .loop .quadrant) (c .before .before .before .before .before .before .loop-test .taken) _ _ _ (c .before .before .before .before .before .before .before .loop .inv .4) _ _ _ (c .before .before .before .before .before .word-at .ensures) refl refl _ _ (c .before .before .before .before .word-at2 .ensures) (c .before .before .before .if1 .left) (two-power _ (c .before .before .if3 .taken)) (c .before .before .before .before .before .before .before .before .before .before .before .pre .1 .0)
 
 fork-or-requires-3 : (t : ℕ) → fork-lts.Need-or-requires-3 (calls t) (fork-at t) fork.Post fork-Inv-loop fork-μ-loop
 fork-or-requires-3 t c κs = search needs
@@ -126,10 +129,10 @@ fork-loop-less-3 : (t : ℕ) → fork-lts.Need-loop-less-3 (calls t) (fork-at t)
 fork-loop-less-3 t c = omega (arith, c .before .before .before .before .before .before .before .before .before .before .loop-test .taken)
 
 fork-loop-again-3 : (t : ℕ) → fork-lts.Need-loop-again-3 (calls t) (fork-at t) fork.Post fork-Inv-loop fork-μ-loop
-fork-loop-again-3 t c = (omega (arith, c .before .before .before .before .before .before .before .before .before .before .loop-test .taken), c .before .before .before .leaf .kept .0 ∙ c .before .before .before .before .before .before .before .before .before .before .before .loop .inv .1, c .before .before .before .before .before .before .before .before .before .before .before .loop .inv .2, c .before .before .before .before .before .before .before .before .before .before .before .loop .inv .3, rw (c .or3 .ensures) (firsts-leaf _ _ _ _ _ _ _ (c .before .before .before .before .before .before .before .before .before .before .before .before .before .before .before .pre .1 .1) _ _ (c .before .before .before .before .before .before .before .before .before .before .before .loop .inv .3) (c .before .before .before .before .before .before .before .before .before .before .before .loop .inv .2) (c .before .before .before .before .before .before .before .before .before .before .before .loop .quadrant) (c .before .before .before .before .before .before .before .before .before .before .loop-test .taken) _ _ _ (c .before .before .before .before .before .before .before .before .before .before .before .loop .inv .4) _ _ _ (c .before .before .before .before .before .before .before .before .before .word-at .ensures) refl refl _ _ (c .before .before .before .before .before .before .before .before .word-at2 .ensures) (c .before .before .before .before .before .before .before .if1 .left) (two-power _ (c .before .before .before .before .before .before .if3 .taken)) _ _ _ (c .before .before .before .leaf .ensures)))
+fork-loop-again-3 t c = (omega (arith, c .before .before .before .before .before .before .before .before .before .before .loop-test .taken), c .before .before .before .two .kept .0 ∙ c .before .before .before .before .before .before .before .before .before .before .before .loop .inv .1, c .before .before .before .before .before .before .before .before .before .before .before .loop .inv .2, c .before .before .before .before .before .before .before .before .before .before .before .loop .inv .3, rw (c .or3 .ensures) (firsts-leaf _ _ _ _ _ _ _ (c .before .before .before .before .before .before .before .before .before .before .before .before .before .before .before .pre .1 .1) _ _ (c .before .before .before .before .before .before .before .before .before .before .before .loop .inv .3) (c .before .before .before .before .before .before .before .before .before .before .before .loop .inv .2) (c .before .before .before .before .before .before .before .before .before .before .before .loop .quadrant) (c .before .before .before .before .before .before .before .before .before .before .loop-test .taken) _ _ _ (c .before .before .before .before .before .before .before .before .before .before .before .loop .inv .4) _ _ _ (c .before .before .before .before .before .before .before .before .before .word-at .ensures) refl refl _ _ (c .before .before .before .before .before .before .before .before .word-at2 .ensures) (c .before .before .before .before .before .before .before .if1 .left) (two-power _ (c .before .before .before .before .before .before .if3 .taken)) _ _ _ (c .before .before .before .two .ensures)))
 
-fork-leaf-requires-2 : (t : ℕ) → fork-lts.Need-leaf-requires-2 (calls t) (fork-at t) fork.Post fork-Inv-loop fork-μ-loop
-fork-leaf-requires-2 t c κs = son-leaf _ _ _ _ _ _ _ (c .before .before .before .before .before .before .before .before .before .before .before .pre .1 .1) _ _ (c .before .before .before .before .before .before .before .loop .inv .3) (c .before .before .before .before .before .before .before .loop .inv .2) (c .before .before .before .before .before .before .before .loop .quadrant) (c .before .before .before .before .before .before .loop-test .taken) _ _ _ (c .before .before .before .before .before .before .before .loop .inv .4) _ _ _ (c .before .before .before .before .before .word-at .ensures) refl refl _ _ (c .before .before .before .before .word-at2 .ensures) (c .before .before .before .if1 .left) (c .before .before .before .before .before .before .before .loop .inv .3) (c .before .before .before .before .before .before .before .before .before .before .before .pre .1 .0)
+fork-leaf-requires : (t : ℕ) → fork-lts.Need-leaf-requires (calls t) (fork-at t) fork.Post fork-Inv-loop fork-μ-loop
+fork-leaf-requires t c κs = son-leaf _ _ _ _ _ _ _ (c .before .before .before .before .before .before .before .before .before .before .before .pre .1 .1) _ _ (c .before .before .before .before .before .before .before .loop .inv .3) (c .before .before .before .before .before .before .before .loop .inv .2) (c .before .before .before .before .before .before .before .loop .quadrant) (c .before .before .before .before .before .before .loop-test .taken) _ _ _ (c .before .before .before .before .before .before .before .loop .inv .4) _ _ _ (c .before .before .before .before .before .word-at .ensures) refl refl _ _ (c .before .before .before .before .word-at2 .ensures) (c .before .before .before .if1 .left) (c .before .before .before .before .before .before .before .loop .inv .3) (c .before .before .before .before .before .before .before .before .before .before .before .pre .1 .0)
 
 fork-or-requires-4 : (t : ℕ) → fork-lts.Need-or-requires-4 (calls t) (fork-at t) fork.Post fork-Inv-loop fork-μ-loop
 fork-or-requires-4 t c κs = search needs
@@ -138,7 +141,7 @@ fork-loop-less-4 : (t : ℕ) → fork-lts.Need-loop-less-4 (calls t) (fork-at t)
 fork-loop-less-4 t c = omega (arith, c .before .before .before .before .before .before .before .before .before .before .loop-test .taken)
 
 fork-loop-again-4 : (t : ℕ) → fork-lts.Need-loop-again-4 (calls t) (fork-at t) fork.Post fork-Inv-loop fork-μ-loop
-fork-loop-again-4 t c = (omega (arith, c .before .before .before .before .before .before .before .before .before .before .loop-test .taken), c .before .before .before .leaf2 .kept .0 ∙ c .before .before .before .before .before .before .before .before .before .before .before .loop .inv .1, c .before .before .before .before .before .before .before .before .before .before .before .loop .inv .2, c .before .before .before .before .before .before .before .before .before .before .before .loop .inv .3, rw (c .or4 .ensures) (firsts-leaf _ _ _ _ _ _ _ (c .before .before .before .before .before .before .before .before .before .before .before .before .before .before .before .pre .1 .1) _ _ (c .before .before .before .before .before .before .before .before .before .before .before .loop .inv .3) (c .before .before .before .before .before .before .before .before .before .before .before .loop .inv .2) (c .before .before .before .before .before .before .before .before .before .before .before .loop .quadrant) (c .before .before .before .before .before .before .before .before .before .before .loop-test .taken) _ _ _ (c .before .before .before .before .before .before .before .before .before .before .before .loop .inv .4) _ _ _ (c .before .before .before .before .before .before .before .before .before .word-at .ensures) refl refl _ _ (c .before .before .before .before .before .before .before .before .word-at2 .ensures) (c .before .before .before .before .before .before .before .if1 .left) (c .before .before .before .before .before .before .before .before .before .before .before .loop .inv .3) _ _ _ (c .before .before .before .leaf2 .ensures)))
+fork-loop-again-4 t c = (omega (arith, c .before .before .before .before .before .before .before .before .before .before .loop-test .taken), c .before .before .before .leaf .kept .0 ∙ c .before .before .before .before .before .before .before .before .before .before .before .loop .inv .1, c .before .before .before .before .before .before .before .before .before .before .before .loop .inv .2, c .before .before .before .before .before .before .before .before .before .before .before .loop .inv .3, rw (c .or4 .ensures) (firsts-leaf _ _ _ _ _ _ _ (c .before .before .before .before .before .before .before .before .before .before .before .before .before .before .before .pre .1 .1) _ _ (c .before .before .before .before .before .before .before .before .before .before .before .loop .inv .3) (c .before .before .before .before .before .before .before .before .before .before .before .loop .inv .2) (c .before .before .before .before .before .before .before .before .before .before .before .loop .quadrant) (c .before .before .before .before .before .before .before .before .before .before .loop-test .taken) _ _ _ (c .before .before .before .before .before .before .before .before .before .before .before .loop .inv .4) _ _ _ (c .before .before .before .before .before .before .before .before .before .word-at .ensures) refl refl _ _ (c .before .before .before .before .before .before .before .before .word-at2 .ensures) (c .before .before .before .before .before .before .before .if1 .left) (c .before .before .before .before .before .before .before .before .before .before .before .loop .inv .3) _ _ _ (c .before .before .before .leaf .ensures)))
 
 fork-mark-requires : (t : ℕ) → fork-lts.Need-mark-requires (calls t) (fork-at t) fork.Post fork-Inv-loop fork-μ-loop
 fork-mark-requires t c κs = search needs
@@ -180,11 +183,11 @@ pub +fork-spec : {M : Type 1} → statement M
     (fork-or-requires-2 t)
     (fork-loop-less-2 t)
     (fork-loop-again-2 t)
-    (fork-leaf-requires t)
+    (fork-two-requires t)
     (fork-or-requires-3 t)
     (fork-loop-less-3 t)
     (fork-loop-again-3 t)
-    (fork-leaf-requires-2 t)
+    (fork-leaf-requires t)
     (fork-or-requires-4 t)
     (fork-loop-less-4 t)
     (fork-loop-again-4 t)
