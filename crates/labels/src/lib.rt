@@ -146,7 +146,12 @@ fn shore(words: &mut [u32], lines: &[u32; 256], label: u32, x: usize, y: usize, 
     let mut i = 1;
     while i < side {
         next(words, label, lines[x + i], lines[x + i - 1]);
-        next(words, label, lines[ACROSS + y + i], lines[ACROSS + y + i - 1]);
+        next(
+            words,
+            label,
+            lines[ACROSS + y + i],
+            lines[ACROSS + y + i - 1],
+        );
         i += 1;
     }
 }
@@ -203,14 +208,7 @@ fn sides(
 }
 
 // The same for a leaf of two by two pixels. Mostly the second pixel of either side tells what the first told, and then nothing is to be done.
-fn two_sides(
-    words: &mut [u32],
-    lines: &[u32; 256],
-    kind: usize,
-    label: u32,
-    x: usize,
-    y: usize,
-)
+fn two_sides(words: &mut [u32], lines: &[u32; 256], kind: usize, label: u32, x: usize, y: usize)
     requires { ⌜ (kind ≡ black → Shore (now words) (now lines) label x y 2) × (x + 2 ≤ across) × (y + 2 ≤ across) × (kind ≤ 1) ⌝ }
     ensures { λ _. ⌜ Sides kind (now (words .entry)) (now (lines .entry)) label x y 2 (now (words .exit)) ⌝ }
 {
@@ -285,14 +283,7 @@ fn leaf(
 }
 
 // The same for a leaf of two by two pixels.
-fn two(
-    words: &mut [u32],
-    lines: &mut [u32; 256],
-    kind: usize,
-    p: usize,
-    x: usize,
-    y: usize,
-) -> u32
+fn two(words: &mut [u32], lines: &mut [u32; 256], kind: usize, p: usize, x: usize, y: usize) -> u32
     requires { ⌜ ToLeaf (now words) (now lines) kind p 2 x y ⌝ }
     ensures { λ r. ⌜ PastLeaf (now (words .entry)) (now (lines .entry)) kind p 2 x y (now (words .exit)) (now (lines .exit)) r ⌝ }
 {
