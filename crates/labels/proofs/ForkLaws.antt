@@ -133,6 +133,21 @@ pub record First (n : ℕ) (T W : List ℕ) (lead : ℕ → ℕ) (L : List ℕ) 
   pub others : (l i : ℕ) → 2 ^ l ≡ 2 * h → Water T i → (Begins n T i x y l → ⊥) → wordOf W i ≡ 0 → wordOf W' i ≡ 0
   pub none : r ≡ 0 → (k : ℕ) → k < q → (i : ℕ) → Water T i → Begins n T i (acrossTo x h k) (downTo y h k) half → wordOf W' i < leading
 
+pub first-other : {n : ℕ} {T W : List ℕ} {lead : ℕ → ℕ} {L : List ℕ} {x y h half q : ℕ} {W' L' : List ℕ} {r : ℕ} (r' : ℕ) → (r' ≡ 0 → r ≡ 0)
+    → First n T W lead L x y h half q W' L' r → First n T W lead L x y h half q W' L' r'
+first-other r' low a = record {
+  lead' = a .lead';
+  further = a .further;
+  met = a .met;
+  long = a .long;
+  halves = a .halves;
+  rest = a .rest;
+  placed = a .placed;
+  free = a .free;
+  others = a .others;
+  none = λ o. a .none (low o);
+}
+
 -- what lies north and west of quadrant q
 pub quadrant-lines : {n : ℕ} {T W : List ℕ} {lead : ℕ → ℕ} {L : List ℕ} (x y h half : ℕ) → h ≡ 2 ^ half → (q : ℕ) → q < 4 → Halves n T W lead L x y h q
     → Lines n T W lead L (acrossTo x h q) (downTo y h q) half
@@ -249,7 +264,7 @@ module _ {T W L : List ℕ} {m x y l : ℕ} (z : Coming T W L m x y l) (f : isFo
   }
 
   -- the block lies on the sheet
-  room : (x + 2 * h ≤ across) × (y + 2 * h ≤ across)
+  pub room : (x + 2 * h ≤ across) × (y + 2 * h ≤ across)
   room =
       let w : sideOf n T m ≡ 2 * h = ap (λ (k : ℕ). 2 ^ k) (sym (level-is (z .at))) ∙ two in
       let s : 0 < h = rw is (pow-pos half) in
@@ -415,72 +430,6 @@ module _ (T W L : List ℕ) (p x y l : ℕ) (f : isFork T p ≡ true) (h half : 
 
   pub all-within : (W' L' : List ℕ) (r : ℕ) → Those 4 W' L' r → Coming T W L p x y l → p < length W'
   all-within W' L' r a z = omega (arith, z .at .node, a z .further .sets .each)
-
--- a fork of four pixels
-module _ (T W L : List ℕ) (p x y : ℕ) (f : isFork T p ≡ true) (c₀ c₁ c₂ c₃ : ℕ) (e₀ : c₀ ≡ son T p 0) (e₁ : c₁ ≡ son T p 1) (e₂ : c₂ ≡ son T p 2) (e₃ : c₃ ≡ son T p 3) where
-  abbrev Some : ℕ → List ℕ → List ℕ → ℕ → Type 0
-  Some q W' L' r = Firsts T W L p x y 1 1 0 q W' L' r
-
-  -- the sons of a fork of level 1 are leaves
-  pub pixel-leaf : Coming T W L p x y 1 → (q : ℕ) → q < 4 → (c k : ℕ) → c ≡ son T p q → k ≡ type T c → k ≡ forkType → ⊥
-  pixel-leaf z q q4 c k ec ek e =
-      let d = son-at (z .at) f q q4 in
-      omega (arith, fork-above d (eq-eqb (type T (son T p q)) forkType (ap (type T) (sym ec) ∙ sym ek ∙ e)))
-
-  module _ (z : Coming T W L p x y 1) (k₀ k₁ k₂ k₃ : ℕ) (t₀ : k₀ ≡ type T c₀) (t₁ : k₁ ≡ type T c₁) (t₂ : k₂ ≡ type T c₂) (t₃ : k₃ ≡ type T c₃) where
-    pub four-none : Some 0 W L 0
-    four-none = firsts-none T W L p x y 1 f 1 0 refl refl
-
-    pub four-first : ToLeaf W L k₀ c₀ 1 x y
-    four-first =
-        son-leaf T W L p x y 1 f 1 0 refl refl 0 (omega arith) W L 0 four-none c₀ x y e₀ (omega arith) (omega arith) k₀ 1 t₀ (pixel-leaf z 0 (omega arith) c₀ k₀ e₀ t₀) refl z
-
-    module _ (W₁ L₁ : List ℕ) (a : ℕ) (g₀ : PastLeaf W L k₀ c₀ 1 x y W₁ L₁ a) where
-      four-one : Some 1 W₁ L₁ (orOf 0 a)
-      four-one =
-          firsts-leaf T W L p x y 1 f 1 0 refl refl 0 (omega arith) W L 0 four-none c₀ x y e₀ (omega arith) (omega arith) k₀ 1 t₀
-          (pixel-leaf z 0 (omega arith) c₀ k₀ e₀ t₀) refl W₁ L₁ a g₀
-
-      pub four-second : ToLeaf W₁ L₁ k₁ c₁ 1 (x + 1) y
-      four-second =
-          son-leaf T W L p x y 1 f 1 0 refl refl 1 (omega arith) W₁ L₁ (orOf 0 a) four-one c₁ (x + 1) y e₁ (omega arith) (omega arith) k₁ 1 t₁
-          (pixel-leaf z 1 (omega arith) c₁ k₁ e₁ t₁) refl z
-
-      module _ (W₂ L₂ : List ℕ) (b : ℕ) (g₁ : PastLeaf W₁ L₁ k₁ c₁ 1 (x + 1) y W₂ L₂ b) where
-        four-two : Some 2 W₂ L₂ (orOf (orOf 0 a) b)
-        four-two =
-            firsts-leaf T W L p x y 1 f 1 0 refl refl 1 (omega arith) W₁ L₁ (orOf 0 a) four-one c₁ (x + 1) y e₁ (omega arith) (omega arith) k₁ 1 t₁
-            (pixel-leaf z 1 (omega arith) c₁ k₁ e₁ t₁) refl W₂ L₂ b g₁
-
-        pub four-third : ToLeaf W₂ L₂ k₂ c₂ 1 x (y + 1)
-        four-third =
-            son-leaf T W L p x y 1 f 1 0 refl refl 2 (omega arith) W₂ L₂ (orOf (orOf 0 a) b) four-two c₂ x (y + 1) e₂ (omega arith) (omega arith) k₂ 1 t₂
-            (pixel-leaf z 2 (omega arith) c₂ k₂ e₂ t₂) refl z
-
-        module _ (W₃ L₃ : List ℕ) (c : ℕ) (g₂ : PastLeaf W₂ L₂ k₂ c₂ 1 x (y + 1) W₃ L₃ c) where
-          four-three : Some 3 W₃ L₃ (orOf (orOf (orOf 0 a) b) c)
-          four-three =
-              firsts-leaf T W L p x y 1 f 1 0 refl refl 2 (omega arith) W₂ L₂ (orOf (orOf 0 a) b) four-two c₂ x (y + 1) e₂ (omega arith) (omega arith) k₂ 1 t₂
-              (pixel-leaf z 2 (omega arith) c₂ k₂ e₂ t₂) refl W₃ L₃ c g₂
-
-          pub four-fourth : ToLeaf W₃ L₃ k₃ c₃ 1 (x + 1) (y + 1)
-          four-fourth =
-              son-leaf T W L p x y 1 f 1 0 refl refl 3 (omega arith) W₃ L₃ (orOf (orOf (orOf 0 a) b) c) four-three c₃ (x + 1) (y + 1) e₃ (omega arith) (omega arith)
-              k₃ 1 t₃ (pixel-leaf z 3 (omega arith) c₃ k₃ e₃ t₃) refl z
-
-          module _ (W₄ L₄ : List ℕ) (d : ℕ) (g₃ : PastLeaf W₃ L₃ k₃ c₃ 1 (x + 1) (y + 1) W₄ L₄ d) where
-            four-all : Some 4 W₄ L₄ (orOf (orOf (orOf (orOf 0 a) b) c) d)
-            four-all =
-                firsts-leaf T W L p x y 1 f 1 0 refl refl 3 (omega arith) W₃ L₃ (orOf (orOf (orOf 0 a) b) c) four-three c₃ (x + 1) (y + 1) e₃ (omega arith) (omega arith)
-                k₃ 1 t₃ (pixel-leaf z 3 (omega arith) c₃ k₃ e₃ t₃) refl W₄ L₄ d g₃
-
-            pub four-within : p < length W₄
-            four-within = all-within T W L p x y 1 f 1 0 refl refl W₄ L₄ _ four-all z
-
-            pub four-gone : (m o r v : ℕ) → m ≡ orOf a b → o ≡ orOf m c → r ≡ orOf o d → v ≡ markOf r → Goes T W L p x y 1 (set W₄ p v) L₄ r
-            four-gone m o r v em eo er ev =
-                let e : r ≡ orOf (orOf (orOf (orOf 0 a) b) c) d = er ∙ ap (λ (k : ℕ). orOf k d) (eo ∙ ap (λ (k : ℕ). orOf k c) (em ∙ ap (λ (k : ℕ). orOf k b) (sym (or-none 0 a refl)))) in
-                firsts-all T W L p x y 1 f 1 0 refl refl W₄ L₄ r v (rw e four-all) ev
 
 -- a son is a node, and what lies beside the first pixel is on the lines
 pub son-node : {T W L : List ℕ} {p x y l : ℕ} → Coming T W L p x y l → isFork T p ≡ true → (q : ℕ) → q < 4 → (c : ℕ) → c ≡ son T p q → (c < nodes T) × (5 < 6)

@@ -8,4 +8,5 @@ pub mod LineLaws
 pub mod ShoreLaws
 pub mod LeafLaws
 pub mod ForkLaws
+pub mod FourLaws
 pub mod LeadLaws

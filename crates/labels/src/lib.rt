@@ -247,7 +247,7 @@ fn fill_two(lines: &mut [u32; 256], label: u32, x: usize, y: usize)
 
 // 1 for a leaf that is its own label, else 0.
 fn same(label: u32, p: usize) -> u32
-    ensures { λ r. ⌜ r ≡ sameOf label p ⌝ }
+    ensures { λ r. ⌜ (r ≡ sameOf label p) × (r ≤ 1) ⌝ }
 {
     if label as usize == p {
         return 1;
@@ -300,31 +300,6 @@ fn two(words: &mut [u32], lines: &mut [u32; 256], kind: usize, p: usize, x: usiz
     same(label, p)
 }
 
-// The same for a pixel.
-fn pixel(
-    words: &mut [u32],
-    lines: &mut [u32; 256],
-    kind: usize,
-    p: usize,
-    x: usize,
-    y: usize,
-) -> u32
-    requires { ⌜ ToLeaf (now words) (now lines) kind p 1 x y ⌝ }
-    ensures { λ r. ⌜ PastLeaf (now (words .entry)) (now (lines .entry)) kind p 1 x y (now (words .exit)) (now (lines .exit)) r ⌝ }
-{
-    let label = touch(
-        words,
-        kind,
-        p,
-        lines[x],
-        lines[ACROSS + y],
-        (ACROSS * y + x) as u32,
-    );
-    lines[x] = label;
-    lines[ACROSS + y] = label;
-    same(label, p)
-}
-
 // A fork's word: its mark where nothing under it leads a set of its own, else 0.
 fn mark(leaders: u32) -> u32
     ensures { λ r. ⌜ r ≡ markOf leaders ⌝ }
@@ -335,7 +310,8 @@ fn mark(leaders: u32) -> u32
     0
 }
 
-// The four pixels of a fork of which (x, y) is the first. Gives 0 where none leads a set of its own.
+// The four pixels of a fork of which (x, y) is the first, each with the labels of those before it; then the lines tell of the last row and column. Gives 0 where
+// none leads a set of its own.
 fn pixels(
     table: &[u32],
     words: &mut [u32],
@@ -351,11 +327,31 @@ fn pixels(
     let ne = word_at(table, p, 2);
     let sw = word_at(table, p, 3);
     let se = word_at(table, p, 4);
-    let a = pixel(words, lines, word_at(table, nw, 5), nw, x, y);
-    let b = pixel(words, lines, word_at(table, ne, 5), ne, x + 1, y);
-    let c = pixel(words, lines, word_at(table, sw, 5), sw, x, y + 1);
-    let d = pixel(words, lines, word_at(table, se, 5), se, x + 1, y + 1);
-    let leaders = or(or(or(a, b), c), d);
+    let place = (ACROSS * y + x) as u32;
+    let row = ACROSS as u32;
+    let a = touch(
+        words,
+        word_at(table, nw, 5),
+        nw,
+        lines[x],
+        lines[ACROSS + y],
+        place,
+    );
+    let b = touch(words, word_at(table, ne, 5), ne, lines[x + 1], a, place + 1);
+    let c = touch(
+        words,
+        word_at(table, sw, 5),
+        sw,
+        a,
+        lines[ACROSS + y + 1],
+        place + row,
+    );
+    let d = touch(words, word_at(table, se, 5), se, b, c, place + row + 1);
+    lines[x] = c;
+    lines[x + 1] = d;
+    lines[ACROSS + y] = b;
+    lines[ACROSS + y + 1] = d;
+    let leaders = same(a, nw) + same(b, ne) + same(c, sw) + same(d, se);
     words[p] = mark(leaders);
     leaders
 }

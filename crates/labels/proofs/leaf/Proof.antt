@@ -2,7 +2,7 @@
 use mathlib.Core.Path.{refl}
 use native.Mathlib.Omega.{arith}
 use borrow.Author.Needs.{needs}
-use Rattle.labels.proofs.LeafLaws.{leaf-bounds, leaf-room, leaf-touching, leaf-touched, leaf-shore, leaf-past, pixel-past, filled-one}
+use Rattle.labels.proofs.LeafLaws.{leaf-bounds, leaf-room, leaf-touching, leaf-touched, leaf-shore, leaf-past}
 use Rattle.labels.proofs.leaf.Statement.{statement}
 use Rattle.labels.proofs.leaf.Tie as tie
 
@@ -46,7 +46,7 @@ same-length : tie.Need-same-length
 same-length c = search needs
 
 returns : tie.Need-returns
-returns c = λ z. leaf-past _ _ _ (c .before .before .before .before .before .sides .ensures) _ _ (c .before .fill .ensures) (c .same .ensures) z (leaf-touched z _ _ _ refl refl refl _ _ (c .before .before .before .before .before .before .before .before .before .before .touch .ensures))
+returns c = λ z. leaf-past _ _ _ (c .before .before .before .before .before .sides .ensures) _ _ (c .before .fill .ensures) (c .same .ensures .0) z (leaf-touched z _ _ _ refl refl refl _ _ (c .before .before .before .before .before .before .before .before .before .before .touch .ensures))
 
 pub leaf-spec : {M : Type 1} → statement M
 leaf-spec =

@@ -1,9 +1,10 @@
--- `labels::pixels`: four leaves in turn, and the fork's own word. Assumes nothing.
+-- `labels::pixels`: pixel by pixel, and then the lines. Assumes nothing.
 use mathlib.Core.Path.{refl, _∙_}
 use native.Mathlib.Omega.{arith}
 use borrow.Author.Needs.{needs}
 use Rattle.labels.proofs.TouchLaws.{set-kept}
-use Rattle.labels.proofs.ForkLaws.{son-node, corner-bounds, four-first, four-second, four-third, four-fourth, four-within, four-gone}
+use Rattle.labels.proofs.ForkLaws.{room, son-node}
+use Rattle.labels.proofs.FourLaws.{touching-first, touching-second, touching-third, touching-fourth, pixels-within, pixels-gone}
 use Rattle.labels.proofs.pixels.Statement.{statement}
 use Rattle.labels.proofs.pixels.Tie as tie
 
@@ -19,65 +20,161 @@ word-at-requires-3 c κs = search needs
 word-at-requires-4 : tie.Need-word-at-requires-4
 word-at-requires-4 c κs = search needs
 
-word-at-requires-5 : tie.Need-word-at-requires-5
-word-at-requires-5 c κs = son-node (c .before .before .before .before .before .before .before .before .pre .0) (c .before .before .before .before .before .before .before .before .pre .1) 0 (omega arith) _ (c .before .before .before .before .before .word-at .ensures)
+mul-place : tie.Need-mul-place
+mul-place c = let b = room (c .before .before .before .before .before .before .pre .0) (c .before .before .before .before .before .before .pre .1) 1 0 refl refl in omega (arith, b .0, b .1)
 
-pixel-requires : tie.Need-pixel-requires
-pixel-requires c κs = four-first _ _ _ _ _ _ (c .before .before .before .before .before .before .before .before .before .pre .1) _ _ _ _ (c .before .before .before .before .before .before .word-at .ensures) (c .before .before .before .before .before .word-at2 .ensures) (c .before .before .before .before .word-at3 .ensures) (c .before .before .before .word-at4 .ensures) (c .before .before .before .before .before .before .before .before .before .pre .0) _ _ _ _ (c .word-at5 .ensures) refl refl refl
+add-place : tie.Need-add-place
+add-place c = let b = room (c .before .before .before .before .before .before .pre .0) (c .before .before .before .before .before .before .pre .1) 1 0 refl refl in omega (arith, b .0, b .1)
+
+cast-place : tie.Need-cast-place
+cast-place c = let b = room (c .before .before .before .before .before .before .pre .0) (c .before .before .before .before .before .before .pre .1) 1 0 refl refl in omega (arith, b .0, b .1)
+
+cast-row : tie.Need-cast-row
+cast-row c = search needs
+
+word-at-requires-5 : tie.Need-word-at-requires-5
+word-at-requires-5 c κs = son-node (c .before .before .before .before .before .before .before .pre .0) (c .before .before .before .before .before .before .before .pre .1) 0 (omega arith) _ (c .before .before .before .before .word-at .ensures)
+
+mul-touch : tie.Need-mul-touch
+mul-touch c = let b = room (c .before .before .before .before .before .before .before .before .pre .0) (c .before .before .before .before .before .before .before .before .pre .1) 1 0 refl refl in omega (arith, b .0, b .1)
+
+element-copy-out-touch : tie.Need-element-copy-out-touch
+element-copy-out-touch c = let b = room (c .before .before .before .before .before .before .before .before .pre .0) (c .before .before .before .before .before .before .before .before .pre .1) 1 0 refl refl in omega (arith, b .0, b .1)
+
+add-touch : tie.Need-add-touch
+add-touch c = let b = room (c .before .before .before .before .before .before .before .before .before .pre .0) (c .before .before .before .before .before .before .before .before .before .pre .1) 1 0 refl refl in omega (arith, b .0, b .1)
+
+mul-touch-2 : tie.Need-mul-touch-2
+mul-touch-2 c = let b = room (c .before .before .before .before .before .before .before .before .before .pre .0) (c .before .before .before .before .before .before .before .before .before .pre .1) 1 0 refl refl in omega (arith, b .0, b .1)
+
+element-copy-out-touch-2 : tie.Need-element-copy-out-touch-2
+element-copy-out-touch-2 c = let b = room (c .before .before .before .before .before .before .before .before .before .pre .0) (c .before .before .before .before .before .before .before .before .before .pre .1) 1 0 refl refl in omega (arith, b .0, b .1)
+
+touch-requires : tie.Need-touch-requires
+touch-requires c κs = touching-first _ _ _ _ _ _ (c .before .before .before .before .before .before .before .before .before .before .pre .1) _ _ _ _ (c .before .before .before .before .before .before .before .word-at .ensures) (c .before .before .before .before .before .before .word-at2 .ensures) (c .before .before .before .before .before .word-at3 .ensures) (c .before .before .before .before .word-at4 .ensures) _ _ _ _ (c .before .before .word-at5 .ensures) refl refl refl _ refl (c .before .before .before .before .before .before .before .before .before .before .pre .0)
 
 word-at-requires-6 : tie.Need-word-at-requires-6
 word-at-requires-6 c κs = son-node (c .before .before .before .before .before .before .before .before .before .before .before .before .before .before .pre .0) (c .before .before .before .before .before .before .before .before .before .before .before .before .before .before .pre .1) 1 (omega arith) _ (c .before .before .before .before .before .before .before .before .before .before .word-at2 .ensures)
 
-add-pixel : tie.Need-add-pixel
-add-pixel c = let b = corner-bounds (c .before .before .before .before .before .before .before .before .before .before .before .before .before .before .before .pre .0) in omega (arith, b .0, b .1)
+add-touch-2 : tie.Need-add-touch-2
+add-touch-2 c = let b = room (c .before .before .before .before .before .before .before .before .before .before .before .before .before .before .before .pre .0) (c .before .before .before .before .before .before .before .before .before .before .before .before .before .before .before .pre .1) 1 0 refl refl in omega (arith, b .0, b .1)
 
-pixel-requires-2 : tie.Need-pixel-requires-2
-pixel-requires-2 c κs = four-second _ _ _ _ _ _ (c .before .before .before .before .before .before .before .before .before .before .before .before .before .before .before .pre .1) _ _ _ _ (c .before .before .before .before .before .before .before .before .before .before .before .before .word-at .ensures) (c .before .before .before .before .before .before .before .before .before .before .before .word-at2 .ensures) (c .before .before .before .before .before .before .before .before .before .before .word-at3 .ensures) (c .before .before .before .before .before .before .before .before .before .word-at4 .ensures) (c .before .before .before .before .before .before .before .before .before .before .before .before .before .before .before .pre .0) _ _ _ _ (c .before .before .before .before .before .before .word-at5 .ensures) (c .word-at6 .ensures) refl refl _ _ _ (c .before .before .before .before .before .pixel .ensures)
+mul-touch-3 : tie.Need-mul-touch-3
+mul-touch-3 c = let b = room (c .before .before .before .before .before .before .before .before .before .before .before .before .before .before .before .pre .0) (c .before .before .before .before .before .before .before .before .before .before .before .before .before .before .before .pre .1) 1 0 refl refl in omega (arith, b .0, b .1)
+
+element-copy-out-touch-3 : tie.Need-element-copy-out-touch-3
+element-copy-out-touch-3 c = let b = room (c .before .before .before .before .before .before .before .before .before .before .before .before .before .before .before .pre .0) (c .before .before .before .before .before .before .before .before .before .before .before .before .before .before .before .pre .1) 1 0 refl refl in omega (arith, b .0, b .1)
+
+add-touch-3 : tie.Need-add-touch-3
+add-touch-3 c = let b = room (c .before .before .before .before .before .before .before .before .before .before .before .before .before .before .before .before .pre .0) (c .before .before .before .before .before .before .before .before .before .before .before .before .before .before .before .before .pre .1) 1 0 refl refl in omega (arith, b .0, b .1)
+
+touch-requires-2 : tie.Need-touch-requires-2
+touch-requires-2 c κs = touching-second _ _ _ _ _ _ (c .before .before .before .before .before .before .before .before .before .before .before .before .before .before .before .before .pre .1) _ _ _ _ (c .before .before .before .before .before .before .before .before .before .before .before .before .before .word-at .ensures) (c .before .before .before .before .before .before .before .before .before .before .before .before .word-at2 .ensures) (c .before .before .before .before .before .before .before .before .before .before .before .word-at3 .ensures) (c .before .before .before .before .before .before .before .before .before .before .word-at4 .ensures) _ _ _ _ (c .before .before .before .before .before .before .before .before .word-at5 .ensures) (c .before .word-at6 .ensures) refl refl _ refl (c .before .before .before .before .before .before .before .before .before .before .before .before .before .before .before .before .pre .0) _ _ (c .before .before .before .before .before .touch .ensures)
 
 word-at-requires-7 : tie.Need-word-at-requires-7
 word-at-requires-7 c κs = son-node (c .before .before .before .before .before .before .before .before .before .before .before .before .before .before .before .before .before .before .before .before .pre .0) (c .before .before .before .before .before .before .before .before .before .before .before .before .before .before .before .before .before .before .before .before .pre .1) 2 (omega arith) _ (c .before .before .before .before .before .before .before .before .before .before .before .before .before .before .before .word-at3 .ensures)
 
-add-pixel-2 : tie.Need-add-pixel-2
-add-pixel-2 c = let b = corner-bounds (c .before .before .before .before .before .before .before .before .before .before .before .before .before .before .before .before .before .before .before .before .before .pre .0) in omega (arith, b .0, b .1)
+add-touch-4 : tie.Need-add-touch-4
+add-touch-4 c = let b = room (c .before .before .before .before .before .before .before .before .before .before .before .before .before .before .before .before .before .before .before .before .before .pre .0) (c .before .before .before .before .before .before .before .before .before .before .before .before .before .before .before .before .before .before .before .before .before .pre .1) 1 0 refl refl in omega (arith, b .0, b .1)
 
-pixel-requires-3 : tie.Need-pixel-requires-3
-pixel-requires-3 c κs = four-third _ _ _ _ _ _ (c .before .before .before .before .before .before .before .before .before .before .before .before .before .before .before .before .before .before .before .before .before .pre .1) _ _ _ _ (c .before .before .before .before .before .before .before .before .before .before .before .before .before .before .before .before .before .before .word-at .ensures) (c .before .before .before .before .before .before .before .before .before .before .before .before .before .before .before .before .before .word-at2 .ensures) (c .before .before .before .before .before .before .before .before .before .before .before .before .before .before .before .before .word-at3 .ensures) (c .before .before .before .before .before .before .before .before .before .before .before .before .before .before .before .word-at4 .ensures) (c .before .before .before .before .before .before .before .before .before .before .before .before .before .before .before .before .before .before .before .before .before .pre .0) _ _ _ _ (c .before .before .before .before .before .before .before .before .before .before .before .before .word-at5 .ensures) (c .before .before .before .before .before .before .word-at6 .ensures) (c .word-at7 .ensures) refl _ _ _ (c .before .before .before .before .before .before .before .before .before .before .before .pixel .ensures) _ _ _ (c .before .before .before .before .before .pixel2 .ensures)
+add-touch-5 : tie.Need-add-touch-5
+add-touch-5 c = let b = room (c .before .before .before .before .before .before .before .before .before .before .before .before .before .before .before .before .before .before .before .before .before .pre .0) (c .before .before .before .before .before .before .before .before .before .before .before .before .before .before .before .before .before .before .before .before .before .pre .1) 1 0 refl refl in omega (arith, b .0, b .1)
+
+mul-touch-4 : tie.Need-mul-touch-4
+mul-touch-4 c = let b = room (c .before .before .before .before .before .before .before .before .before .before .before .before .before .before .before .before .before .before .before .before .before .pre .0) (c .before .before .before .before .before .before .before .before .before .before .before .before .before .before .before .before .before .before .before .before .before .pre .1) 1 0 refl refl in omega (arith, b .0, b .1)
+
+element-copy-out-touch-4 : tie.Need-element-copy-out-touch-4
+element-copy-out-touch-4 c = let b = room (c .before .before .before .before .before .before .before .before .before .before .before .before .before .before .before .before .before .before .before .before .before .pre .0) (c .before .before .before .before .before .before .before .before .before .before .before .before .before .before .before .before .before .before .before .before .before .pre .1) 1 0 refl refl in omega (arith, b .0, b .1)
+
+add-touch-6 : tie.Need-add-touch-6
+add-touch-6 c = let b = room (c .before .before .before .before .before .before .before .before .before .before .before .before .before .before .before .before .before .before .before .before .before .before .pre .0) (c .before .before .before .before .before .before .before .before .before .before .before .before .before .before .before .before .before .before .before .before .before .before .pre .1) 1 0 refl refl in omega (arith, b .0, b .1)
+
+touch-requires-3 : tie.Need-touch-requires-3
+touch-requires-3 c κs = touching-third _ _ _ _ _ _ (c .before .before .before .before .before .before .before .before .before .before .before .before .before .before .before .before .before .before .before .before .before .before .pre .1) _ _ _ _ (c .before .before .before .before .before .before .before .before .before .before .before .before .before .before .before .before .before .before .before .word-at .ensures) (c .before .before .before .before .before .before .before .before .before .before .before .before .before .before .before .before .before .before .word-at2 .ensures) (c .before .before .before .before .before .before .before .before .before .before .before .before .before .before .before .before .before .word-at3 .ensures) (c .before .before .before .before .before .before .before .before .before .before .before .before .before .before .before .before .word-at4 .ensures) _ _ _ _ (c .before .before .before .before .before .before .before .before .before .before .before .before .before .before .word-at5 .ensures) (c .before .before .before .before .before .before .before .word-at6 .ensures) (c .before .word-at7 .ensures) refl _ refl (c .before .before .before .before .before .before .before .before .before .before .before .before .before .before .before .before .before .before .before .before .before .before .pre .0) _ _ (c .before .before .before .before .before .before .before .before .before .before .before .touch .ensures) _ _ (c .before .before .before .before .before .touch2 .ensures)
 
 word-at-requires-8 : tie.Need-word-at-requires-8
 word-at-requires-8 c κs = son-node (c .before .before .before .before .before .before .before .before .before .before .before .before .before .before .before .before .before .before .before .before .before .before .before .before .before .before .pre .0) (c .before .before .before .before .before .before .before .before .before .before .before .before .before .before .before .before .before .before .before .before .before .before .before .before .before .before .pre .1) 3 (omega arith) _ (c .before .before .before .before .before .before .before .before .before .before .before .before .before .before .before .before .before .before .before .before .word-at4 .ensures)
 
-add-pixel-3 : tie.Need-add-pixel-3
-add-pixel-3 c = let b = corner-bounds (c .before .before .before .before .before .before .before .before .before .before .before .before .before .before .before .before .before .before .before .before .before .before .before .before .before .before .before .pre .0) in omega (arith, b .0, b .1)
+add-touch-7 : tie.Need-add-touch-7
+add-touch-7 c = let b = room (c .before .before .before .before .before .before .before .before .before .before .before .before .before .before .before .before .before .before .before .before .before .before .before .before .before .before .before .pre .0) (c .before .before .before .before .before .before .before .before .before .before .before .before .before .before .before .before .before .before .before .before .before .before .before .before .before .before .before .pre .1) 1 0 refl refl in omega (arith, b .0, b .1)
 
-add-pixel-4 : tie.Need-add-pixel-4
-add-pixel-4 c = let b = corner-bounds (c .before .before .before .before .before .before .before .before .before .before .before .before .before .before .before .before .before .before .before .before .before .before .before .before .before .before .before .pre .0) in omega (arith, b .0, b .1)
+add-touch-8 : tie.Need-add-touch-8
+add-touch-8 c = let b = room (c .before .before .before .before .before .before .before .before .before .before .before .before .before .before .before .before .before .before .before .before .before .before .before .before .before .before .before .pre .0) (c .before .before .before .before .before .before .before .before .before .before .before .before .before .before .before .before .before .before .before .before .before .before .before .before .before .before .before .pre .1) 1 0 refl refl in omega (arith, b .0, b .1)
 
-pixel-requires-4 : tie.Need-pixel-requires-4
-pixel-requires-4 c κs = four-fourth _ _ _ _ _ _ (c .before .before .before .before .before .before .before .before .before .before .before .before .before .before .before .before .before .before .before .before .before .before .before .before .before .before .before .pre .1) _ _ _ _ (c .before .before .before .before .before .before .before .before .before .before .before .before .before .before .before .before .before .before .before .before .before .before .before .before .word-at .ensures) (c .before .before .before .before .before .before .before .before .before .before .before .before .before .before .before .before .before .before .before .before .before .before .before .word-at2 .ensures) (c .before .before .before .before .before .before .before .before .before .before .before .before .before .before .before .before .before .before .before .before .before .before .word-at3 .ensures) (c .before .before .before .before .before .before .before .before .before .before .before .before .before .before .before .before .before .before .before .before .before .word-at4 .ensures) (c .before .before .before .before .before .before .before .before .before .before .before .before .before .before .before .before .before .before .before .before .before .before .before .before .before .before .before .pre .0) _ _ _ _ (c .before .before .before .before .before .before .before .before .before .before .before .before .before .before .before .before .before .before .word-at5 .ensures) (c .before .before .before .before .before .before .before .before .before .before .before .before .word-at6 .ensures) (c .before .before .before .before .before .before .word-at7 .ensures) (c .word-at8 .ensures) _ _ _ (c .before .before .before .before .before .before .before .before .before .before .before .before .before .before .before .before .before .pixel .ensures) _ _ _ (c .before .before .before .before .before .before .before .before .before .before .before .pixel2 .ensures) _ _ _ (c .before .before .before .before .before .pixel3 .ensures)
+touch-requires-4 : tie.Need-touch-requires-4
+touch-requires-4 c κs = touching-fourth _ _ _ _ _ _ (c .before .before .before .before .before .before .before .before .before .before .before .before .before .before .before .before .before .before .before .before .before .before .before .before .before .before .before .pre .1) _ _ _ _ (c .before .before .before .before .before .before .before .before .before .before .before .before .before .before .before .before .before .before .before .before .before .before .before .before .word-at .ensures) (c .before .before .before .before .before .before .before .before .before .before .before .before .before .before .before .before .before .before .before .before .before .before .before .word-at2 .ensures) (c .before .before .before .before .before .before .before .before .before .before .before .before .before .before .before .before .before .before .before .before .before .before .word-at3 .ensures) (c .before .before .before .before .before .before .before .before .before .before .before .before .before .before .before .before .before .before .before .before .before .word-at4 .ensures) _ _ _ _ (c .before .before .before .before .before .before .before .before .before .before .before .before .before .before .before .before .before .before .before .word-at5 .ensures) (c .before .before .before .before .before .before .before .before .before .before .before .before .word-at6 .ensures) (c .before .before .before .before .before .before .word-at7 .ensures) (c .word-at8 .ensures) _ refl (c .before .before .before .before .before .before .before .before .before .before .before .before .before .before .before .before .before .before .before .before .before .before .before .before .before .before .before .pre .0) _ _ (c .before .before .before .before .before .before .before .before .before .before .before .before .before .before .before .before .touch .ensures) _ _ (c .before .before .before .before .before .before .before .before .before .before .touch2 .ensures) _ _ (c .before .before .before .before .touch3 .ensures)
 
-or-requires : tie.Need-or-requires
-or-requires c κs = search needs
+mul-lines : tie.Need-mul-lines
+mul-lines c = let b = room (c .before .before .before .before .before .before .before .before .before .before .before .before .before .before .before .before .before .before .before .before .before .before .before .before .before .before .before .before .before .before .pre .0) (c .before .before .before .before .before .before .before .before .before .before .before .before .before .before .before .before .before .before .before .before .before .before .before .before .before .before .before .before .before .before .pre .1) 1 0 refl refl in omega (arith, b .0, b .1)
 
-or-requires-2 : tie.Need-or-requires-2
-or-requires-2 c κs = search needs
+element-write-lines : tie.Need-element-write-lines
+element-write-lines c = let b = room (c .before .before .before .before .before .before .before .before .before .before .before .before .before .before .before .before .before .before .before .before .before .before .before .before .before .before .before .before .before .before .pre .0) (c .before .before .before .before .before .before .before .before .before .before .before .before .before .before .before .before .before .before .before .before .before .before .before .before .before .before .before .before .before .before .pre .1) 1 0 refl refl in omega (arith, b .0, b .1)
 
-or-requires-3 : tie.Need-or-requires-3
-or-requires-3 c κs = search needs
+add-lines : tie.Need-add-lines
+add-lines c = let b = room (c .before .before .before .before .before .before .before .before .before .before .before .before .before .before .before .before .before .before .before .before .before .before .before .before .before .before .before .before .before .before .pre .0) (c .before .before .before .before .before .before .before .before .before .before .before .before .before .before .before .before .before .before .before .before .before .before .before .before .before .before .before .before .before .before .pre .1) 1 0 refl refl in omega (arith, b .0, b .1)
+
+mul-lines-2 : tie.Need-mul-lines-2
+mul-lines-2 c = let b = room (c .before .before .before .before .before .before .before .before .before .before .before .before .before .before .before .before .before .before .before .before .before .before .before .before .before .before .before .before .before .before .pre .0) (c .before .before .before .before .before .before .before .before .before .before .before .before .before .before .before .before .before .before .before .before .before .before .before .before .before .before .before .before .before .before .pre .1) 1 0 refl refl in omega (arith, b .0, b .1)
+
+element-write-lines-2 : tie.Need-element-write-lines-2
+element-write-lines-2 c = let b = room (c .before .before .before .before .before .before .before .before .before .before .before .before .before .before .before .before .before .before .before .before .before .before .before .before .before .before .before .before .before .before .pre .0) (c .before .before .before .before .before .before .before .before .before .before .before .before .before .before .before .before .before .before .before .before .before .before .before .before .before .before .before .before .before .before .pre .1) 1 0 refl refl in omega (arith, b .0, b .1)
+
+add-lines-2 : tie.Need-add-lines-2
+add-lines-2 c = let b = room (c .before .before .before .before .before .before .before .before .before .before .before .before .before .before .before .before .before .before .before .before .before .before .before .before .before .before .before .before .before .before .pre .0) (c .before .before .before .before .before .before .before .before .before .before .before .before .before .before .before .before .before .before .before .before .before .before .before .before .before .before .before .before .before .before .pre .1) 1 0 refl refl in omega (arith, b .0, b .1)
+
+mul-lines-3 : tie.Need-mul-lines-3
+mul-lines-3 c = let b = room (c .before .before .before .before .before .before .before .before .before .before .before .before .before .before .before .before .before .before .before .before .before .before .before .before .before .before .before .before .before .before .pre .0) (c .before .before .before .before .before .before .before .before .before .before .before .before .before .before .before .before .before .before .before .before .before .before .before .before .before .before .before .before .before .before .pre .1) 1 0 refl refl in omega (arith, b .0, b .1)
+
+element-write-lines-3 : tie.Need-element-write-lines-3
+element-write-lines-3 c = let b = room (c .before .before .before .before .before .before .before .before .before .before .before .before .before .before .before .before .before .before .before .before .before .before .before .before .before .before .before .before .before .before .pre .0) (c .before .before .before .before .before .before .before .before .before .before .before .before .before .before .before .before .before .before .before .before .before .before .before .before .before .before .before .before .before .before .pre .1) 1 0 refl refl in omega (arith, b .0, b .1)
+
+add-lines-3 : tie.Need-add-lines-3
+add-lines-3 c = let b = room (c .before .before .before .before .before .before .before .before .before .before .before .before .before .before .before .before .before .before .before .before .before .before .before .before .before .before .before .before .before .before .pre .0) (c .before .before .before .before .before .before .before .before .before .before .before .before .before .before .before .before .before .before .before .before .before .before .before .before .before .before .before .before .before .before .pre .1) 1 0 refl refl in omega (arith, b .0, b .1)
+
+add-lines-4 : tie.Need-add-lines-4
+add-lines-4 c = let b = room (c .before .before .before .before .before .before .before .before .before .before .before .before .before .before .before .before .before .before .before .before .before .before .before .before .before .before .before .before .before .before .pre .0) (c .before .before .before .before .before .before .before .before .before .before .before .before .before .before .before .before .before .before .before .before .before .before .before .before .before .before .before .before .before .before .pre .1) 1 0 refl refl in omega (arith, b .0, b .1)
+
+mul-lines-4 : tie.Need-mul-lines-4
+mul-lines-4 c = let b = room (c .before .before .before .before .before .before .before .before .before .before .before .before .before .before .before .before .before .before .before .before .before .before .before .before .before .before .before .before .before .before .pre .0) (c .before .before .before .before .before .before .before .before .before .before .before .before .before .before .before .before .before .before .before .before .before .before .before .before .before .before .before .before .before .before .pre .1) 1 0 refl refl in omega (arith, b .0, b .1)
+
+element-write-lines-4 : tie.Need-element-write-lines-4
+element-write-lines-4 c = let b = room (c .before .before .before .before .before .before .before .before .before .before .before .before .before .before .before .before .before .before .before .before .before .before .before .before .before .before .before .before .before .before .pre .0) (c .before .before .before .before .before .before .before .before .before .before .before .before .before .before .before .before .before .before .before .before .before .before .before .before .before .before .before .before .before .before .pre .1) 1 0 refl refl in omega (arith, b .0, b .1)
+
+same-requires : tie.Need-same-requires
+same-requires c κs = search needs
+
+same-requires-2 : tie.Need-same-requires-2
+same-requires-2 c κs = search needs
+
+add-leaders : tie.Need-add-leaders
+add-leaders c = search needs
+
+same-requires-3 : tie.Need-same-requires-3
+same-requires-3 c κs = search needs
+
+add-leaders-2 : tie.Need-add-leaders-2
+add-leaders-2 c = search needs
+
+same-requires-4 : tie.Need-same-requires-4
+same-requires-4 c κs = search needs
+
+add-leaders-3 : tie.Need-add-leaders-3
+add-leaders-3 c = search needs
 
 mark-requires : tie.Need-mark-requires
 mark-requires c κs = search needs
 
 mul-words : tie.Need-mul-words
-mul-words c = omega (arith, c .before .before .before .before .before .before .before .before .before .before .before .before .before .before .before .before .before .before .before .before .before .before .before .before .before .before .before .before .before .before .before .before .before .before .pre .0 .at .node, c .before .before .before .before .before .before .before .before .before .before .before .before .before .before .before .before .before .before .before .before .before .before .before .before .before .before .before .before .before .before .before .before .before .before .pre .0 .at .accepted .sized .few, c .before .before .before .before .before .before .before .before .before .before .before .before .before .before .before .before .before .before .before .before .before .before .before .before .before .before .before .before .before .before .before .before .before .before .pre .0 .at .accepted .sized .whole)
+mul-words c = omega (arith, c .before .before .before .before .before .before .before .before .before .before .before .before .before .before .before .before .before .before .before .before .before .before .before .before .before .before .before .before .before .before .before .before .before .before .before .pre .0 .at .node, c .before .before .before .before .before .before .before .before .before .before .before .before .before .before .before .before .before .before .before .before .before .before .before .before .before .before .before .before .before .before .before .before .before .before .before .pre .0 .at .accepted .sized .few, c .before .before .before .before .before .before .before .before .before .before .before .before .before .before .before .before .before .before .before .before .before .before .before .before .before .before .before .before .before .before .before .before .before .before .before .pre .0 .at .accepted .sized .whole)
 
 slice-write-words : tie.Need-slice-write-words
-slice-write-words c = four-within _ _ _ _ _ _ (c .before .before .before .before .before .before .before .before .before .before .before .before .before .before .before .before .before .before .before .before .before .before .before .before .before .before .before .before .before .before .before .before .before .before .pre .1) _ _ _ _ (c .before .before .before .before .before .before .before .before .before .before .before .before .before .before .before .before .before .before .before .before .before .before .before .before .before .before .before .before .before .before .before .word-at .ensures) (c .before .before .before .before .before .before .before .before .before .before .before .before .before .before .before .before .before .before .before .before .before .before .before .before .before .before .before .before .before .before .word-at2 .ensures) (c .before .before .before .before .before .before .before .before .before .before .before .before .before .before .before .before .before .before .before .before .before .before .before .before .before .before .before .before .before .word-at3 .ensures) (c .before .before .before .before .before .before .before .before .before .before .before .before .before .before .before .before .before .before .before .before .before .before .before .before .before .before .before .before .word-at4 .ensures) (c .before .before .before .before .before .before .before .before .before .before .before .before .before .before .before .before .before .before .before .before .before .before .before .before .before .before .before .before .before .before .before .before .before .before .pre .0) _ _ _ _ (c .before .before .before .before .before .before .before .before .before .before .before .before .before .before .before .before .before .before .before .before .before .before .before .before .before .word-at5 .ensures) (c .before .before .before .before .before .before .before .before .before .before .before .before .before .before .before .before .before .before .before .word-at6 .ensures) (c .before .before .before .before .before .before .before .before .before .before .before .before .before .word-at7 .ensures) (c .before .before .before .before .before .before .before .word-at8 .ensures) _ _ _ (c .before .before .before .before .before .before .before .before .before .before .before .before .before .before .before .before .before .before .before .before .before .before .before .before .pixel .ensures) _ _ _ (c .before .before .before .before .before .before .before .before .before .before .before .before .before .before .before .before .before .before .pixel2 .ensures) _ _ _ (c .before .before .before .before .before .before .before .before .before .before .before .before .pixel3 .ensures) _ _ _ (c .before .before .before .before .before .before .pixel4 .ensures)
+slice-write-words c = pixels-within _ _ _ _ _ _ (c .before .before .before .before .before .before .before .before .before .before .before .before .before .before .before .before .before .before .before .before .before .before .before .before .before .before .before .before .before .before .before .before .before .before .before .pre .1) _ _ _ _ (c .before .before .before .before .before .before .before .before .before .before .before .before .before .before .before .before .before .before .before .before .before .before .before .before .before .before .before .before .before .before .before .before .word-at .ensures) (c .before .before .before .before .before .before .before .before .before .before .before .before .before .before .before .before .before .before .before .before .before .before .before .before .before .before .before .before .before .before .before .word-at2 .ensures) (c .before .before .before .before .before .before .before .before .before .before .before .before .before .before .before .before .before .before .before .before .before .before .before .before .before .before .before .before .before .before .word-at3 .ensures) (c .before .before .before .before .before .before .before .before .before .before .before .before .before .before .before .before .before .before .before .before .before .before .before .before .before .before .before .before .before .word-at4 .ensures) _ _ _ _ (c .before .before .before .before .before .before .before .before .before .before .before .before .before .before .before .before .before .before .before .before .before .before .before .before .before .before .before .word-at5 .ensures) (c .before .before .before .before .before .before .before .before .before .before .before .before .before .before .before .before .before .before .before .before .word-at6 .ensures) (c .before .before .before .before .before .before .before .before .before .before .before .before .before .before .word-at7 .ensures) (c .before .before .before .before .before .before .before .before .word-at8 .ensures) _ refl (c .before .before .before .before .before .before .before .before .before .before .before .before .before .before .before .before .before .before .before .before .before .before .before .before .before .before .before .before .before .before .before .before .before .before .before .pre .0) _ _ (c .before .before .before .before .before .before .before .before .before .before .before .before .before .before .before .before .before .before .before .before .before .before .before .before .touch .ensures) _ _ (c .before .before .before .before .before .before .before .before .before .before .before .before .before .before .before .before .before .before .touch2 .ensures) _ _ (c .before .before .before .before .before .before .before .before .before .before .before .before .touch3 .ensures) _ _ (c .before .before .before .before .before .before .before .touch4 .ensures)
 
 same-length : tie.Need-same-length
-same-length c = set-kept (c .before .before .before .before .before .before .pixel4 .last .0) (c .before .before .before .before .before .before .before .before .before .before .before .before .before .before .before .before .before .before .before .before .before .before .before .before .before .before .before .before .before .before .before .before .before .before .args .words .now) (c .before .before .before .before .before .before .before .before .before .before .before .before .before .before .before .before .before .before .before .before .before .before .before .before .before .before .before .before .before .before .before .before .before .before .args .p) (c .mark .result) (c .before .before .before .before .before .before .pixel4 .kept .0 ∙ c .before .before .before .before .before .before .before .before .before .before .before .before .pixel3 .kept .0 ∙ c .before .before .before .before .before .before .before .before .before .before .before .before .before .before .before .before .before .before .pixel2 .kept .0 ∙ c .before .before .before .before .before .before .before .before .before .before .before .before .before .before .before .before .before .before .before .before .before .before .before .before .pixel .kept .0)
+same-length c = set-kept (c .before .before .before .before .before .before .before .touch4 .last .0) (c .before .before .before .before .before .before .before .before .before .before .before .before .before .before .before .before .before .before .before .before .before .before .before .before .before .before .before .before .before .before .before .before .before .before .before .args .words .now) (c .before .before .before .before .before .before .before .before .before .before .before .before .before .before .before .before .before .before .before .before .before .before .before .before .before .before .before .before .before .before .before .before .before .before .before .args .p) (c .mark .result) (c .before .before .before .before .before .before .before .touch4 .kept .0 ∙ c .before .before .before .before .before .before .before .before .before .before .before .before .touch3 .kept .0 ∙ c .before .before .before .before .before .before .before .before .before .before .before .before .before .before .before .before .before .before .touch2 .kept .0 ∙ c .before .before .before .before .before .before .before .before .before .before .before .before .before .before .before .before .before .before .before .before .before .before .before .before .touch .kept .0)
 
 returns : tie.Need-returns
-returns c = λ z. four-gone _ _ _ _ _ _ (c .before .before .before .before .before .before .before .before .before .before .before .before .before .before .before .before .before .before .before .before .before .before .before .before .before .before .before .before .before .before .before .before .before .before .pre .1) _ _ _ _ (c .before .before .before .before .before .before .before .before .before .before .before .before .before .before .before .before .before .before .before .before .before .before .before .before .before .before .before .before .before .before .before .word-at .ensures) (c .before .before .before .before .before .before .before .before .before .before .before .before .before .before .before .before .before .before .before .before .before .before .before .before .before .before .before .before .before .before .word-at2 .ensures) (c .before .before .before .before .before .before .before .before .before .before .before .before .before .before .before .before .before .before .before .before .before .before .before .before .before .before .before .before .before .word-at3 .ensures) (c .before .before .before .before .before .before .before .before .before .before .before .before .before .before .before .before .before .before .before .before .before .before .before .before .before .before .before .before .word-at4 .ensures) z _ _ _ _ (c .before .before .before .before .before .before .before .before .before .before .before .before .before .before .before .before .before .before .before .before .before .before .before .before .before .word-at5 .ensures) (c .before .before .before .before .before .before .before .before .before .before .before .before .before .before .before .before .before .before .before .word-at6 .ensures) (c .before .before .before .before .before .before .before .before .before .before .before .before .before .word-at7 .ensures) (c .before .before .before .before .before .before .before .word-at8 .ensures) _ _ _ (c .before .before .before .before .before .before .before .before .before .before .before .before .before .before .before .before .before .before .before .before .before .before .before .before .pixel .ensures) _ _ _ (c .before .before .before .before .before .before .before .before .before .before .before .before .before .before .before .before .before .before .pixel2 .ensures) _ _ _ (c .before .before .before .before .before .before .before .before .before .before .before .before .pixel3 .ensures) _ _ _ (c .before .before .before .before .before .before .pixel4 .ensures) _ _ _ _ (c .before .before .before .or .ensures) (c .before .before .or2 .ensures) (c .before .or3 .ensures) (c .mark .ensures) z
+returns c = pixels-gone _ _ _ _ _ _ (c .before .before .before .before .before .before .before .before .before .before .before .before .before .before .before .before .before .before .before .before .before .before .before .before .before .before .before .before .before .before .before .before .before .before .before .pre .1) _ _ _ _ (c .before .before .before .before .before .before .before .before .before .before .before .before .before .before .before .before .before .before .before .before .before .before .before .before .before .before .before .before .before .before .before .before .word-at .ensures) (c .before .before .before .before .before .before .before .before .before .before .before .before .before .before .before .before .before .before .before .before .before .before .before .before .before .before .before .before .before .before .before .word-at2 .ensures) (c .before .before .before .before .before .before .before .before .before .before .before .before .before .before .before .before .before .before .before .before .before .before .before .before .before .before .before .before .before .before .word-at3 .ensures) (c .before .before .before .before .before .before .before .before .before .before .before .before .before .before .before .before .before .before .before .before .before .before .before .before .before .before .before .before .before .word-at4 .ensures) _ _ _ _ (c .before .before .before .before .before .before .before .before .before .before .before .before .before .before .before .before .before .before .before .before .before .before .before .before .before .before .before .word-at5 .ensures) (c .before .before .before .before .before .before .before .before .before .before .before .before .before .before .before .before .before .before .before .before .word-at6 .ensures) (c .before .before .before .before .before .before .before .before .before .before .before .before .before .before .word-at7 .ensures) (c .before .before .before .before .before .before .before .before .word-at8 .ensures) _ refl (c .before .before .before .before .before .before .before .before .before .before .before .before .before .before .before .before .before .before .before .before .before .before .before .before .before .before .before .before .before .before .before .before .before .before .before .pre .0) _ _ (c .before .before .before .before .before .before .before .before .before .before .before .before .before .before .before .before .before .before .before .before .before .before .before .before .touch .ensures) _ _ (c .before .before .before .before .before .before .before .before .before .before .before .before .before .before .before .before .before .before .touch2 .ensures) _ _ (c .before .before .before .before .before .before .before .before .before .before .before .before .touch3 .ensures) _ _ (c .before .before .before .before .before .before .before .touch4 .ensures) _ _ _ _ _ _ (c .before .before .before .before .same .ensures .0) (c .before .before .before .same2 .ensures .0) (c .before .before .same3 .ensures .0) (c .before .same4 .ensures .0) refl (c .mark .ensures)
 
 pub pixels-spec : {M : Type 1} → statement M
 pixels-spec =
@@ -87,21 +184,53 @@ pixels-spec =
     word-at-requires-2
     word-at-requires-3
     word-at-requires-4
+    mul-place
+    add-place
+    cast-place
+    cast-row
     word-at-requires-5
-    pixel-requires
+    mul-touch
+    element-copy-out-touch
+    add-touch
+    mul-touch-2
+    element-copy-out-touch-2
+    touch-requires
     word-at-requires-6
-    add-pixel
-    pixel-requires-2
+    add-touch-2
+    mul-touch-3
+    element-copy-out-touch-3
+    add-touch-3
+    touch-requires-2
     word-at-requires-7
-    add-pixel-2
-    pixel-requires-3
+    add-touch-4
+    add-touch-5
+    mul-touch-4
+    element-copy-out-touch-4
+    add-touch-6
+    touch-requires-3
     word-at-requires-8
-    add-pixel-3
-    add-pixel-4
-    pixel-requires-4
-    or-requires
-    or-requires-2
-    or-requires-3
+    add-touch-7
+    add-touch-8
+    touch-requires-4
+    mul-lines
+    element-write-lines
+    add-lines
+    mul-lines-2
+    element-write-lines-2
+    add-lines-2
+    mul-lines-3
+    element-write-lines-3
+    add-lines-3
+    add-lines-4
+    mul-lines-4
+    element-write-lines-4
+    same-requires
+    same-requires-2
+    add-leaders
+    same-requires-3
+    add-leaders-2
+    same-requires-4
+    add-leaders-3
     mark-requires
     mul-words
     slice-write-words

@@ -47,7 +47,7 @@ same-length : tie.Need-same-length
 same-length c = search needs
 
 returns : tie.Need-returns
-returns c = λ z. leaf-past _ _ _ (c .before .before .before .before .before .two-sides .ensures) _ _ (c .before .fill-two .ensures) (c .same .ensures) z (leaf-touched z _ _ _ refl refl refl _ _ (c .before .before .before .before .before .before .before .before .before .before .touch .ensures))
+returns c = λ z. leaf-past _ _ _ (c .before .before .before .before .before .two-sides .ensures) _ _ (c .before .fill-two .ensures) (c .same .ensures .0) z (leaf-touched z _ _ _ refl refl refl _ _ (c .before .before .before .before .before .before .before .before .before .before .touch .ensures))
 
 pub two-spec : {M : Type 1} → statement M
 two-spec =
