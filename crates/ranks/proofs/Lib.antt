@@ -1,5 +1,6 @@
-pub mod WordLaws
 pub mod PlaceLaws
-pub mod GivenLaws
+pub mod WordLaws
+pub mod QueueLaws
 pub mod SonLaws
+pub mod CountLaws
 pub mod RankLaws

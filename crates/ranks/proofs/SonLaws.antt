@@ -1,11 +1,10 @@
--- The sons of a fork in turn: the block of each comes after those of the sons before it, in its own rows west of it, so what a son asks holds once they are gone
--- through; and a block that begins in the fork's begins in one son's.
+-- The sons of a fork in turn, the last first: in its own rows the block of each lies west of those of the sons gone through before it, so what a son asks holds
+-- once they are; and a block that begins in the fork's begins in one son's.
 use mathlib.Core.Bool.{Bool, true, false}
 use mathlib.Core.List.{List}
 use mathlib.Core.Logic.{_⊎_, inl, inr, ⊎-elim}
 use mathlib.Core.Path.{_≡_, refl}
 use Prim.Native.Nat.{ℕ, _+_, _-_, _*_, _/_, _%_, _^_, _≤_, _<_}
-use native.Mathlib.Nat.{eq-or-lt-of-le}
 use native.Mathlib.Omega.{arith}
 use lib.ListN.{length}
 use lib.Pow.{pow-pos}
@@ -18,20 +17,22 @@ use Rattle.table.specs.Nodes.{leftOf, topOf}
 use Rattle.table.proofs.AcceptedLaws.{fork-above, son-at}
 use Rattle.chains.specs.Words.{wordOf}
 use Rattle.labels.specs.Sets.{Begins}
-use Rattle.ranks.specs.Ranks.{Leads, Given, West, Passed, Reach, Through, Room, Gave}
+use Rattle.ranks.specs.Queues.{Leads, Queued, East, Passed, Reach, Through, Room, Stands}
+use Rattle.ranks.proofs.WordLaws.{same-or}
 use Rattle.ranks.proofs.PlaceLaws.{apart, top-top, son-left, son-top}
-use Rattle.ranks.proofs.GivenLaws.{leaf-room, leaf-passed, marked-passed}
+use Rattle.ranks.proofs.QueueLaws.{leaf-room, leaf-passed, marked-passed}
 
--- node i begins in the block of one of the first q sons
+-- node i begins in the block of one of the sons from q on
 pub record Among (n : ℕ) (T : List ℕ) (p l q i : ℕ) : Type 0 where
   pub which : ℕ
-  pub before : which < q
+  pub from : q ≤ which
+  pub few : which < 4
   pub begins : Begins n T i (leftOf n T (son T p which)) (topOf n T (son T p which)) (l - 1)
 
--- the first q sons of fork p are gone through
+-- the sons of fork p from q on are gone through
 pub record Part (n : ℕ) (T F : List ℕ) (D : ℕ → Bool) (p l q : ℕ) (W R : List ℕ) : Type 0 where
   pub now : ℕ → Bool
-  pub given : Given n T F now W R
+  pub queued : Queued n T F now W R
   pub kept : (i : ℕ) → D i ≡ true → now i ≡ true
   pub only : (i : ℕ) → now i ≡ true → (D i ≡ true) ⊎ Among n T p l q i
   pub all : (i : ℕ) → Leads T F i → Among n T p l q i → now i ≡ true
@@ -41,13 +42,13 @@ abbrev pub Sons : List ℕ → List ℕ → List ℕ → ℕ → ℕ → ℕ →
 Sons T W₀ R₀ p l y q W R = (n : ℕ) (F : List ℕ) (D : ℕ → Bool) → Reach n F D T W₀ R₀ p l y → Part n T F D p l q W R
 
 module _ {n : ℕ} {T F : List ℕ} {D : ℕ → Bool} {W R : List ℕ} {p l y : ℕ} (h : Reach n F D T W R p l y) where
-  pub part-none : Part n T F D p l 0 W R
+  pub part-none : Part n T F D p l 4 W R
   part-none = record {
     now = D;
-    given = h .given;
+    queued = h .queued;
     kept = λ i d. d;
     only = λ i d. inl d;
-    all = λ i li a. absurd (omega (arith, a .before));
+    all = λ i li a. absurd (omega (arith, a .from, a .few));
   }
 
   pub reach-row : y < 2 ^ topLevel
@@ -67,50 +68,50 @@ module _ {n : ℕ} {T F : List ℕ} {D : ℕ → Bool} {W R : List ℕ} {p l y :
   half : 2 ^ l ≡ 2 * 2 ^ (l - 1)
   half = pow-less 2 l (fork-above (h .place) (h .fork))
 
-  module _ {q : ℕ} {W₁ R₁ : List ℕ} (s : Part n T F D p l q W₁ R₁) where
+  module _ {left q : ℕ} {W₁ R₁ : List ℕ} (s : Part n T F D p l left W₁ R₁) (el : left ≡ q + 1) where
     -- what the next son asks
-    pub son-west : q < 4 → West n T (s .now) (leftOf n T (son T p q)) (topOf n T (son T p q)) (l - 1)
-    son-west q4 i d north south =
+    pub son-east : q < 4 → East n T (s .now) (leftOf n T (son T p q)) (topOf n T (son T p q)) (l - 1)
+    son-east q4 i d north south =
         let size = pow-pos (l - 1) in
-        let left = son-left (h .place) (h .fork) q q4 in
+        let west = son-left (h .place) (h .fork) q q4 in
         let top = son-top (h .place) (h .fork) q q4 in
         ⊎-elim
-        (λ (old : D i ≡ true). omega (arith, left, h .west i old (omega (arith, top)) (omega (arith, top, half, apart (q / 2) 2 (2 ^ (l - 1)) size (omega arith)))))
-        (λ (a : Among n T p l q i).
+        (λ (old : D i ≡ true).
+        omega (arith, west, half, apart (q % 2) 2 (2 ^ (l - 1)) size (omega arith), h .east i old (omega (arith, top)) (omega (arith, top, half, apart (q / 2) 2 (2 ^ (l - 1)) size (omega arith)))))
+        (λ (a : Among n T p l left i).
         let k : ℕ = a .which in
-        let lt : k < q = a .before in
-        let k4 : k < 4 = omega arith in
+        let gt : q < k = omega (arith, a .from, el) in
         let b = a .begins in
         ⊎-elim
-        (λ (up : k / 2 < q / 2).
-        absurd (omega (arith, top, son-top (h .place) (h .fork) k k4, b .south, apart (k / 2) (q / 2) (2 ^ (l - 1)) size up)))
-        (λ (ge : q / 2 ≤ k / 2).
-        omega (arith, left, son-left (h .place) (h .fork) k k4, b .east, apart (k % 2) (q % 2) (2 ^ (l - 1)) size (omega arith)))
-        (lt-or-ge (k / 2) (q / 2)))
+        (λ (down : q / 2 < k / 2).
+        absurd (omega (arith, top, son-top (h .place) (h .fork) k (a .few), b .north, apart (q / 2) (k / 2) (2 ^ (l - 1)) size down)))
+        (λ (ge : k / 2 ≤ q / 2).
+        omega (arith, west, son-left (h .place) (h .fork) k (a .few), b .west, apart (q % 2) (k % 2) (2 ^ (l - 1)) size (omega arith)))
+        (lt-or-ge (q / 2) (k / 2)))
         (s .only i d)
 
     -- and the next son gone through
     pub part-more : q < 4 → {W₂ R₂ : List ℕ} → Passed n T F (s .now) (leftOf n T (son T p q)) (topOf n T (son T p q)) (l - 1) W₂ R₂
-        → Part n T F D p l (q + 1) W₂ R₂
+        → Part n T F D p l q W₂ R₂
     part-more q4 t =
-        let on : (i : ℕ) → Among n T p l q i → Among n T p l (q + 1) i =
-        λ i a. record { which = a .which; before = omega (arith, a .before); begins = a .begins } in
+        let on : (i : ℕ) → Among n T p l left i → Among n T p l q i =
+        λ i a. record { which = a .which; from = omega (arith, a .from, el); few = a .few; begins = a .begins } in
         record {
           now = t .now;
-          given = t .given;
+          queued = t .queued;
           kept = λ i d. t .kept i (s .kept i d);
           only = λ i d.
               ⊎-elim
-              (λ (old : s .now i ≡ true). ⊎-elim (λ (o : D i ≡ true). inl o) (λ (a : Among n T p l q i). inr (on i a)) (s .only i old))
+              (λ (old : s .now i ≡ true). ⊎-elim (λ (o : D i ≡ true). inl o) (λ (a : Among n T p l left i). inr (on i a)) (s .only i old))
               (λ (b : Begins n T i (leftOf n T (son T p q)) (topOf n T (son T p q)) (l - 1)).
-              inr (record { which = q; before = omega arith; begins = b }))
+              inr (record { which = q; from = omega arith; few = q4; begins = b }))
               (t .only i d);
           all = λ i li a.
               let k : ℕ = a .which in
               ⊎-elim
               (λ (e : k ≡ q). t .all i li (rw e at (a .begins)))
-              (λ (lt : k < q). t .kept i (s .all i li (record { which = k; before = lt; begins = a .begins })))
-              (eq-or-lt-of-le (omega (arith, a .before)));
+              (λ (ne : k ≡ q → ⊥). t .kept i (s .all i li (record { which = k; from = omega (arith, a .from, ne, el); few = a .few; begins = a .begins })))
+              (same-or k q);
         }
 
     module _ (q4 : q < 4) {k : ℕ} (e : k ≡ son T p q) where
@@ -118,17 +119,17 @@ module _ {n : ℕ} {T F : List ℕ} {D : ℕ → Bool} {W R : List ℕ} {p l y :
       place = rw e (son-at (h .place) (h .fork) q q4)
 
       pub son-node : k < length W₁
-      son-node = omega (arith, s .given .size, place .node)
+      son-node = omega (arith, s .queued .size, place .node)
 
       -- where the next son is a leaf
       module _ (f : isFork T k ≡ false) {v : ℕ} (t : v ≡ topOf n T k) where
         pub turn-room : Room W₁ R₁ k v
-        turn-room = leaf-room (s .given) (h .ready) place f t
+        turn-room = leaf-room (s .queued) (h .ready) place f t
 
-        pub turn-leaf : {W₂ R₂ : List ℕ} → Gave W₁ R₁ k v W₂ R₂ → Part n T F D p l (q + 1) W₂ R₂
+        pub turn-leaf : {W₂ R₂ : List ℕ} → Stands W₁ R₁ k v W₂ R₂ → Part n T F D p l q W₂ R₂
         turn-leaf a =
-            let west : West n T (s .now) (leftOf n T k) (topOf n T k) (l - 1) = rw e (son-west q4) in
-            part-more q4 (rw e at (leaf-passed (s .given) (h .ready) place f t west a))
+            let east : East n T (s .now) (leftOf n T k) (topOf n T k) (l - 1) = rw e (son-east q4) in
+            part-more q4 (rw e at (leaf-passed (s .queued) (h .ready) place f t east a))
 
       -- where it is a fork
       module _ (f : isFork T k ≡ true) where
@@ -140,30 +141,31 @@ module _ {n : ℕ} {T F : List ℕ} {D : ℕ → Bool} {W R : List ℕ} {p l y :
               place = place;
               fork = f;
               top = t;
-              given = s .given;
-              west = rw e (son-west q4);
+              queued = s .queued;
+              east = rw e (son-east q4);
             } in
             rw d at at
 
-        pub turn-fork : {m v : ℕ} → l - 1 ≡ m → v ≡ topOf n T k → {W₂ R₂ : List ℕ} → Through T W₁ R₁ k m v W₂ R₂ → Part n T F D p l (q + 1) W₂ R₂
+        pub turn-fork : {m v : ℕ} → l - 1 ≡ m → v ≡ topOf n T k → {W₂ R₂ : List ℕ} → Through T W₁ R₁ k m v W₂ R₂ → Part n T F D p l q W₂ R₂
         turn-fork d t g = part-more q4 (rw (e, ← d) at (g n F (s .now) (son-reach d t)))
 
-        pub turn-marked : (wordOf W₁ k ≡ 0 → ⊥) → Part n T F D p l (q + 1) W₁ R₁
-        turn-marked some = part-more q4 (rw e at (marked-passed (s .given) (h .ready) place f some))
+        pub turn-marked : (wordOf W₁ k ≡ 0 → ⊥) → Part n T F D p l q W₁ R₁
+        turn-marked some = part-more q4 (rw e at (marked-passed (s .queued) (h .ready) place f some))
 
   -- a block that begins in the fork's, and in one of its sons'
   in-son : (i k : ℕ) → k < 4 → leftOf n T p + k % 2 * 2 ^ (l - 1) ≤ leftOf n T i → leftOf n T i < leftOf n T p + k % 2 * 2 ^ (l - 1) + 2 ^ (l - 1)
-      → topOf n T p + k / 2 * 2 ^ (l - 1) ≤ topOf n T i → topOf n T i < topOf n T p + k / 2 * 2 ^ (l - 1) + 2 ^ (l - 1) → Among n T p l 4 i
+      → topOf n T p + k / 2 * 2 ^ (l - 1) ≤ topOf n T i → topOf n T i < topOf n T p + k / 2 * 2 ^ (l - 1) + 2 ^ (l - 1) → Among n T p l 0 i
   in-son i k k4 west east north south =
       let left = son-left (h .place) (h .fork) k k4 in
       let top = son-top (h .place) (h .fork) k k4 in
       record {
         which = k;
-        before = k4;
+        from = omega arith;
+        few = k4;
         begins = record { west = omega (arith, left); east = omega (arith, left); north = omega (arith, top); south = omega (arith, top) };
       }
 
-  among : (i : ℕ) → Begins n T i (leftOf n T p) (topOf n T p) l → Among n T p l 4 i
+  among : (i : ℕ) → Begins n T i (leftOf n T p) (topOf n T p) l → Among n T p l 0 i
   among i b =
       let e = half in
       ⊎-elim
@@ -183,10 +185,10 @@ module _ {n : ℕ} {T F : List ℕ} {D : ℕ → Bool} {W R : List ℕ} {p l y :
       (lt-or-ge (leftOf n T i) (leftOf n T p + 2 ^ (l - 1))))
       (lt-or-ge (topOf n T i) (topOf n T p + 2 ^ (l - 1)))
 
-  within : (i : ℕ) → Among n T p l 4 i → Begins n T i (leftOf n T p) (topOf n T p) l
+  within : (i : ℕ) → Among n T p l 0 i → Begins n T i (leftOf n T p) (topOf n T p) l
   within i a =
       let k : ℕ = a .which in
-      let k4 : k < 4 = a .before in
+      let k4 : k < 4 = a .few in
       let b = a .begins in
       let e = half in
       let size = pow-pos (l - 1) in
@@ -200,23 +202,30 @@ module _ {n : ℕ} {T F : List ℕ} {D : ℕ → Bool} {W R : List ℕ} {p l y :
       }
 
   -- all four
-  pub part-all : {W' R' : List ℕ} → Part n T F D p l 4 W' R' → Passed n T F D (leftOf n T p) (topOf n T p) l W' R'
+  pub part-all : {W' R' : List ℕ} → Part n T F D p l 0 W' R' → Passed n T F D (leftOf n T p) (topOf n T p) l W' R'
   part-all s = record {
     now = s .now;
-    given = s .given;
+    queued = s .queued;
     kept = s .kept;
-    only = λ i d. ⊎-elim (λ (o : D i ≡ true). inl o) (λ (a : Among n T p l 4 i). inr (within i a)) (s .only i d);
+    only = λ i d. ⊎-elim (λ (o : D i ≡ true). inl o) (λ (a : Among n T p l 0 i). inr (within i a)) (s .only i d);
     all = λ i li b. s .all i li (among i b);
   }
 
-  pub part-end : {q : ℕ} {W' R' : List ℕ} → q ≤ 4 → 4 ≤ q → Part n T F D p l q W' R' → Passed n T F D (leftOf n T p) (topOf n T p) l W' R'
-  part-end {q} {W'} {R'} le ge s =
-      let e : q ≡ 4 = omega arith in
+  pub part-end : {left : ℕ} {W' R' : List ℕ} → left ≤ 0 → Part n T F D p l left W' R' → Passed n T F D (leftOf n T p) (topOf n T p) l W' R'
+  part-end {left} {W'} {R'} le s =
+      let e : left ≡ 0 = omega arith in
       part-all (rw e at s)
+
+-- the son before those gone through
+pub fewer : {left : ℕ} → left ≤ 4 → 0 < left → left - 1 < 4
+fewer a b = omega (arith, a, b)
+
+pub one-less : {left : ℕ} → 0 < left → left ≡ left - 1 + 1
+one-less a = omega (arith, a)
 
 -- the pixels of a fork of level 1
 module _ {n : ℕ} {T F : List ℕ} {D : ℕ → Bool} {W R : List ℕ} {p y : ℕ} (h : Reach n F D T W R p 1 y) {W₁ R₁ : List ℕ} (q : ℕ) (q4 : q < 4)
-    (s : Part n T F D p 1 q W₁ R₁) {k v : ℕ} (e : k ≡ son T p q) (t : v ≡ y + q / 2) where
+    (s : Part n T F D p 1 (q + 1) W₁ R₁) {k v : ℕ} (e : k ≡ son T p q) (t : v ≡ y + q / 2) where
   pixel-leaf : isFork T k ≡ false
   pixel-leaf =
       ⊎-elim
@@ -228,11 +237,11 @@ module _ {n : ℕ} {T F : List ℕ} {D : ℕ → Bool} {W R : List ℕ} {p y : �
   pixel-top = rw e (omega (arith, t, h .top, son-top (h .place) (h .fork) q q4))
 
   pub pixel-room : Room W₁ R₁ k v
-  pixel-room = turn-room h s q4 e pixel-leaf pixel-top
+  pixel-room = turn-room h s refl q4 e pixel-leaf pixel-top
 
-  pixel-given : {W₂ R₂ : List ℕ} → Gave W₁ R₁ k v W₂ R₂ → Part n T F D p 1 (q + 1) W₂ R₂
-  pixel-given a = turn-leaf h s q4 e pixel-leaf pixel-top a
+  pixel-stands : {W₂ R₂ : List ℕ} → Stands W₁ R₁ k v W₂ R₂ → Part n T F D p 1 q W₂ R₂
+  pixel-stands a = turn-leaf h s refl q4 e pixel-leaf pixel-top a
 
 pub pixel-more : {n : ℕ} {T F : List ℕ} {D : ℕ → Bool} {W R : List ℕ} {p y : ℕ} → Reach n F D T W R p 1 y → {W₁ R₁ : List ℕ} (q : ℕ) → q < 4
-    → Part n T F D p 1 q W₁ R₁ → {k v : ℕ} → k ≡ son T p q → {W₂ R₂ : List ℕ} → Gave W₁ R₁ k v W₂ R₂ → v ≡ y + q / 2 → Part n T F D p 1 (q + 1) W₂ R₂
-pixel-more h q q4 s e a t = pixel-given h q q4 s e t a
+    → Part n T F D p 1 (q + 1) W₁ R₁ → {k v : ℕ} → k ≡ son T p q → {W₂ R₂ : List ℕ} → Stands W₁ R₁ k v W₂ R₂ → v ≡ y + q / 2 → Part n T F D p 1 q W₂ R₂
+pixel-more h q q4 s e a t = pixel-stands h q q4 s e t a

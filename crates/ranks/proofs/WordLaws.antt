@@ -1,5 +1,4 @@
--- The linear passes: adding up the rows, following the words to their ends and writing the numbers change one entry at a time, and each says of every other that it
--- stays.
+-- The linear passes: following the words to their ends and writing the numbers change one entry at a time, and each says of every other that it stays.
 use mathlib.Core.List.{List}
 use mathlib.Core.Logic.{_⊎_, inl, inr, ⊎-elim}
 use mathlib.Core.Path.{_≡_, refl, ap, _∙_}
@@ -9,62 +8,14 @@ use lib.Dec.{eqb}
 use lib.ListN.{length, set, length-set}
 use lib.Seq.{getD-set-same, getD-set-other}
 use borrow.Author.Tests.{eqb-true, eqb-false, lt-ltb, le-ltb}
-use Rattle.base.specs.Tab.{sum}
 use Rattle.base.proofs.BoolLaws.{by-bool, lt-or-ge}
-use Rattle.base.proofs.SumLaws.{sum-most}
 use Rattle.quad.specs.Numbers.{topLevel}
 use Rattle.chains.specs.Words.{wordOf}
 use Rattle.labels.specs.Sets.{leading}
-use Rattle.ranks.specs.Words.{rankRoom, rowOf, Ends, reachOf, stepsOf, Traced, nextOf, Settled, aboveOf, Adding, Added, numberOf, Finishing, Finished}
-
--- the room for ranks by the widest sheet
-pub room-is : rankRoom ≡ 2 * 2 ^ topLevel
-room-is = refl
+use Rattle.ranks.specs.Words.{Ends, reachOf, stepsOf, Traced, nextOf, Settled, Finishing, Finished}
 
 pub same-or : (p q : ℕ) → (p ≡ q) ⊎ (p ≡ q → ⊥)
 same-or p q = ⊎-elim (λ e. inl (eqb-true p q e)) (λ e. inr (eqb-false p q e)) (by-bool (eqb p q))
-
--- with the rows before y added up
-pub record Going (before rows : List ℕ) (y above : ℕ) : Type 0 where
-  pub tall : length rows ≡ length before
-  pub each : (k : ℕ) → k < y → rowOf rows k ≡ aboveOf before k
-  pub rest : (k : ℕ) → y ≤ k → rowOf rows k ≡ rowOf before k
-  pub sum : above ≡ aboveOf before y
-
-pub going-none : (R : List ℕ) → Going R R 0 0
-unfolding aboveOf sum
-going-none R = record { tall = refl; each = λ k l. absurd (omega arith); rest = λ k l. refl; sum = refl }
-
-pub above-more : (R : List ℕ) (y : ℕ) → aboveOf R (y + 1) ≡ aboveOf R y + rowOf R y
-unfolding aboveOf sum
-above-more R y =
-    let e : y + 1 ≡ suc y = omega arith in
-    rw e (omega arith)
-
-pub going-more : {side : ℕ} {B R : List ℕ} {y a here : ℕ} → Adding side B → y < side → here ≡ rowOf R y → Going B R y a
-    → Going B (set R y a) (y + 1) (a + here)
-going-more {side} {B} {R} {y} {a} {here} d lt e g = record {
-  tall = length-set R y a ∙ g .tall;
-  each = λ k l.
-      ⊎-elim
-      (λ (s : k ≡ y). rw s (getD-set-same R y a 0 (omega (arith, g .tall, d .tall, d .some)) ∙ g .sum))
-      (λ (s : k ≡ y → ⊥). getD-set-other R y k a 0 s ∙ g .each k (omega arith))
-      (same-or k y);
-  rest = λ k l. getD-set-other R y k a 0 (λ s. omega arith) ∙ g .rest k (omega arith);
-  sum = omega (arith, g .sum, e, g .rest y (omega arith), above-more B y);
-}
-
-pub above-few : {side : ℕ} {B : List ℕ} (y : ℕ) → Adding side B → aboveOf B y ≤ 2 ^ topLevel * y
-unfolding aboveOf
-above-few {side} {B} y d = sum-most (rowOf B) (2 ^ topLevel) y (λ i l. d .few i)
-
-pub going-fits : {side : ℕ} {B R : List ℕ} {y a : ℕ} → Adding side B → y < side → Going B R y a → a + rowOf R y < 2 ^ 32
-going-fits {side} {B} {R} {y} {a} d lt g = omega (arith, g .sum, above-few y d, g .rest y (omega arith), d .few y, d .some)
-
-pub going-all : {side : ℕ} {B R : List ℕ} {y a : ℕ} → y ≤ side → side ≤ y → Going B R y a → (a ≡ aboveOf B side) × Added side B R
-going-all {side} {B} {R} {y} {a} le ge g =
-    let e : y ≡ side = omega arith in
-    (g .sum ∙ rw e, record { tall = g .tall; each = λ k l. g .each k (omega arith) })
 
 module _ (W : List ℕ) (end far : ℕ → ℕ) (h : Ends W end far) where
   -- a word leads to where its node leads
@@ -179,39 +130,30 @@ settling-more {B} {W} {p} {j} {v} lt e t s =
 pub settling-all : {B W : List ℕ} {p : ℕ} → length B ≤ p → Settling B W p → Settled B W
 settling-all le s = record { long = s .long; all = λ end far h q l. s .done end far h q (omega arith) l }
 
--- with the words before p written
-pub record Writing (before rows W : List ℕ) (p : ℕ) : Type 0 where
+-- with the mark taken off the words before p
+pub record Writing (before W : List ℕ) (p : ℕ) : Type 0 where
   pub long : length W ≡ length before
-  pub done : (q : ℕ) → q < p → q < length before → wordOf W q ≡ numberOf rows (wordOf before q)
+  pub done : (q : ℕ) → q < p → q < length before → wordOf W q ≡ wordOf before q - leading
   pub rest : (q : ℕ) → p ≤ q → wordOf W q ≡ wordOf before q
 
-pub writing-none : (R W : List ℕ) → Writing W R W 0
-writing-none R W = record { long = refl; done = λ q l. absurd (omega arith); rest = λ q l. refl }
+pub writing-none : (W : List ℕ) → Writing W W 0
+writing-none W = record { long = refl; done = λ q l. absurd (omega arith); rest = λ q l. refl }
 
-pub writing-more : {B R W : List ℕ} {p v : ℕ} → p < length B → v ≡ numberOf R (wordOf W p) → Writing B R W p → Writing B R (set W p v) (p + 1)
-writing-more {B} {R} {W} {p} {v} lt e s = record {
-  long = length-set W p v ∙ s .long;
-  done = λ q l lq.
-      ⊎-elim
-      (λ (z : q ≡ p). rw z (getD-set-same W p v 0 (omega (arith, s .long)) ∙ e ∙ ap (numberOf R) (s .rest p (omega arith))))
-      (λ (z : q ≡ p → ⊥). getD-set-other W p q v 0 z ∙ s .done q (omega arith) lq)
-      (same-or q p);
-  rest = λ q l. getD-set-other W p q v 0 (λ z. omega arith) ∙ s .rest q (omega arith);
-}
+pub writing-more : {B W : List ℕ} {p : ℕ} → p < length B → Writing B W p → Writing B (set W p (wordOf W p - leading)) (p + 1)
+writing-more {B} {W} {p} lt s =
+    let v : ℕ = wordOf W p - leading in
+    record {
+      long = length-set W p v ∙ s .long;
+      done = λ q l lq.
+          ⊎-elim
+          (λ (z : q ≡ p). rw z (getD-set-same W p v 0 (omega (arith, s .long)) ∙ ap (λ (w : ℕ). w - leading) (s .rest p (omega arith))))
+          (λ (z : q ≡ p → ⊥). getD-set-other W p q v 0 z ∙ s .done q (omega arith) lq)
+          (same-or q p);
+      rest = λ q l. getD-set-other W p q v 0 (λ z. omega arith) ∙ s .rest q (omega arith);
+    }
 
-pub writing-all : {B R W : List ℕ} {p : ℕ} → length B ≤ p → Writing B R W p → Finished B R W
+pub writing-all : {B W : List ℕ} {p : ℕ} → length B ≤ p → Writing B W p → Finished B W
 writing-all le s = record { long = s .long; all = λ q l. s .done q (omega arith) l }
 
--- the word to write is a leader's, of a row that is there, and its number fits
-pub record Fit (R : List ℕ) (w : ℕ) : Type 0 where
-  pub high : leading ≤ w
-  pub row : (w - leading) / rankRoom < 2 ^ topLevel
-  pub fits : rowOf R ((w - leading) / rankRoom) + (w - leading) % rankRoom < 2 ^ 32
-
-pub writing-fit : {B R W : List ℕ} {p : ℕ} → Finishing B R → p < length B → Writing B R W p → Fit R (wordOf W p)
-unfolding numberOf
-writing-fit {B} {R} {W} {p} f lt s = rw (s .rest p (omega arith)) (record { high = f .high p lt; row = f .row p lt; fits = f .fits p lt })
-
-pub number-is : (R : List ℕ) (w : ℕ) → rowOf R ((w - leading) / rankRoom) + (w - leading) % rankRoom ≡ numberOf R w
-unfolding numberOf
-number-is R w = refl
+pub writing-high : {B W : List ℕ} {p : ℕ} → Finishing B → p < length B → Writing B W p → leading ≤ wordOf W p
+writing-high {p = p} f lt s = omega (arith, s .rest p (omega arith), f p lt)

@@ -1,3 +1,4 @@
 pub mod Words
-pub mod Ranks
+pub mod Queues
+pub mod Counts
 pub mod Ranked

@@ -1,5 +1,5 @@
--- How numbers come out of the words once each leader has its row and its rank among the leaders of that row: each word becomes the one that it leads to, and then
--- the number of leaders in the rows above and the rank. Inner definitions: no outside call's statement cites them.
+-- How numbers come out of the words once each leader has its own: each word becomes the one that it leads to, and then the leaders' mark is taken off. Inner
+-- definitions: no outside call's statement cites them.
 use mathlib.Core.Bool.{cond}
 use mathlib.Core.List.{List}
 use mathlib.Core.Path.{_≡_}
@@ -10,14 +10,6 @@ use Rattle.base.specs.Tab.{sum}
 use Rattle.quad.specs.Numbers.{topLevel}
 use Rattle.chains.specs.Words.{wordOf}
 use Rattle.labels.specs.Sets.{leading}
-
--- in a leader's word each row has room for so many ranks: twice as many as it has pixels (`room-is`)
-abbrev pub rankRoom : ℕ
-rankRoom = 256
-
--- the entry of row y
-abbrev pub rowOf : List ℕ → ℕ → ℕ
-rowOf rows y = getD rows y 0
 
 -- where the words lead: to a word that is a leader's, nearer with each step
 pub record Ends (W : List ℕ) (end far : ℕ → ℕ) : Type 0 where
@@ -62,29 +54,10 @@ pub record Settled (W W' : List ℕ) : Type 0 where
   pub long : length W' ≡ length W
   pub all : (end far : ℕ → ℕ) → Ends W end far → (p : ℕ) → p < length W → wordOf W' p ≡ end p
 
--- how many leaders the rows above y have, and what adding them up asks and leaves
-unfoldable pub aboveOf : List ℕ → ℕ → ℕ
-aboveOf rows y = sum (rowOf rows) y
+-- what taking the leaders' mark off the words asks and leaves: the numbers
+abbrev pub Finishing : List ℕ → Type 0
+Finishing W = (p : ℕ) → p < length W → leading ≤ wordOf W p
 
-pub record Adding (side : ℕ) (rows : List ℕ) : Type 0 where
-  pub tall : length rows ≡ 2 ^ topLevel
-  pub some : side ≤ 2 ^ topLevel
-  pub few : (y : ℕ) → rowOf rows y ≤ 2 ^ topLevel
-
-pub record Added (side : ℕ) (rows rows' : List ℕ) : Type 0 where
-  pub tall : length rows' ≡ length rows
-  pub each : (y : ℕ) → y < side → rowOf rows' y ≡ aboveOf rows y
-
--- the number that a leader's word stands for: the leaders of the rows above, and the rank
-unfoldable pub numberOf : List ℕ → ℕ → ℕ
-numberOf rows word = rowOf rows ((word - leading) / rankRoom) + (word - leading) % rankRoom
-
--- what writing the numbers asks and leaves
-pub record Finishing (W rows : List ℕ) : Type 0 where
-  pub high : (p : ℕ) → p < length W → leading ≤ wordOf W p
-  pub row : (p : ℕ) → p < length W → (wordOf W p - leading) / rankRoom < 2 ^ topLevel
-  pub fits : (p : ℕ) → p < length W → numberOf rows (wordOf W p) < 2 ^ 32
-
-pub record Finished (W rows W' : List ℕ) : Type 0 where
+pub record Finished (W W' : List ℕ) : Type 0 where
   pub long : length W' ≡ length W
-  pub all : (p : ℕ) → p < length W → wordOf W' p ≡ numberOf rows (wordOf W p)
+  pub all : (p : ℕ) → p < length W → wordOf W' p ≡ wordOf W p - leading

@@ -4,9 +4,10 @@ ghost use mathlib.Core.Path.{_≡_};
 ghost use Prim.Native.Nat.{_<_, _≤_};
 ghost use Rattle.labels.specs.Sets.{leading};
 ghost use Rattle.labels.specs.Labelled.{Labelled};
-ghost use Rattle.ranks.specs.Ranks.{leadsOf, givenOf, Room, Gave, Reached, Through};
+ghost use Rattle.ranks.specs.Queues.{linkedOf, headOf, Room, Stands, Reached, Through};
+ghost use Rattle.ranks.specs.Counts.{Row, RowOff, Rows, RowsOff};
 ghost use Rattle.ranks.specs.Ranked.{Ranked};
-ghost use Rattle.ranks.specs.Words.{nextOf, aboveOf, Tracing, Traced, Ending, Settled, Adding, Added, Finishing, Finished};
+ghost use Rattle.ranks.specs.Words.{nextOf, Tracing, Traced, Ending, Settled, Finishing, Finished};
 
 // From this number on a word is a leader's.
 const LEADING: u32 = 2147483648;
@@ -14,54 +15,51 @@ const LEADING: u32 = 2147483648;
 // The widest sheet has so many rows, 2 ^ TOP_LEVEL.
 const ROWS: usize = 128;
 
-// In a leader's word each row has room for so many ranks.
-const RANKS: u32 = 256;
-
-// 1 for a leader's word, else 0.
-fn leads(word: u32) -> u32
-    ensures { λ r. ⌜ (r ≡ leadsOf word) × (r ≤ 1) ⌝ }
-{
-    if word < LEADING {
-        return 0;
-    }
-    1
-}
-
-// A leader's word becomes that number's, any other stays.
-fn given(word: u32, number: u32) -> u32
-    requires { ⌜ number < leading ⌝ }
-    ensures { λ r. ⌜ r ≡ givenOf word number ⌝ }
+// A leader's word becomes the way to the next in its row, any other stays.
+fn linked(word: u32, next: u32) -> u32
+    requires { ⌜ next < leading ⌝ }
+    ensures { λ r. ⌜ r ≡ linkedOf word next ⌝ }
 {
     if word < LEADING {
         return word;
     }
-    LEADING + number
+    LEADING + next
 }
 
-// Leaf p gets the next rank of row y where it leads. Nothing waits for a guess whether it does.
-fn give(words: &mut [u32], rows: &mut [u32; ROWS], p: usize, y: usize)
+// The head of a row's queue once p, whose word this is, has gone there if it leads.
+fn head(word: u32, p: u32, first: u32) -> u32
+    ensures { λ r. ⌜ r ≡ headOf word p first ⌝ }
+{
+    if word < LEADING {
+        return first;
+    }
+    p
+}
+
+// Leaf p goes to the head of row y's queue where it leads. Nothing waits for a guess whether it does.
+fn stand(words: &mut [u32], rows: &mut [u32; ROWS], p: usize, y: usize)
     requires { ⌜ Room (now words) (now rows) p y ⌝ }
-    ensures { λ _. ⌜ Gave (now (words .entry)) (now (rows .entry)) p y (now (words .exit)) (now (rows .exit)) ⌝ }
+    ensures { λ _. ⌜ Stands (now (words .entry)) (now (rows .entry)) p y (now (words .exit)) (now (rows .exit)) ⌝ }
 {
     let word = words[p];
-    let rank = rows[y];
-    rows[y] = rank + leads(word);
-    words[p] = given(word, RANKS * y as u32 + (rank + 1));
+    let next = rows[y];
+    rows[y] = head(word, p as u32, next);
+    words[p] = linked(word, next);
 }
 
-// The four pixels of a fork of level 1.
-fn give_pixels(table: &[u32], words: &mut [u32], rows: &mut [u32; ROWS], p: usize, y: usize)
+// The four pixels of a fork of level 1, the last first.
+fn stand_pixels(table: &[u32], words: &mut [u32], rows: &mut [u32; ROWS], p: usize, y: usize)
     requires { ⌜ Reached (now table) (now words) (now rows) p 1 y ⌝ }
     ensures { λ _. ⌜ Through (now (table .entry)) (now (words .entry)) (now (rows .entry)) p 1 y (now (words .exit)) (now (rows .exit)) ⌝ }
 {
-    give(words, rows, word_at(table, p, 1), y);
-    give(words, rows, word_at(table, p, 2), y);
-    give(words, rows, word_at(table, p, 3), y + 1);
-    give(words, rows, word_at(table, p, 4), y + 1);
+    stand(words, rows, word_at(table, p, 4), y + 1);
+    stand(words, rows, word_at(table, p, 3), y + 1);
+    stand(words, rows, word_at(table, p, 2), y);
+    stand(words, rows, word_at(table, p, 1), y);
 }
 
-// The leaves under fork p, whose block begins in row y. A son that is marked has no leader under it.
-fn give_fork(
+// The leaves under fork p, whose block begins in row y, the last first. A son that is marked has no leader under it.
+fn stand_fork(
     table: &[u32],
     words: &mut [u32],
     rows: &mut [u32; ROWS],
@@ -73,39 +71,54 @@ fn give_fork(
     ensures { λ _. ⌜ Through (now (table .entry)) (now (words .entry)) (now (rows .entry)) p level y (now (words .exit)) (now (rows .exit)) ⌝ }
 {
     let half = level - 1;
-    let mut q: usize = 0;
-    while q < 4 {
+    let mut left: usize = 4;
+    while 0 < left {
+        let q = left - 1;
         let son = word_at(table, p, 1 + q);
         let top = y + (q / 2 << half);
-        q += 1;
+        left = q;
         if word_at(table, son, 5) == quad::FORK {
             if words[son] == 0 {
                 if half == 1 {
-                    give_pixels(&*table, words, rows, son, top);
+                    stand_pixels(&*table, words, rows, son, top);
                 } else {
-                    give_fork(&*table, words, rows, son, half, top);
+                    stand_fork(&*table, words, rows, son, half, top);
                 }
             }
         } else {
-            give(words, rows, son, top);
+            stand(words, rows, son, top);
         }
     }
 }
 
-// Each row's entry becomes how many leaders the rows above it have. Gives how many all have.
-fn starts(side: usize, rows: &mut [u32; ROWS]) -> u32
-    requires { ⌜ Adding side (now rows) ⌝ }
-    ensures { λ r. ⌜ (r ≡ aboveOf (now (rows .entry)) side) × Added side (now (rows .entry)) (now (rows .exit)) ⌝ }
+// Counts a row's leaders off, from the first of its queue on: each word becomes its leader's number. Gives how many there are with those before.
+fn count_row(words: &mut [u32], first: u32, before: u32) -> u32
+    requires { ⌜ Row (now words) first before ⌝ }
+    ensures { λ r. ⌜ RowOff (now (words .entry)) first before r (now (words .exit)) ⌝ }
+{
+    let mut count = before;
+    let mut at = first;
+    while at != 0 {
+        let p = at as usize;
+        at = words[p] - LEADING;
+        count += 1;
+        words[p] = LEADING + count;
+    }
+    count
+}
+
+// The same row by row. Gives how many leaders there are.
+fn count_rows(words: &mut [u32], rows: &[u32; ROWS], side: usize) -> u32
+    requires { ⌜ Rows (now words) (now rows) side ⌝ }
+    ensures { λ r. ⌜ RowsOff (now (words .entry)) (now (rows .entry)) side r (now (words .exit)) ⌝ }
 {
     let mut y = 0;
-    let mut above = 0;
+    let mut count = 0;
     while y < side {
-        let here = rows[y];
-        rows[y] = above;
-        above += here;
+        count = count_row(words, rows[y], count);
         y += 1;
     }
-    above
+    count
 }
 
 // The node to look at first on p's way: that of its word, or p itself where the word is a leader's.
@@ -142,15 +155,14 @@ fn settle(words: &mut [u32])
     }
 }
 
-// Every word becomes the number that it stands for.
-fn finish(words: &mut [u32], rows: &[u32; ROWS])
-    requires { ⌜ Finishing (now words) (now rows) ⌝ }
-    ensures { λ _. ⌜ Finished (now (words .entry)) (now (rows .entry)) (now (words .exit)) ⌝ }
+// Takes the leaders' mark off every word: what is left is a number.
+fn finish(words: &mut [u32])
+    requires { ⌜ Finishing (now words) ⌝ }
+    ensures { λ _. ⌜ Finished (now (words .entry)) (now (words .exit)) ⌝ }
 {
     let mut p = 0;
     while p < words.len() {
-        let place = words[p] - LEADING;
-        words[p] = rows[(place / RANKS) as usize] + place % RANKS;
+        words[p] -= LEADING;
         p += 1;
     }
 }
@@ -161,10 +173,10 @@ pub fn number(n: u32, table: &[u32], words: &mut [u32]) -> u32
     ensures { λ r. ⌜ Ranked n (now (table .entry)) (now (words .exit)) r ⌝ }
 {
     let mut rows: [u32; ROWS] = [0; ROWS];
-    give_fork(table, words, &mut rows, 0, n, 0);
-    let count = starts(quad::side(n) as usize, &mut rows);
+    stand_fork(table, words, &mut rows, 0, n, 0);
+    let count = count_rows(words, &rows, quad::side(n) as usize);
     words[0] = LEADING;
     settle(words);
-    finish(words, &rows);
+    finish(words);
     count
 }
