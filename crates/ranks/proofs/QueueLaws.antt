@@ -20,7 +20,7 @@ use Rattle.chains.specs.Chain.{Water}
 use Rattle.chains.specs.Words.{wordOf}
 use Rattle.labels.specs.Sets.{leading, Begins}
 use Rattle.labels.specs.Labelled.{Labelled}
-use Rattle.ranks.specs.Queues.{rowOf, Leads, linkedOf, headOf, Ahead, Queued, East, Passed, Room, Stands}
+use Rattle.ranks.specs.Queues.{rowOf, Leads, linkedOf, headOf, Ahead, Queued, East, Passed, Room, Stood}
 use Rattle.ranks.proofs.WordLaws.{same-or}
 use Rattle.ranks.proofs.PlaceLaws.{water-leaf, top-top, leaf-only, begins-own}
 
@@ -31,6 +31,14 @@ either false b e = inr e
 neither : (a b : Bool) → a || b ≡ false → (a ≡ false) × (b ≡ false)
 neither true b e = absurd (true≢false e)
 neither false b e = (refl, e)
+
+-- leaf p's word, and its row's entry, once it stands in its queue where it leads
+pub record Stands (W R : List ℕ) (p y : ℕ) (W' R' : List ℕ) : Type 0 where
+  pub words : W' ≡ set W p (linkedOf (wordOf W p) (rowOf R y))
+  pub rows : R' ≡ set R y (headOf (wordOf W p) p (rowOf R y))
+
+pub stands : {W R : List ℕ} {p y : ℕ} {W' : List ℕ} {r : ℕ} → Stood W p (rowOf R y) W' r → Stands W R p y W' (set R y r)
+stands s = record { words = s .words; rows = rw (s .head) }
 
 -- a node's number is no leader's word, and no leader is the root
 pub words-few : {n : ℕ} {T : List ℕ} → Accepted n T → nodes T < leading
@@ -180,11 +188,13 @@ module _ {n : ℕ} {T F : List ℕ} {D : ℕ → Bool} {W R : List ℕ} (g : Que
 
   -- leaf p, as the code has it stand
   module _ (r : Labelled n T F) {p l y : ℕ} (h : AtLevel n T p l) (f : isFork T p ≡ false) (e : y ≡ topOf n T p) where
-    pub leaf-room : Room W R p y
+    pub leaf-row : y < 2 ^ topLevel
+    leaf-row = omega (arith, e, top-top n T (r .sets .accepted) p (h .node))
+
+    pub leaf-room : Room W p (rowOf R y)
     leaf-room = record {
       node = omega (arith, g .size, h .node);
       few = omega (arith, g .size, words-few (r .sets .accepted));
-      row = omega (arith, e, top-top n T (r .sets .accepted) p (h .node));
       head = omega (arith, g .size, head-node r y);
     }
 
@@ -239,5 +249,5 @@ module _ {n : ℕ} {T F : List ℕ} {D : ℕ → Bool} {W R : List ℕ} (g : Que
       omega (arith, k .1, li .high))
 
 -- what `stand` leaves, by what its callees say
-pub stands : (W R : List ℕ) (p y a b : ℕ) → a ≡ linkedOf (wordOf W p) (rowOf R y) → b ≡ headOf (wordOf W p) p (rowOf R y) → Stands W R p y (set W p a) (set R y b)
-stands W R p y a b e f = record { words = rw e; rows = rw f }
+pub stood : (W : List ℕ) (p first a b : ℕ) → a ≡ linkedOf (wordOf W p) first → b ≡ headOf (wordOf W p) p first → Stood W p first (set W p a) b
+stood W p first a b e f = record { words = rw e; head = f }

@@ -6,7 +6,8 @@ use mathlib.Core.Logic.{_⊎_, inl, inr, ⊎-elim}
 use mathlib.Core.Path.{_≡_, refl}
 use Prim.Native.Nat.{ℕ, _+_, _-_, _*_, _/_, _%_, _^_, _≤_, _<_}
 use native.Mathlib.Omega.{arith}
-use lib.ListN.{length}
+use lib.ListN.{length, set, length-set}
+use lib.Seq.{getD-set-same, set-set}
 use lib.Pow.{pow-pos}
 use Rattle.base.proofs.BoolLaws.{by-bool, lt-or-ge}
 use Rattle.base.proofs.PowLaws.{pow-less}
@@ -17,10 +18,10 @@ use Rattle.table.specs.Nodes.{leftOf, topOf}
 use Rattle.table.proofs.AcceptedLaws.{fork-above, son-at}
 use Rattle.chains.specs.Words.{wordOf}
 use Rattle.labels.specs.Sets.{Begins}
-use Rattle.ranks.specs.Queues.{Leads, Queued, East, Passed, Reach, Through, Room, Stands}
+use Rattle.ranks.specs.Queues.{Leads, Queued, East, Passed, Reach, Through, Room, Stood, rowOf}
 use Rattle.ranks.proofs.WordLaws.{same-or}
 use Rattle.ranks.proofs.PlaceLaws.{apart, top-top, son-left, son-top}
-use Rattle.ranks.proofs.QueueLaws.{leaf-room, leaf-passed, marked-passed}
+use Rattle.ranks.proofs.QueueLaws.{stands, leaf-row, leaf-room, leaf-passed, marked-passed}
 
 -- node i begins in the block of one of the sons from q on
 pub record Among (n : ℕ) (T : List ℕ) (p l q i : ℕ) : Type 0 where
@@ -123,13 +124,16 @@ module _ {n : ℕ} {T F : List ℕ} {D : ℕ → Bool} {W R : List ℕ} {p l y :
 
       -- where the next son is a leaf
       module _ (f : isFork T k ≡ false) {v : ℕ} (t : v ≡ topOf n T k) where
-        pub turn-room : Room W₁ R₁ k v
+        pub turn-row : v < 2 ^ topLevel
+        turn-row = leaf-row (s .queued) (h .ready) place f t
+
+        pub turn-room : Room W₁ k (rowOf R₁ v)
         turn-room = leaf-room (s .queued) (h .ready) place f t
 
-        pub turn-leaf : {W₂ R₂ : List ℕ} → Stands W₁ R₁ k v W₂ R₂ → Part n T F D p l q W₂ R₂
+        pub turn-leaf : {W₂ : List ℕ} {r : ℕ} → Stood W₁ k (rowOf R₁ v) W₂ r → Part n T F D p l q W₂ (set R₁ v r)
         turn-leaf a =
             let east : East n T (s .now) (leftOf n T k) (topOf n T k) (l - 1) = rw e (son-east q4) in
-            part-more q4 (rw e at (leaf-passed (s .queued) (h .ready) place f t east a))
+            part-more q4 (rw e at (leaf-passed (s .queued) (h .ready) place f t east (stands a)))
 
       -- where it is a fork
       module _ (f : isFork T k ≡ true) where
@@ -224,8 +228,8 @@ pub one-less : {left : ℕ} → 0 < left → left ≡ left - 1 + 1
 one-less a = omega (arith, a)
 
 -- the pixels of a fork of level 1
-module _ {n : ℕ} {T F : List ℕ} {D : ℕ → Bool} {W R : List ℕ} {p y : ℕ} (h : Reach n F D T W R p 1 y) {W₁ R₁ : List ℕ} (q : ℕ) (q4 : q < 4)
-    (s : Part n T F D p 1 (q + 1) W₁ R₁) {k v : ℕ} (e : k ≡ son T p q) (t : v ≡ y + q / 2) where
+module _ {n : ℕ} {T F : List ℕ} {D : ℕ → Bool} {W R : List ℕ} {p y : ℕ} (h : Reach n F D T W R p 1 y) {W₁ R₁ : List ℕ} (v q : ℕ) (q4 : q < 4)
+    (s : Part n T F D p 1 (q + 1) W₁ R₁) {k : ℕ} (e : k ≡ son T p q) (t : v ≡ y + q / 2) where
   pixel-leaf : isFork T k ≡ false
   pixel-leaf =
       ⊎-elim
@@ -236,12 +240,32 @@ module _ {n : ℕ} {T F : List ℕ} {D : ℕ → Bool} {W R : List ℕ} {p y : �
   pixel-top : v ≡ topOf n T k
   pixel-top = rw e (omega (arith, t, h .top, son-top (h .place) (h .fork) q q4))
 
-  pub pixel-room : Room W₁ R₁ k v
+  pub pixel-room : Room W₁ k (rowOf R₁ v)
   pixel-room = turn-room h s refl q4 e pixel-leaf pixel-top
 
-  pixel-stands : {W₂ R₂ : List ℕ} → Stands W₁ R₁ k v W₂ R₂ → Part n T F D p 1 q W₂ R₂
+  pixel-stands : {W₂ : List ℕ} {r : ℕ} → Stood W₁ k (rowOf R₁ v) W₂ r → Part n T F D p 1 q W₂ (set R₁ v r)
   pixel-stands a = turn-leaf h s refl q4 e pixel-leaf pixel-top a
 
-pub pixel-more : {n : ℕ} {T F : List ℕ} {D : ℕ → Bool} {W R : List ℕ} {p y : ℕ} → Reach n F D T W R p 1 y → {W₁ R₁ : List ℕ} (q : ℕ) → q < 4
-    → Part n T F D p 1 (q + 1) W₁ R₁ → {k v : ℕ} → k ≡ son T p q → {W₂ R₂ : List ℕ} → Stands W₁ R₁ k v W₂ R₂ → v ≡ y + q / 2 → Part n T F D p 1 q W₂ R₂
-pixel-more h q q4 s e a t = pixel-stands h q q4 s e t a
+pub pixel-more : {n : ℕ} {T F : List ℕ} {D : ℕ → Bool} {W R : List ℕ} {p y : ℕ} → Reach n F D T W R p 1 y → {W₁ R₁ : List ℕ} (v q : ℕ) → q < 4
+    → Part n T F D p 1 (q + 1) W₁ R₁ → {k : ℕ} → k ≡ son T p q → {W₂ : List ℕ} {r : ℕ} → Stood W₁ k (rowOf R₁ v) W₂ r → v ≡ y + q / 2
+    → Part n T F D p 1 q W₂ (set R₁ v r)
+pixel-more h v q q4 s e a t = pixel-stands h v q q4 s e t a
+
+pub south-row : {n : ℕ} {T F : List ℕ} {D : ℕ → Bool} {W R : List ℕ} {p y : ℕ} → Reach n F D T W R p 1 y → y + 1 < 2 ^ topLevel
+south-row {n} {T} {p = p} h =
+    let two : 2 < 4 = omega arith in
+    omega (arith, h .top, son-top (h .place) (h .fork) 2 two, top-top n T (h .place .accepted) (son T p 2) (son-at (h .place) (h .fork) 2 two .node))
+
+-- the second pixel of a row goes before what the first has left at its head
+module _ {n : ℕ} {T F : List ℕ} {D : ℕ → Bool} {W R : List ℕ} {p y : ℕ} (h : Reach n F D T W R p 1 y) {W₁ : List ℕ} (R₁ : List ℕ) (v a : ℕ) (q : ℕ)
+    (q4 : q < 4) (s : Part n T F D p 1 (q + 1) W₁ (set R₁ v a)) {k : ℕ} (e : k ≡ son T p q) (t : v ≡ y + q / 2) (lt : v < 2 ^ topLevel) where
+  head-is : rowOf (set R₁ v a) v ≡ a
+  head-is = getD-set-same R₁ v a 0 (omega (arith, lt, s .queued .tall, length-set R₁ v a))
+
+  pub second-room : Room W₁ k a
+  second-room = rw head-is at (pixel-room h v q q4 s e t)
+
+  pub second-more : {W₂ : List ℕ} {b : ℕ} → Stood W₁ k a W₂ b → Part n T F D p 1 q W₂ (set R₁ v b)
+  second-more {W₂} {b} d =
+      let there : Stood W₁ k (rowOf (set R₁ v a) v) W₂ b = rw head-is d in
+      rw (set-set R₁ v a b) at (pixel-more h v q q4 s e there t)

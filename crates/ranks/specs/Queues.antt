@@ -80,17 +80,16 @@ abbrev pub Through : List ℕ → List ℕ → List ℕ → ℕ → ℕ → ℕ 
 Through T W R p l y W' R' =
     (n : ℕ) (F : List ℕ) (D : ℕ → Bool) → Reach n F D T W R p l y → Passed n T F D (leftOf n T p) (topOf n T p) l W' R'
 
--- there is a word for leaf p, and an entry of row y that is a node
-pub record Room (W R : List ℕ) (p y : ℕ) : Type 0 where
+-- there is a word for leaf p, and the first of a queue is a node
+pub record Room (W : List ℕ) (p first : ℕ) : Type 0 where
   pub node : p < length W
   pub few : length W < leading
-  pub row : y < 2 ^ topLevel
-  pub head : rowOf R y < length W
+  pub head : first < length W
 
--- leaf p's word, and its row's entry, once it stands in its queue where it leads
-pub record Stands (W R : List ℕ) (p y : ℕ) (W' R' : List ℕ) : Type 0 where
-  pub words : W' ≡ set W p (linkedOf (wordOf W p) (rowOf R y))
-  pub rows : R' ≡ set R y (headOf (wordOf W p) p (rowOf R y))
+-- leaf p's word, and the first of the queue, once it stands there where it leads
+pub record Stood (W : List ℕ) (p first : ℕ) (W' : List ℕ) (r : ℕ) : Type 0 where
+  pub words : W' ≡ set W p (linkedOf (wordOf W p) first)
+  pub head : r ≡ headOf (wordOf W p) p first
 
 -- all leaders stand in their queues
 pub record Full (n : ℕ) (T F W R : List ℕ) : Type 0 where

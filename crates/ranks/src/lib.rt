@@ -4,7 +4,7 @@ ghost use mathlib.Core.Path.{_≡_};
 ghost use Prim.Native.Nat.{_<_, _≤_};
 ghost use Rattle.labels.specs.Sets.{leading};
 ghost use Rattle.labels.specs.Labelled.{Labelled};
-ghost use Rattle.ranks.specs.Queues.{linkedOf, headOf, Room, Stands, Reached, Through};
+ghost use Rattle.ranks.specs.Queues.{linkedOf, headOf, Room, Stood, Reached, Through};
 ghost use Rattle.ranks.specs.Counts.{Row, RowOff, Rows, RowsOff};
 ghost use Rattle.ranks.specs.Ranked.{Ranked};
 ghost use Rattle.ranks.specs.Words.{nextOf, Tracing, Traced, Ending, Settled, Finishing, Finished};
@@ -36,15 +36,14 @@ fn head(word: u32, p: u32, first: u32) -> u32
     p
 }
 
-// Leaf p goes to the head of row y's queue where it leads. Nothing waits for a guess whether it does.
-fn stand(words: &mut [u32], rows: &mut [u32; ROWS], p: usize, y: usize)
-    requires { ⌜ Room (now words) (now rows) p y ⌝ }
-    ensures { λ _. ⌜ Stands (now (words .entry)) (now (rows .entry)) p y (now (words .exit)) (now (rows .exit)) ⌝ }
+// Leaf p goes before the first of a row's queue where it leads. Gives the first one then. Nothing waits for a guess whether it does.
+fn stand(words: &mut [u32], p: usize, first: u32) -> u32
+    requires { ⌜ Room (now words) p first ⌝ }
+    ensures { λ r. ⌜ Stood (now (words .entry)) p first (now (words .exit)) r ⌝ }
 {
     let word = words[p];
-    let next = rows[y];
-    rows[y] = head(word, p as u32, next);
-    words[p] = linked(word, next);
+    words[p] = linked(word, first);
+    head(word, p as u32, first)
 }
 
 // The four pixels of a fork of level 1, the last first.
@@ -52,10 +51,10 @@ fn stand_pixels(table: &[u32], words: &mut [u32], rows: &mut [u32; ROWS], p: usi
     requires { ⌜ Reached (now table) (now words) (now rows) p 1 y ⌝ }
     ensures { λ _. ⌜ Through (now (table .entry)) (now (words .entry)) (now (rows .entry)) p 1 y (now (words .exit)) (now (rows .exit)) ⌝ }
 {
-    stand(words, rows, word_at(table, p, 4), y + 1);
-    stand(words, rows, word_at(table, p, 3), y + 1);
-    stand(words, rows, word_at(table, p, 2), y);
-    stand(words, rows, word_at(table, p, 1), y);
+    let se = stand(words, word_at(table, p, 4), rows[y + 1]);
+    rows[y + 1] = stand(words, word_at(table, p, 3), se);
+    let ne = stand(words, word_at(table, p, 2), rows[y]);
+    rows[y] = stand(words, word_at(table, p, 1), ne);
 }
 
 // The leaves under fork p, whose block begins in row y, the last first. A son that is marked has no leader under it.
@@ -86,7 +85,7 @@ fn stand_fork(
                 }
             }
         } else {
-            stand(words, rows, son, top);
+            rows[top] = stand(words, son, rows[top]);
         }
     }
 }

@@ -4,7 +4,7 @@ use native.Mathlib.Omega.{arith}
 use lib.ListN.{length}
 use Rattle.table.proofs.AcceptedLaws.{level-top, fork-above, son-at}
 use Rattle.table.proofs.SeenLaws.{told-fork, told-leaf}
-use Rattle.ranks.proofs.SonLaws.{Sons, part-none, son-row, son-fits, son-node, son-reach, turn-room, turn-leaf, turn-fork, turn-marked, part-end, fewer, one-less}
+use Rattle.ranks.proofs.SonLaws.{Sons, part-none, son-row, son-fits, son-node, son-reach, turn-row, turn-room, turn-leaf, turn-fork, turn-marked, part-end, fewer, one-less}
 use Prim.Native.Nat.{ℕ, _-_, _≤_, _<_}
 use borrow.Fn.Kinds.{In}
 use borrow.Fn.PlainCycle.{Measures, is, falls, and}
@@ -153,6 +153,28 @@ stand-fork-loop-again-3 t c =
     let f = told-fork (c .before .before .before .before .before .before .before .before .before .args .table .now) (c .before .before .before .before .word-at .result) _ (c .before .before .before .word-at2 .ensures) (c .before .before .if1 .taken) in
     (omega (arith, lt), v .1, λ n F D r. turn-marked r (v .2 n F D r) el lt e f (c .if2 .left))
 
+stand-fork-mul-stand : (t : ℕ) → stand-fork-lts.Need-mul-stand (calls t) (stand-fork-at t) stand-fork.Post stand-fork-Inv-loop stand-fork-μ-loop
+stand-fork-mul-stand t c =
+    let r = c .before .before .before .before .before .before .before .before .pre .1 .reach in
+    let v = c .before .before .before .before .before .loop .inv in
+    let pos = c .before .before .before .before .loop-test .taken in
+    let lt = fewer (v .0) pos in
+    let el = one-less pos in
+    let e = c .before .before .before .word-at .ensures in
+    let f = told-leaf (c .before .before .before .before .before .before .before .before .args .table .now) (c .before .before .before .word-at .result) _ (c .before .before .word-at2 .ensures) (c .before .if1 .left) in
+    omega (arith, turn-row r (v .2 _ _ _ r) el lt e f (son-row r lt e))
+
+stand-fork-element-copy-out-stand : (t : ℕ) → stand-fork-lts.Need-element-copy-out-stand (calls t) (stand-fork-at t) stand-fork.Post stand-fork-Inv-loop stand-fork-μ-loop
+stand-fork-element-copy-out-stand t c =
+    let r = c .before .before .before .before .before .before .before .before .pre .1 .reach in
+    let v = c .before .before .before .before .before .loop .inv in
+    let pos = c .before .before .before .before .loop-test .taken in
+    let lt = fewer (v .0) pos in
+    let el = one-less pos in
+    let e = c .before .before .before .word-at .ensures in
+    let f = told-leaf (c .before .before .before .before .before .before .before .before .args .table .now) (c .before .before .before .word-at .result) _ (c .before .before .word-at2 .ensures) (c .before .if1 .left) in
+    omega (arith, turn-row r (v .2 _ _ _ r) el lt e f (son-row r lt e))
+
 stand-fork-stand-requires : (t : ℕ) → stand-fork-lts.Need-stand-requires (calls t) (stand-fork-at t) stand-fork.Post stand-fork-Inv-loop stand-fork-μ-loop
 stand-fork-stand-requires t c κs =
     let r = c .before .before .before .before .before .before .before .before .before .pre .1 .reach in
@@ -163,6 +185,28 @@ stand-fork-stand-requires t c κs =
     let e = c .before .before .before .before .word-at .ensures in
     let f = told-leaf (c .before .before .before .before .before .before .before .before .before .args .table .now) (c .before .before .before .before .word-at .result) _ (c .before .before .before .word-at2 .ensures) (c .before .before .if1 .left) in
     turn-room r (v .2 _ _ _ r) el lt e f (son-row r lt e)
+
+stand-fork-mul-rows : (t : ℕ) → stand-fork-lts.Need-mul-rows (calls t) (stand-fork-at t) stand-fork.Post stand-fork-Inv-loop stand-fork-μ-loop
+stand-fork-mul-rows t c =
+    let r = c .before .before .before .before .before .before .before .before .before .before .before .before .pre .1 .reach in
+    let v = c .before .before .before .before .before .before .before .before .before .loop .inv in
+    let pos = c .before .before .before .before .before .before .before .before .loop-test .taken in
+    let lt = fewer (v .0) pos in
+    let el = one-less pos in
+    let e = c .before .before .before .before .before .before .before .word-at .ensures in
+    let f = told-leaf (c .before .before .before .before .before .before .before .before .before .before .before .before .args .table .now) (c .before .before .before .before .before .before .before .word-at .result) _ (c .before .before .before .before .before .before .word-at2 .ensures) (c .before .before .before .before .before .if1 .left) in
+    omega (arith, turn-row r (v .2 _ _ _ r) el lt e f (son-row r lt e))
+
+stand-fork-element-write-rows : (t : ℕ) → stand-fork-lts.Need-element-write-rows (calls t) (stand-fork-at t) stand-fork.Post stand-fork-Inv-loop stand-fork-μ-loop
+stand-fork-element-write-rows t c =
+    let r = c .before .before .before .before .before .before .before .before .before .before .before .before .pre .1 .reach in
+    let v = c .before .before .before .before .before .before .before .before .before .loop .inv in
+    let pos = c .before .before .before .before .before .before .before .before .loop-test .taken in
+    let lt = fewer (v .0) pos in
+    let el = one-less pos in
+    let e = c .before .before .before .before .before .before .before .word-at .ensures in
+    let f = told-leaf (c .before .before .before .before .before .before .before .before .before .before .before .before .args .table .now) (c .before .before .before .before .before .before .before .word-at .result) _ (c .before .before .before .before .before .before .word-at2 .ensures) (c .before .before .before .before .before .if1 .left) in
+    omega (arith, turn-row r (v .2 _ _ _ r) el lt e f (son-row r lt e))
 
 stand-fork-loop-less-4 : (t : ℕ) → stand-fork-lts.Need-loop-less-4 (calls t) (stand-fork-at t) stand-fork.Post stand-fork-Inv-loop stand-fork-μ-loop
 stand-fork-loop-less-4 t c = omega (arith, c .before .before .before .before .before .before .before .before .loop-test .taken)
@@ -208,7 +252,11 @@ pub +stand-fork-spec : {M : Type 1} → statement M
     (stand-fork-loop-again-2 t)
     (stand-fork-loop-less-3 t)
     (stand-fork-loop-again-3 t)
+    (stand-fork-mul-stand t)
+    (stand-fork-element-copy-out-stand t)
     (stand-fork-stand-requires t)
+    (stand-fork-mul-rows t)
+    (stand-fork-element-write-rows t)
     (stand-fork-loop-less-4 t)
     (stand-fork-loop-again-4 t)
     (stand-fork-same-length t)

@@ -1,5 +1,5 @@
 -- `ranks::stand`: by the two callees. Assumes nothing.
-use Rattle.ranks.proofs.QueueLaws.{stands}
+use Rattle.ranks.proofs.QueueLaws.{stood}
 use borrow.Author.Needs.{needs}
 use Rattle.ranks.proofs.stand.Statement.{statement}
 use Rattle.ranks.proofs.stand.Tie as tie
@@ -10,24 +10,6 @@ mul-word c = search needs
 slice-read-word : tie.Need-slice-read-word
 slice-read-word c = search needs
 
-mul-next : tie.Need-mul-next
-mul-next c = search needs
-
-element-copy-out-next : tie.Need-element-copy-out-next
-element-copy-out-next c = search needs
-
-cast-head : tie.Need-cast-head
-cast-head c = search needs
-
-head-requires : tie.Need-head-requires
-head-requires c κs = search needs
-
-mul-rows : tie.Need-mul-rows
-mul-rows c = search needs
-
-element-write-rows : tie.Need-element-write-rows
-element-write-rows c = search needs
-
 linked-requires : tie.Need-linked-requires
 linked-requires c κs = search needs
 
@@ -37,11 +19,17 @@ mul-words c = search needs
 slice-write-words : tie.Need-slice-write-words
 slice-write-words c = search needs
 
+cast-head : tie.Need-cast-head
+cast-head c = search needs
+
+head-requires : tie.Need-head-requires
+head-requires c κs = search needs
+
 same-length : tie.Need-same-length
 same-length c = search needs
 
 returns : tie.Need-returns
-returns c = stands _ _ _ _ _ _ (c .linked .ensures) (c .before .head .ensures)
+returns c = stood _ _ _ _ _ (c .before .linked .ensures) (c .head .ensures)
 
 pub stand-spec : {M : Type 1} → statement M
 stand-spec =
@@ -49,14 +37,10 @@ stand-spec =
     (tie.spec
     mul-word
     slice-read-word
-    mul-next
-    element-copy-out-next
-    cast-head
-    head-requires
-    mul-rows
-    element-write-rows
     linked-requires
     mul-words
     slice-write-words
+    cast-head
+    head-requires
     same-length
     returns)
