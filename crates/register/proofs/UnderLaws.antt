@@ -308,3 +308,14 @@ module _ {n : ℕ} {T numbers : List ℕ} {count : ℕ} (s : Numbers n T numbers
     sheet-filled out h =
         h sheet-entering
         ∙ (register-same count old (withUnder n T numbers n 0 (λ k. emptyPond)) (entryOf n T numbers) empty-with ∙ register-entries n T numbers count old)
+
+-- a pixel by its number
+module _ {T numbers : List ℕ} {p column row : ℕ} {words : List ℕ} (f : isFork T p ≡ true) (q : ℕ) (q4 : q < 4) (its : Block) (ei : its ≡ partOf (blockAt column row 1) q)
+    (words' : List ℕ) (g : Gained T numbers p (blockAt column row 1) words q words') (v : ℕ) (ev : v ≡ getD numbers (son T p q) 0) where
+  pub pixel-passing : Entering T numbers p (blockAt column row 1) words → Passing its v words'
+  pixel-passing z = rw ev (entering-passing (son-entering f q (son T p q) its words' q4 refl ei g z))
+
+  pub pixel-gained : (words'' : List ℕ) → words'' ≡ passedOf its v words' → Gained T numbers p (blockAt column row 1) words (q + 1) words''
+  pixel-gained words'' e =
+      let low = ap (λ (b : Block). b .level) ei in
+      gained-more f q (son T p q) its words' q4 refl ei g words'' (λ z. pixel-entered z words'' (omega (arith, low)) (rw ev at e))

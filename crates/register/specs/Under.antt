@@ -99,3 +99,8 @@ pub record Entering (T numbers : List ℕ) (p : ℕ) (b : Block) (words : List �
 abbrev pub Entered : List ℕ → List ℕ → ℕ → Block → List ℕ → List ℕ → Type 0
 Entered T numbers p b words words' =
     (z : Entering T numbers p b words) → words' ≡ registerOf (z .count) (z .before) (withUnder (z .n) T numbers (b .level) p (z .E))
+
+-- the numbers of a fork's sons
+abbrev pub Theirs : List ℕ → List ℕ → ℕ → ℕ → ℕ → ℕ → ℕ → Type 0
+Theirs T numbers p nw ne sw se =
+    (nw ≡ getD numbers (son T p 0) 0) × (ne ≡ getD numbers (son T p 1) 0) × (sw ≡ getD numbers (son T p 2) 0) × (se ≡ getD numbers (son T p 3) 0)

@@ -11,7 +11,7 @@ ghost use Rattle.register.specs.Entries.{entries, wordsOf};
 ghost use Rattle.register.specs.Gathered.{emptyPond, grownOf, Fitting, Numbers};
 ghost use Rattle.register.specs.Words.{pondAt, putAt, passedOf, Passing};
 ghost use Rattle.register.specs.Four.{presentOf, eitherOf, alikeOf, grownFour};
-ghost use Rattle.register.specs.Under.{blockAt, partOf, Parted, Entering, Entered};
+ghost use Rattle.register.specs.Under.{blockAt, partOf, Parted, Entering, Entered, Theirs};
 
 pub mod slice;
 
@@ -123,16 +123,23 @@ fn part(column: u32, row: u32, level: u32, q: usize) -> Block
     }
 }
 
+// Adds a block to the entry of that number, if it is one.
+fn pass_number(reg: &mut [u32], number: u32, b: Block)
+    requires { ⌜ Passing b number (now reg) ⌝ }
+    ensures { λ _. ⌜ now (reg .exit) ≡ passedOf b number (now (reg .entry)) ⌝ }
+{
+    if number == 0 {
+        return;
+    }
+    grow_at(reg, number as usize - 1, b);
+}
+
 // Adds a block to the entry of its node's number, if that has one.
 fn pass(numbers: &[u32], reg: &mut [u32], p: usize, b: Block)
     requires { ⌜ (p < length (now numbers)) × Passing b (getD (now numbers) p 0) (now reg) ⌝ }
     ensures { λ _. ⌜ now (reg .exit) ≡ passedOf b (getD (now (numbers .entry)) p 0) (now (reg .entry)) ⌝ }
 {
-    let number = numbers[p] as usize;
-    if number == 0 {
-        return;
-    }
-    grow_at(reg, number - 1, b);
+    pass_number(reg, numbers[p], b);
 }
 
 // The number of son q of a fork.
@@ -194,17 +201,26 @@ fn grow_four(reg: &mut [u32], i: usize, column: u32, row: u32, nw: u32, ne: u32,
     put_entry(reg, i, e);
 }
 
-// Adds the four pixels of a fork of level 1, whose column and row are given, to the entries of their numbers, one after the other.
-fn pass_four(table: &[u32], numbers: &[u32], reg: &mut [u32], p: usize, column: u32, row: u32)
-    requires { ⌜ Entering (now table) (now numbers) p (blockAt column row 1) (now reg) × (isFork (now table) p ≡ true) ⌝ }
+// Adds the four pixels of a fork of level 1, whose column and row are given, to the entries of their numbers, which are given too, one after the other.
+fn pass_four(
+    table: &[u32],
+    numbers: &[u32],
+    reg: &mut [u32],
+    p: usize,
+    column: u32,
+    row: u32,
+    nw: u32,
+    ne: u32,
+    sw: u32,
+    se: u32,
+)
+    requires { ⌜ Entering (now table) (now numbers) p (blockAt column row 1) (now reg) × (isFork (now table) p ≡ true) × Theirs (now table) (now numbers) p nw ne sw se ⌝ }
     ensures { λ _. ⌜ Entered (now (table .entry)) (now (numbers .entry)) p (blockAt column row 1) (now (reg .entry)) (now (reg .exit)) ⌝ }
 {
-    let mut quadrant = 0;
-    while quadrant < 4 {
-        let pixel = word_at(table, p, 1 + quadrant);
-        pass(numbers, reg, pixel, part(column, row, 1, quadrant));
-        quadrant += 1;
-    }
+    pass_number(reg, nw, part(column, row, 1, 0));
+    pass_number(reg, ne, part(column, row, 1, 1));
+    pass_number(reg, sw, part(column, row, 1, 2));
+    pass_number(reg, se, part(column, row, 1, 3));
 }
 
 // The same, and at once where all that have a number have the same one.
@@ -224,7 +240,7 @@ fn pass_pixels(table: &[u32], numbers: &[u32], reg: &mut [u32], p: usize, column
         grow_four(reg, number as usize - 1, column, row, nw, ne, sw, se);
         return;
     }
-    pass_four(table, numbers, reg, p, column, row);
+    pass_four(table, numbers, reg, p, column, row, nw, ne, sw, se);
 }
 
 // Adds the leaves under a fork, whose block is given, to the entries of their numbers. A fork of four pixels is done in its father's loop.

@@ -1,73 +1,71 @@
--- `register::pass_four`: the register has what the first pixels give. The measure is the pixels left. Assumes nothing.
-use Prim.Native.Nat.{_-_, _≤_}
-use mathlib.Core.Path.{_≡_, refl, ap, _∙_}
+-- `register::pass_four`: pixel by pixel. Assumes nothing.
 use native.Mathlib.Omega.{arith}
-use lib.ListN.{length}
-use Rattle.table.specs.declared.block.Block.{Block}
-use Rattle.register.specs.Under.{blockAt}
-use Rattle.register.proofs.UnderLaws.{Gained, gained-none, parted, son-entering, number-there, entering-passing, pixel-entered, gained-more, gained-all}
+use Rattle.register.proofs.UnderLaws.{gained-none, parted, pixel-passing, pixel-gained, gained-all}
+use borrow.Author.Needs.{needs}
 use Rattle.register.proofs.pass_four.Statement.{statement}
 use Rattle.register.proofs.pass_four.Tie as tie
 
-abbrev Inv-loop : tie.InvT-loop
-Inv-loop table numbers reg₀ p column row quadrant₀ reg quadrant = (quadrant ≤ 4) × (length reg ≡ length reg₀) × Gained table numbers p (blockAt column row 1) reg₀ quadrant reg
+part-requires : tie.Need-part-requires
+part-requires c κs = (parted (c .before .before .before .before .pre .0) (c .before .before .before .before .pre .1), omega arith)
 
-abbrev μ-loop : tie.MeasureT-loop
-μ-loop table numbers reg₀ p column row quadrant₀ reg quadrant = 4 - quadrant
+pass-number-requires : tie.Need-pass-number-requires
+pass-number-requires c κs =
+    let z = c .before .before .before .before .before .pre in
+    pixel-passing (z .1) 0 (omega arith) _ (c .part .ensures) _ gained-none _ (z .2 .0) (z .0)
 
-loop-holds : tie.Need-loop-holds Inv-loop μ-loop
-loop-holds c = (omega arith, refl, gained-none)
+part-requires-2 : tie.Need-part-requires-2
+part-requires-2 c κs = (parted (c .before .before .before .before .before .before .before .before .before .pre .0) (c .before .before .before .before .before .before .before .before .before .pre .1), omega arith)
 
-add-word-at : tie.Need-add-word-at Inv-loop μ-loop
-add-word-at c = omega arith
+pass-number-requires-2 : tie.Need-pass-number-requires-2
+pass-number-requires-2 c κs =
+    let z = c .before .before .before .before .before .before .before .before .before .before .pre in
+    let one = pixel-gained (z .1) 0 (omega arith) _ (c .before .before .before .before .before .part .ensures) _ gained-none _ (z .2 .0) _ (c .before .before .before .before .pass-number .ensures) in
+    pixel-passing (z .1) 1 (omega arith) _ (c .part2 .ensures) _ one _ (z .2 .1) (z .0)
 
-word-at-requires : tie.Need-word-at-requires Inv-loop μ-loop
-word-at-requires c κs = (c .before .before .before .before .before .pre .0 .node, omega arith)
+part-requires-3 : tie.Need-part-requires-3
+part-requires-3 c κs = (parted (c .before .before .before .before .before .before .before .before .before .before .before .before .before .before .pre .0) (c .before .before .before .before .before .before .before .before .before .before .before .before .before .before .pre .1), omega arith)
 
-part-requires : tie.Need-part-requires Inv-loop μ-loop
-part-requires c κs = (parted (c .before .before .before .before .before .before .before .pre .0) (c .before .before .before .before .before .before .before .pre .1), omega arith)
+pass-number-requires-3 : tie.Need-pass-number-requires-3
+pass-number-requires-3 c κs =
+    let z = c .before .before .before .before .before .before .before .before .before .before .before .before .before .before .before .pre in
+    let one = pixel-gained (z .1) 0 (omega arith) _ (c .before .before .before .before .before .before .before .before .before .before .part .ensures) _ gained-none _ (z .2 .0) _ (c .before .before .before .before .before .before .before .before .before .pass-number .ensures) in
+    let two = pixel-gained (z .1) 1 (omega arith) _ (c .before .before .before .before .before .part2 .ensures) _ one _ (z .2 .1) _ (c .before .before .before .before .pass-number2 .ensures) in
+    pixel-passing (z .1) 2 (omega arith) _ (c .part3 .ensures) _ two _ (z .2 .2) (z .0)
 
-pass-requires : tie.Need-pass-requires Inv-loop μ-loop
-pass-requires c κs = let z = c .before .before .before .before .before .before .before .before .pre in
-    let v = c .before .before .before .before .loop in
-    let e = son-entering (z .1) (v .quadrant) _ _ _ (omega arith) (c .before .before .word-at .ensures) (c .part .ensures) (v .inv .2) (z .0) in
-    (number-there e, entering-passing e)
+part-requires-4 : tie.Need-part-requires-4
+part-requires-4 c κs = (parted (c .before .before .before .before .before .before .before .before .before .before .before .before .before .before .before .before .before .before .before .pre .0) (c .before .before .before .before .before .before .before .before .before .before .before .before .before .before .before .before .before .before .before .pre .1), omega arith)
 
-add-quadrant : tie.Need-add-quadrant Inv-loop μ-loop
-add-quadrant c = omega arith
+pass-number-requires-4 : tie.Need-pass-number-requires-4
+pass-number-requires-4 c κs =
+    let z = c .before .before .before .before .before .before .before .before .before .before .before .before .before .before .before .before .before .before .before .before .pre in
+    let one = pixel-gained (z .1) 0 (omega arith) _ (c .before .before .before .before .before .before .before .before .before .before .before .before .before .before .before .part .ensures) _ gained-none _ (z .2 .0) _ (c .before .before .before .before .before .before .before .before .before .before .before .before .before .before .pass-number .ensures) in
+    let two = pixel-gained (z .1) 1 (omega arith) _ (c .before .before .before .before .before .before .before .before .before .before .part2 .ensures) _ one _ (z .2 .1) _ (c .before .before .before .before .before .before .before .before .before .pass-number2 .ensures) in
+    let three = pixel-gained (z .1) 2 (omega arith) _ (c .before .before .before .before .before .part3 .ensures) _ two _ (z .2 .2) _ (c .before .before .before .before .pass-number3 .ensures) in
+    pixel-passing (z .1) 3 (omega arith) _ (c .part4 .ensures) _ three _ (z .2 .3) (z .0)
 
-loop-less : tie.Need-loop-less Inv-loop μ-loop
-loop-less c = omega arith
+same-length : tie.Need-same-length
+same-length c = search needs
 
-loop-again : tie.Need-loop-again Inv-loop μ-loop
-loop-again c = let z = c .before .before .before .before .before .before .before .before .before .before .before .pre in
-    let v = c .before .before .before .before .before .before .before .loop in
-    let down = ap (λ (b : Block). b .level) (c .before .before .before .part .ensures) in (
-      omega arith,
-      c .before .before .pass .kept .1 .0 ∙ v .inv .1,
-      gained-more (z .1) (v .quadrant) _ _ _ (omega arith) (c .before .before .before .before .before .word-at .ensures) (c .before .before .before .part .ensures) (v .inv .2) _
-          (λ e. pixel-entered e _ (omega (arith, down)) (c .before .before .pass .ensures)),
-    )
-
-same-length : tie.Need-same-length Inv-loop μ-loop
-same-length c = c .before .loop .inv .1
-
-returns : tie.Need-returns Inv-loop μ-loop
-returns c = let v = c .before .loop in gained-all (c .before .before .before .before .before .pre .1) (v .quadrant) _ (v .inv .0) (omega arith) (v .inv .2)
+returns : tie.Need-returns
+returns c =
+    let z = c .before .before .before .before .before .before .before .before .before .before .before .before .before .before .before .before .before .before .before .before .before .before .before .pre in
+    let one = pixel-gained (z .1) 0 (omega arith) _ (c .before .before .before .before .before .before .before .before .before .before .before .before .before .before .before .before .before .before .part .ensures) _ gained-none _ (z .2 .0) _ (c .before .before .before .before .before .before .before .before .before .before .before .before .before .before .before .before .before .pass-number .ensures) in
+    let two = pixel-gained (z .1) 1 (omega arith) _ (c .before .before .before .before .before .before .before .before .before .before .before .before .before .part2 .ensures) _ one _ (z .2 .1) _ (c .before .before .before .before .before .before .before .before .before .before .before .before .pass-number2 .ensures) in
+    let three = pixel-gained (z .1) 2 (omega arith) _ (c .before .before .before .before .before .before .before .before .part3 .ensures) _ two _ (z .2 .2) _ (c .before .before .before .before .before .before .before .pass-number3 .ensures) in
+    let four = pixel-gained (z .1) 3 (omega arith) _ (c .before .before .before .part4 .ensures) _ three _ (z .2 .3) _ (c .before .before .pass-number4 .ensures) in
+    gained-all (z .1) 4 _ (omega arith) (omega arith) four
 
 pub pass-four-spec : {M : Type 1} → statement M
 pass-four-spec =
     tie.close
     (tie.spec
-    Inv-loop
-    μ-loop
-    loop-holds
-    add-word-at
-    word-at-requires
     part-requires
-    pass-requires
-    add-quadrant
-    loop-less
-    loop-again
+    pass-number-requires
+    part-requires-2
+    pass-number-requires-2
+    part-requires-3
+    pass-number-requires-3
+    part-requires-4
+    pass-number-requires-4
     same-length
     returns)
