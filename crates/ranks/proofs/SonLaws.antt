@@ -5,6 +5,7 @@ use mathlib.Core.List.{List}
 use mathlib.Core.Logic.{_⊎_, inl, inr, ⊎-elim}
 use mathlib.Core.Path.{_≡_, refl}
 use Prim.Native.Nat.{ℕ, _+_, _-_, _*_, _/_, _%_, _^_, _≤_, _<_}
+use native.Mathlib.Nat.{pow-le-pow-right}
 use native.Mathlib.Omega.{arith}
 use lib.ListN.{length, set, length-set}
 use lib.Seq.{getD-set-same, set-set}
@@ -12,10 +13,11 @@ use lib.Pow.{pow-pos}
 use Rattle.base.proofs.BoolLaws.{by-bool, lt-or-ge}
 use Rattle.base.proofs.PowLaws.{pow-less}
 use Rattle.quad.specs.Numbers.{topLevel}
+use Rattle.quad.proofs.TreeLaws.{by-quadrant}
 use Rattle.table.specs.Table.{son, isFork}
 use Rattle.table.specs.Rules.{AtLevel}
 use Rattle.table.specs.Nodes.{leftOf, topOf}
-use Rattle.table.proofs.AcceptedLaws.{fork-above, son-at}
+use Rattle.table.proofs.AcceptedLaws.{fork-above, level-top, son-at}
 use Rattle.chains.specs.Words.{wordOf}
 use Rattle.labels.specs.Sets.{Begins}
 use Rattle.ranks.specs.Queues.{Leads, Queued, East, Passed, Reach, Through, Room, Stood, rowOf}
@@ -61,10 +63,15 @@ module _ {n : ℕ} {T F : List ℕ} {D : ℕ → Bool} {W R : List ℕ} {p l y :
       let i = son-at (h .place) (h .fork) q q4 in
       rw e (omega (arith, h .top, son-top (h .place) (h .fork) q q4, top-top n T (h .place .accepted) (son T p q) (i .node)))
 
-  pub son-fits : {q : ℕ} → q < 4 → y + q / 2 * 2 ^ (l - 1) % 2 ^ 64 < 2 ^ 64
-  son-fits {q} q4 =
-      let i = son-at (h .place) (h .fork) q q4 in
-      omega (arith, son-row q4 refl, top-top n T (h .place .accepted) (son T p q) (i .node))
+  -- a son's column and its row fit, whichever is asked for
+  pub offsets-fit : (q : ℕ) → q < 4 → (y + q % 2 * 2 ^ (l - 1) % 2 ^ 64 < 2 ^ 64) × (y + q / 2 * 2 ^ (l - 1) % 2 ^ 64 < 2 ^ 64)
+  offsets-fit =
+      let few = pow-le-pow-right {n = 2} (omega arith) {i = l - 1} {j = topLevel} (omega (arith, level-top (h .place))) in
+      by-quadrant (λ (q : ℕ). (y + q % 2 * 2 ^ (l - 1) % 2 ^ 64 < 2 ^ 64) × (y + q / 2 * 2 ^ (l - 1) % 2 ^ 64 < 2 ^ 64))
+      (omega (arith, reach-row, few), omega (arith, reach-row, few))
+      (omega (arith, reach-row, few), omega (arith, reach-row, few))
+      (omega (arith, reach-row, few), omega (arith, reach-row, few))
+      (omega (arith, reach-row, few), omega (arith, reach-row, few))
 
   half : 2 ^ l ≡ 2 * 2 ^ (l - 1)
   half = pow-less 2 l (fork-above (h .place) (h .fork))

@@ -4,7 +4,7 @@ use native.Mathlib.Omega.{arith}
 use lib.ListN.{length}
 use Rattle.table.proofs.AcceptedLaws.{level-top, fork-above, son-at}
 use Rattle.table.proofs.SeenLaws.{told-fork, told-leaf}
-use Rattle.ranks.proofs.SonLaws.{Sons, part-none, son-row, son-fits, son-node, son-reach, turn-row, turn-room, turn-leaf, turn-fork, turn-marked, part-end, fewer, one-less}
+use Rattle.ranks.proofs.SonLaws.{Sons, part-none, son-row, offsets-fit, son-node, son-reach, turn-row, turn-room, turn-leaf, turn-fork, turn-marked, part-end, fewer, one-less}
 use Prim.Native.Nat.{ℕ, _-_, _≤_, _<_}
 use borrow.Fn.Kinds.{In}
 use borrow.Fn.PlainCycle.{Measures, is, falls, and}
@@ -70,7 +70,9 @@ stand-fork-shl-top : (t : ℕ) → stand-fork-lts.Need-shl-top (calls t) (stand-
 stand-fork-shl-top t c = omega (arith, level-top (c .before .before .before .before .before .pre .1 .reach .place))
 
 stand-fork-add-top : (t : ℕ) → stand-fork-lts.Need-add-top (calls t) (stand-fork-at t) stand-fork.Post stand-fork-Inv-loop stand-fork-μ-loop
-stand-fork-add-top t c = omega (arith, son-fits (c .before .before .before .before .before .pre .1 .reach) (fewer (c .before .before .loop .inv .0) (c .before .loop-test .taken)))
+stand-fork-add-top t c =
+    let b = offsets-fit (c .before .before .before .before .before .pre .1 .reach) (c .before .before .loop .left - 1) (fewer (c .before .before .loop .inv .0) (c .before .loop-test .taken)) in
+    omega (arith, b .0, b .1)
 
 stand-fork-word-at-requires-2 : (t : ℕ) → stand-fork-lts.Need-word-at-requires-2 (calls t) (stand-fork-at t) stand-fork.Post stand-fork-Inv-loop stand-fork-μ-loop
 stand-fork-word-at-requires-2 t c κs =
