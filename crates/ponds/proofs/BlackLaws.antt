@@ -13,7 +13,8 @@ use Rattle.answer.specs.Numbers.{room}
 use Rattle.quad.specs.Numbers.{black}
 use Rattle.table.specs.Table.{nodes, type}
 use Rattle.table.specs.Rules.{one}
-use Rattle.ponds.specs.Calls.{blackLeaves, mostBlack}
+use Rattle.ponds.specs.Calls.{blackLeaves}
+use Rattle.ponds.specs.Found.{mostBlack}
 
 -- among the first p nodes
 abbrev pub blackTo : List ℕ → ℕ → ℕ

@@ -3,14 +3,14 @@
 use mathlib.Core.Bool.{true, false}
 use mathlib.Core.List.{List}
 use mathlib.Core.Path.{_≡_}
-use Prim.Native.Nat.{ℕ, _-_, _*_, _^_}
+use Prim.Native.Nat.{ℕ, _*_}
 use lib.Dec.{eqb}
 use lib.ListN.{length}
 use Rattle.base.specs.Tab.{sum, overlay}
 use Rattle.answer.specs.declared.Outcome.{Outcome}
 use Rattle.answer.specs.declared.Outcome.the-variants.{Answered}
 use Rattle.answer.specs.Numbers.{andThen, room, answers}
-use Rattle.quad.specs.Numbers.{black, topLevel}
+use Rattle.quad.specs.Numbers.{black}
 use Rattle.table.specs.Table.{nodes, type}
 use Rattle.table.specs.Rules.{one, eachNodeOf}
 use Rattle.register.specs.declared.Pond.{Pond}
@@ -20,10 +20,6 @@ use Rattle.ponds.specs.Numbered.{Numbered}
 -- how many leaves are black: there are never more ponds
 unfoldable pub blackLeaves : List ℕ → ℕ
 blackLeaves T = sum (λ p. one (eqb (type T p) black)) (nodes T)
-
--- the most that a sheet can have: three under each fork that stands just above the pixels
-abbrev pub mostBlack : ℕ
-mostBlack = 3 * 4 ^ (topLevel - 1)
 
 -- the tests: 1, 2 (table first), 3, 4, 5, and 9 where the register is shorter than it need be; `words` is the length of the numbers
 unfoldable pub pondsTest : ℕ → List ℕ → ℕ → ℕ → ℕ → Outcome

@@ -12,8 +12,8 @@ ghost use Rattle.quad.specs.Numbers.{black, topLevel, maxWords};
 ghost use Rattle.table.specs.Table.{nodes, type, isFork};
 ghost use Rattle.table.specs.Rules.{one, Accepted};
 ghost use Rattle.ponds.specs.Numbered.{Numbered};
-ghost use Rattle.ponds.specs.Calls.{blackLeaves, mostBlack, pondsTest, FindsInWords, FindsInEntries};
-ghost use Rattle.ponds.specs.Found.{Found};
+ghost use Rattle.ponds.specs.Calls.{blackLeaves, pondsTest, FindsInWords, FindsInEntries};
+ghost use Rattle.ponds.specs.Found.{mostBlack, Found};
 
 // The most black leaves of a sheet: three under each fork that stands just above the pixels.
 const MOST_BLACK: usize = 3 * (1 << 2 * (quad::TOP_LEVEL - 1));
