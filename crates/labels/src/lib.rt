@@ -372,12 +372,14 @@ fn fork(
 {
     let half = level - 1;
     let side = quad::side(half) as usize;
+    let sons = table::four_sons(table, p);
+    let kinds = table::four_types(table, p);
     let mut quadrant: usize = 0;
     let mut leaders: u32 = 0;
     while quadrant < 4 {
         let q = quadrant;
-        let son = word_at(table, p, 1 + q);
-        let kind = word_at(table, son, 5);
+        let son = sons[q];
+        let kind = kinds[q];
         let sx = x + q % 2 * side;
         let sy = y + q / 2 * side;
         quadrant += 1;

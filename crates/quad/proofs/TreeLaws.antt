@@ -10,7 +10,7 @@ use borrow.Author.Tests.{eq-eqb, ne-eqb, eqb-true}
 use Rattle.base.proofs.BoolLaws.{and-left, and-right}
 use Rattle.base.proofs.CaseLaws.{cond-case}
 use Rattle.quad.specs.Numbers.{topLevel, topColour, forkType, maxWords}
-use Rattle.quad.specs.Tree.{Tree, leaf, fork, colour, sonOf, Within, sameLeaf, alike, likeTypes, Reduced, Coloured, sizeOf, typesOf, join}
+use Rattle.quad.specs.Tree.{Tree, leaf, fork, colour, sonOf, Within, sameLeaf, alike, likeTypes, apartOf, Reduced, Coloured, sizeOf, typesOf, join}
 
 -- the quadrants are four
 pub by-quadrant : (P : ℕ → Type 0) → P 0 → P 1 → P 2 → P 3 → (q : ℕ) → q < 4 → P q
@@ -88,6 +88,29 @@ alike-types (leaf k) b c d h =
     let le : k ≤ topColour = unfold Coloured in h in
     simp (same-type k b le, same-type k c le, same-type k d le, and-cond) (unfold likeTypes colour in rw (ne-eqb k forkType (λ e. omega arith)))
 alike-types (fork _ _ _ _) b c d h = unfold likeTypes colour sameLeaf in refl
+
+-- four types are those of like leaves where none of the others differs from the first, and a fork's does
+pub like-counted : (a b c d x y z w : ℕ) → x ≡ apartOf a b → y ≡ apartOf a c → z ≡ apartOf a d → w ≡ apartOf a forkType → eqb (x + y + z + 1) w ≡ likeTypes a b c d
+unfolding apartOf likeTypes
+like-counted a b c d x y z w ex ey ez ew = rw (ex, ey, ez, ew) (go (eqb a b) (eqb a c) (eqb a d) (eqb a forkType))
+  where
+    go : (i j k f : Bool) → eqb (cond i 0 1 + cond j 0 1 + cond k 0 1 + 1) (cond f 0 1) ≡ cond f false (cond i (cond j k false) false)
+    go true true true true = refl
+    go true true true false = refl
+    go true true false true = refl
+    go true true false false = refl
+    go true false true true = refl
+    go true false true false = refl
+    go true false false true = refl
+    go true false false false = refl
+    go false true true true = refl
+    go false true true false = refl
+    go false true false true = refl
+    go false true false false = refl
+    go false false true true = refl
+    go false false true false = refl
+    go false false false true = refl
+    go false false false false = refl
 
 -- two like leaves are leaves of one colour
 pub same-leaf : (s t : Tree) → sameLeaf s t ≡ true → (s ≡ leaf (colour s)) × (t ≡ leaf (colour s))

@@ -3,7 +3,7 @@ ghost use mathlib.Core.Path.{_≡_};
 ghost use Prim.Native.Nat.{_<_, _≤_, _^_};
 ghost use Rattle.quad.specs.Numbers.{topLevel};
 ghost use Rattle.quad.specs.Direction.{adjOf, reflectOf, opquadOf, commonSideOf};
-ghost use Rattle.quad.specs.Tree.{likeTypes};
+ghost use Rattle.quad.specs.Tree.{apartOf, likeTypes};
 
 // The highest level of a sheet, and the most words of a table.
 pub const TOP_LEVEL: u32 = 7;
@@ -43,20 +43,22 @@ pub fn side(level: u32) -> u32
     1 << level
 }
 
-// Whether four types are those of four like leaves, over which a fork is needless.
+// 1 for two types that differ, else 0.
+fn apart(a: usize, b: usize) -> usize
+    ensures { λ r. ⌜ (r ≡ apartOf a b) × (r ≤ 1) ⌝ }
+{
+    if a == b {
+        return 0;
+    }
+    1
+}
+
+// Whether four types are those of four like leaves, over which a fork is needless: none of the others differs from the first, and a fork's type does. They are
+// counted, not tested in turn, as no map tells beforehand which son differs.
 pub fn like_leaves(nw: usize, ne: usize, sw: usize, se: usize) -> bool
     ensures { λ r. ⌜ r ≡ likeTypes nw ne sw se ⌝ }
 {
-    if nw == FORK {
-        return false;
-    }
-    if nw != ne {
-        return false;
-    }
-    if nw != sw {
-        return false;
-    }
-    nw == se
+    apart(nw, ne) + apart(nw, sw) + apart(nw, se) + 1 == apart(nw, FORK)
 }
 
 // A byte as a number that counts or places something.

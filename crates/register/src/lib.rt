@@ -256,12 +256,15 @@ fn pass_fork(
     requires { ⌜ Entering (now table) (now numbers) p (blockAt column row level) (now reg) × (isFork (now table) p ≡ true) ⌝ }
     ensures { λ _. ⌜ Entered (now (table .entry)) (now (numbers .entry)) p (blockAt column row level) (now (reg .entry)) (now (reg .exit)) ⌝ }
 {
+    let sons = table::four_sons(table, p);
+    let kinds = table::four_types(table, p);
     let mut q = 0;
     while q < 4 {
-        let son = word_at(table, p, 1 + q);
+        let son = sons[q];
+        let kind = kinds[q];
         let its = part(column, row, level, q);
         q += 1;
-        if word_at(table, son, 5) == quad::FORK {
+        if kind == quad::FORK {
             if its.level == 1 {
                 pass_pixels(table, numbers, reg, son, its.column, its.row);
             } else {

@@ -13,6 +13,7 @@ pub mod SoundExactly
 pub mod PreorderLaws
 pub mod PreorderAccepted
 pub mod SonTypeLaws
+pub mod SonsLaws
 pub mod BlockLaws
 pub mod HolderLaws
 pub mod BlockPixels

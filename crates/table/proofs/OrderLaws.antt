@@ -12,7 +12,7 @@ use lib.Dec.{ltb, eqb}
 use lib.ListN.{getD}
 use borrow.Author.Tests.{eq-eqb, ne-eqb, eqb-true, eqb-false, ltb-false, le-ltb}
 use Rattle.base.specs.Tab.{sum}
-use Rattle.base.proofs.BoolLaws.{by-bool, on}
+use Rattle.base.proofs.BoolLaws.{by-bool, on, off}
 use Rattle.base.proofs.CaseLaws.{past, through}
 use Rattle.quad.specs.Tree.{likeTypes}
 use Rattle.quad.proofs.TreeLaws.{by-quadrant}
@@ -161,6 +161,10 @@ module _ (T : List ℕ) (l p q s count w : ℕ) (h : Passing T l p q s) (q4 : q 
   pub again-fork : (f r : ℕ) → f ≡ father T s → f ≡ p → Ordered T (l - 1) s r → (r ≡ 0 → ⊥) → r + 4 ≤ count + (q + 1) → Passing T l p (q + 1) r
   again-fork f r e d o z le = passing-fork T l p q s h q4 son-is (sym e ∙ d) r o z (omega (arith, c .all))
 
+  pub again-pixels : (f r : ℕ) → f ≡ father T s → f ≡ p → l ≡ 2 → (u : Bool) → (u ≡ true → Ordered T 1 s (s + 5)) → not u ≡ false → r ≡ s + 5
+      → r + 4 ≤ count + (q + 1) → Passing T l p (q + 1) r
+  again-pixels f r e d two u o t er le = again-fork f r e d (rw (er, two) (o (on u u refl t))) (λ z. omega arith) le
+
   pub again-leaf : (u : Bool) → u ≡ leafFrom T (6 * s) p → not u ≡ false → Passing T l p (q + 1) (s + 1)
   again-leaf u e t =
       let x = leaf-told T s p (on u _ e t) in
@@ -221,7 +225,7 @@ needless-words T p next a b c d r e ea eb ec ed f = f ∙ rw (eq-eqb next (p + 5
 pub pixels-passed : (T : List ℕ) (p count : ℕ) → Counted T count p → p + 5 ≤ count
     → (u v w x y z b : Bool) → u ≡ twoAre T (6 * p + 1) (p + 1) (p + 2) → not u ≡ false → v ≡ twoAre T (6 * p + 3) (p + 3) (p + 4) → not v ≡ false
     → w ≡ leafFrom T (6 * p + 6) p → not w ≡ false → x ≡ leafFrom T (6 * p + 12) p → not x ≡ false → y ≡ leafFrom T (6 * p + 18) p → not y ≡ false
-    → z ≡ leafFrom T (6 * p + 24) p → not z ≡ false → b ≡ likeLeaves T (p + 1) (p + 2) (p + 3) (p + 4) → b ≡ false → Ordered T 1 p (p + 5)
+    → z ≡ leafFrom T (6 * p + 24) p → not z ≡ false → b ≡ likeLeaves T (p + 1) (p + 2) (p + 3) (p + 4) → not b ≡ true → Ordered T 1 p (p + 5)
 pixels-passed T p count c room u v w x y z b eu hu ev hv ew hw ex hx ey hy ez hz eb hb =
     let m = two-told T (6 * p + 1) _ _ (on u _ eu hu) in
     let k = two-told T (6 * p + 3) _ _ (on v _ ev hv) in
@@ -241,7 +245,7 @@ pixels-passed T p count c room u v w x y z b eu hu ev hv ew hw ex hx ey hy ez hz
     let p2 = passing-leaf T 1 p 1 (p + 2) p1 (omega arith) n2 (b′ .2) (p + 3) (omega arith) (b′ .0) (b′ .1) in
     let p3 = passing-leaf T 1 p 2 (p + 3) p2 (omega arith) n3 (c′ .2) (p + 4) (omega arith) (c′ .0) (c′ .1) in
     let p4 = passing-leaf T 1 p 3 (p + 4) p3 (omega arith) n4 (d .2) (p + 5) (omega arith) (d .0) (d .1) in
-    passed T 1 p (p + 5) p4 (omega arith) (c .fork) (rw (n1, n2, n3, n4) (sym eb ∙ hb))
+    passed T 1 p (p + 5) p4 (omega arith) (c .fork) (rw (n1, n2, n3, n4) (off b _ eb hb))
 
 -- a root from which as many nodes are passed as there are
 pub order-whole : (T : List ℕ) (n count r : ℕ) → count ≡ nodes T → 0 < nodes T → Ordered T n 0 r → r ≡ count → true ≡ eqb (nodes T) (seenOf T n 0)

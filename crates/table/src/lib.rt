@@ -8,10 +8,10 @@ ghost use lib.Dec.{eqb};
 ghost use lib.ListN.{length};
 ghost use lib.Seq.{sets};
 ghost use Rattle.quad.specs.Numbers.{maxWords};
-ghost use Rattle.table.specs.Table.{word, nodes, father, son};
+ghost use Rattle.table.specs.Table.{word, nodes, father, son, type};
 ghost use Rattle.table.specs.Rules.{depthTo, allOf, one, typeOk, fatherOk, onceOk, sonOk, wordOk, sonsOk, depthOk, sonAlike, mixedOk, faultAt, faulty, faultsOf, lengthOk, sizesOf, checkOf, eachNodeOf, askedOf, Sized};
 ghost use Rattle.table.specs.Nodes.{sonType};
-ghost use Rattle.table.specs.Links.{Rising, SonsIn};
+ghost use Rattle.table.specs.Links.{Rising, SonsIn, fourSons, fourTypes};
 
 pub mod block;
 mod order;
@@ -30,6 +30,40 @@ pub fn word_at(table: &[u32], p: usize, j: usize) -> usize
     ensures { λ r. ⌜ r ≡ word (now (table .entry)) p j ⌝ }
 {
     table[6 * p + j] as usize
+}
+
+// The four sons of a fork, NW, NE, SW, SE.
+pub fn four_sons(table: &[u32], p: usize) -> [usize; 4]
+    requires { ⌜ p < nodes (now table) ⌝ }
+    ensures { λ r. ⌜ r ≡ fourSons (now (table .entry)) p ⌝ }
+{
+    [
+        word_at(table, p, 1),
+        word_at(table, p, 2),
+        word_at(table, p, 3),
+        word_at(table, p, 4),
+    ]
+}
+
+// The type of son q of a fork.
+fn type_of_son(table: &[u32], p: usize, q: usize) -> usize
+    requires { ⌜ (p < nodes (now table)) × (q < 4) × (son (now table) p q < nodes (now table)) ⌝ }
+    ensures { λ r. ⌜ r ≡ type (now (table .entry)) (son (now (table .entry)) p q) ⌝ }
+{
+    word_at(table, word_at(table, p, 1 + q), 5)
+}
+
+// The types of a fork's four sons, all of them read before one is asked for.
+pub fn four_types(table: &[u32], p: usize) -> [usize; 4]
+    requires { ⌜ (p < nodes (now table)) × SonsIn (now table) p ⌝ }
+    ensures { λ r. ⌜ r ≡ fourTypes (now (table .entry)) p ⌝ }
+{
+    [
+        type_of_son(table, p, 0),
+        type_of_son(table, p, 1),
+        type_of_son(table, p, 2),
+        type_of_son(table, p, 3),
+    ]
 }
 
 // The number of father links from p to the root, or n where there are more.

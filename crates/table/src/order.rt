@@ -1,7 +1,8 @@
 // Accepting a sound table that stands in preorder, as building and reading write it: a fork's NW son is the next node, and each other son the one after all that is
-// below its brother, so each node's number is known before it is read. A table in another order is left to `seen`.
+// below its brother, so each node's number is known before it is read. A table in another order, or of level 1, is left to `seen`.
 use crate::word_at;
 ghost use mathlib.Core.Path.{_≡_};
+ghost use mathlib.Core.Bool.{true};
 ghost use Prim.Native.Nat.{_+_, _*_, _<_, _≤_};
 ghost use lib.ListN.{length};
 ghost use Rattle.table.specs.Order.{twoAre, leafFrom, Counted, Named, needlessFork, Ordered};
@@ -40,53 +41,35 @@ fn is_leaf_of(table: &[u32], i: usize, father: u32) -> bool
     table[i + 4] == none
 }
 
-// The node after a fork of four pixels that stand in order, or 0.
-fn pixels(table: &[u32], count: u32, p: u32) -> u32
+// Whether a fork's sons are four pixels that stand in order, the five nodes from p on.
+fn pixels(table: &[u32], count: u32, p: u32) -> bool
     requires { ⌜ Counted (now table) count p ⌝ }
-    ensures { λ r. ⌜ Ordered (now (table .entry)) 1 p r ⌝ }
+    ensures { λ r. ⌜ (r ≡ true → Ordered (now (table .entry)) 1 p (p + 5)) ⌝ }
 {
-    let next = p + 5;
-    if count < next {
-        return 0;
+    if count < p + 5 {
+        return false;
     }
     let fork = p as usize;
     let i = 6 * fork;
     if !two_are(table, i + 1, p + 1, p + 2) {
-        return 0;
+        return false;
     }
     if !two_are(table, i + 3, p + 3, p + 4) {
-        return 0;
+        return false;
     }
     if !is_leaf_of(table, i + 6, p) {
-        return 0;
+        return false;
     }
     if !is_leaf_of(table, i + 12, p) {
-        return 0;
+        return false;
     }
     if !is_leaf_of(table, i + 18, p) {
-        return 0;
+        return false;
     }
     if !is_leaf_of(table, i + 24, p) {
-        return 0;
+        return false;
     }
-    if crate::seen::are_like(table, fork + 1, fork + 2, fork + 3, fork + 4) {
-        return 0;
-    }
-    next
-}
-
-// The node after all that is below fork p, where it stands in order and as the rules want it; else 0.
-pub fn in_order(table: &[u32], count: u32, level: u32, p: u32) -> u32
-    requires { ⌜ Counted (now table) count p ⌝ }
-    ensures { λ r. ⌜ Ordered (now (table .entry)) level p r ⌝ }
-{
-    if level == 0 {
-        return 0;
-    }
-    if level == 1 {
-        return pixels(table, count, p);
-    }
-    sons(table, count, level, p)
+    !crate::seen::are_like(table, fork + 1, fork + 2, fork + 3, fork + 4)
 }
 
 // Whether the sons of fork p are four like leaves, given the node after all that is below it: where that is not the fifth, one of them is a fork.
@@ -107,9 +90,10 @@ fn needless(table: &[u32], p: u32, next: u32) -> bool
     )
 }
 
-// The same for a fork above level 1, son by son, where there is room for those that are still to come. A son that is a leaf is passed here, without a call.
-fn sons(table: &[u32], count: u32, level: u32, p: u32) -> u32
-    requires { ⌜ Counted (now table) count p × (0 < level) ⌝ }
+// The node after all that is below fork p, which is above level 1, where it stands in order and as the rules want it, and there is room for those that are still to
+// come; else 0. A son that is a leaf, or a fork of four pixels, is passed here, without a call.
+pub fn in_order(table: &[u32], count: u32, level: u32, p: u32) -> u32
+    requires { ⌜ Counted (now table) count p × (2 ≤ level) ⌝ }
     ensures { λ r. ⌜ Ordered (now (table .entry)) level p r ⌝ }
 {
     if count < p + 5 {
@@ -128,9 +112,16 @@ fn sons(table: &[u32], count: u32, level: u32, p: u32) -> u32
             if word_at(table, son, 0) != fork {
                 return 0;
             }
-            next = in_order(table, count, level - 1, next);
-            if next == 0 {
-                return 0;
+            if level == 2 {
+                if !pixels(table, count, next) {
+                    return 0;
+                }
+                next += 5;
+            } else {
+                next = in_order(&*table, count, level - 1, next);
+                if next == 0 {
+                    return 0;
+                }
             }
             if count + (q as u32) < next + 4 {
                 return 0;

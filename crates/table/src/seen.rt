@@ -191,8 +191,10 @@ fn all_seen(n: u32, table: &[u32], count: usize) -> bool
     ensures { λ r. ⌜ r ≡ eqb (nodes (now (table .entry))) (seenOf (now (table .entry)) n 0) ⌝ }
 {
     let all = count as u32;
-    if crate::order::in_order(table, all, n, 0) == all {
-        return true;
+    if 2 <= n {
+        if crate::order::in_order(table, all, n, 0) == all {
+            return true;
+        }
     }
     count == seen(table, count, n, 0)
 }
