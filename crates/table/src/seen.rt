@@ -192,11 +192,13 @@ fn all_seen(n: u32, table: &[u32], count: usize) -> bool
 {
     let all = count as u32;
     if 2 <= n {
-        if crate::order::in_order(table, all, n, 0) == all {
-            return true;
+        if word_at(table, 0, 1) == 1 {
+            if crate::order::in_order(&*table, all, n, 0) == all {
+                return true;
+            }
         }
     }
-    count == seen(table, count, n, 0)
+    count == seen(&*table, count, n, 0)
 }
 
 // Whether the table is sound: the root has no father, and all nodes are seen from it.

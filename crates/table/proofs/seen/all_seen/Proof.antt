@@ -7,6 +7,9 @@ use Rattle.table.proofs.seen.all_seen.Tie as tie
 cast-all : tie.Need-cast-all
 cast-all c = search needs
 
+word-at-requires : tie.Need-word-at-requires
+word-at-requires c κs = search needs
+
 in-order-requires : tie.Need-in-order-requires
 in-order-requires c κs = search needs
 
@@ -20,4 +23,6 @@ returns-2 : tie.Need-returns-2
 returns-2 c = search (seen-whole, needs)
 
 pub all-seen-spec : {M : Type 1} → statement M
-all-seen-spec = tie.close (tie.spec cast-all in-order-requires returns seen-requires returns-2)
+all-seen-spec =
+    tie.close
+    (tie.spec cast-all word-at-requires in-order-requires returns seen-requires returns-2)
