@@ -12,7 +12,6 @@ pub mod SoundLaws
 pub mod SoundExactly
 pub mod PreorderLaws
 pub mod PreorderAccepted
-pub mod SonTypeLaws
 pub mod SonsLaws
 pub mod BlockLaws
 pub mod HolderLaws

@@ -1,5 +1,6 @@
--- `table::son_type` compares the father's sons in their order. Assumes nothing.
-use Rattle.table.proofs.SonTypeLaws.{type-nw, type-ne, type-sw, type-se}
+-- `table::son_type`: of the father's first three sons the first that p is, or the last. Assumes nothing.
+use mathlib.Core.Path.{refl}
+use Rattle.table.specs.Nodes.{firstQuadrant, sonType}
 use borrow.Author.Needs.{needs}
 use Rattle.table.proofs.son_type.Statement.{statement}
 use Rattle.table.proofs.son_type.Tie as tie
@@ -10,23 +11,24 @@ word-at-requires c κs = search needs
 word-at-requires-2 : tie.Need-word-at-requires-2
 word-at-requires-2 c κs = search needs
 
-returns : tie.Need-returns
-returns c = search (type-nw, needs)
-
 word-at-requires-3 : tie.Need-word-at-requires-3
 word-at-requires-3 c κs = search needs
-
-returns-2 : tie.Need-returns-2
-returns-2 c = search (type-ne, needs)
 
 word-at-requires-4 : tie.Need-word-at-requires-4
 word-at-requires-4 c κs = search needs
 
-returns-3 : tie.Need-returns-3
-returns-3 c = search (type-sw, needs)
+pick-requires : tie.Need-pick-requires
+pick-requires c κs = search needs
 
-returns-4 : tie.Need-returns-4
-returns-4 c = search (type-se, needs)
+pick-requires-2 : tie.Need-pick-requires-2
+pick-requires-2 c κs = search needs
+
+pick-requires-3 : tie.Need-pick-requires-3
+pick-requires-3 c κs = search needs
+
+returns : tie.Need-returns
+unfolding sonType firstQuadrant
+returns c = rw (c .pick3 .ensures, c .before .pick2 .ensures, c .before .before .pick .ensures, c .before .before .before .before .before .word-at2 .ensures, c .before .before .before .before .word-at3 .ensures, c .before .before .before .word-at4 .ensures, c .before .before .before .before .before .before .word-at .ensures) refl
 
 pub son-type-spec : {M : Type 1} → statement M
 son-type-spec =
@@ -34,9 +36,9 @@ son-type-spec =
     (tie.spec
     word-at-requires
     word-at-requires-2
-    returns
     word-at-requires-3
-    returns-2
     word-at-requires-4
-    returns-3
-    returns-4)
+    pick-requires
+    pick-requires-2
+    pick-requires-3
+    returns)
