@@ -320,78 +320,84 @@ module _ {T W L : List ℕ} {m x y l : ℕ} (z : Coming T W L m x y l) (f : isFo
           (λ before. g .further .linked i (a .placed k before i w b) (a .none (both .0) k before i w b));
     }
 
-  -- all four, and the fork's own word
-  module _ (W' L' : List ℕ) (r v : ℕ) (a : First n T W lead L x y h half 4 W' L' r) (ev : v ≡ markOf r) where
-    pub fork-within : m < length W'
-    fork-within = omega (arith, z .at .node, a .further .sets .each)
-
-    c : Changed W' m v (set W' m v)
-    c = changed W' m v fork-within
-
-    not-water : (i : ℕ) → Water T i → i ≡ m → ⊥
-    not-water i w e = omega (arith, w .wet, ap (type T) e, eqb-true (type T m) forkType f)
-
+  -- all four
+  module _ (W' L' : List ℕ) (r : ℕ) (a : First n T W lead L x y h half 4 W' L' r) where
     -- where nothing in it leads
     bare : r ≡ 0 → (i : ℕ) → Water T i → Begins n T i x y l → Placed T W' i × (wordOf W' i < leading)
     bare o i w b =
         let k = some-quadrant n T i x y h half is l two b in
         (a .placed (k .0) (k .1) i w (k .2), a .none o (k .0) (k .1) i w (k .2))
 
-    same-word : (i : ℕ) → Water T i → wordOf (set W' m v) i ≡ wordOf W' i
-    same-word i w = c .rest i (not-water i w)
+    -- the words then, those of the black leaves as they are
+    module _ (W″ : List ℕ) (same-word : (i : ℕ) → Water T i → wordOf W″ i ≡ wordOf W' i) where
+      forth : (i : ℕ) → Placed T W' i → Placed T W″ i
+      forth i p = record { water = p .water; some = λ e. p .some (sym (same-word i (p .water)) ∙ e) }
 
-    forth : (i : ℕ) → Placed T W' i → Placed T (set W' m v) i
-    forth i p = record { water = p .water; some = λ e. p .some (sym (same-word i (p .water)) ∙ e) }
+      back : (i : ℕ) → Placed T W″ i → Placed T W' i
+      back i p = record { water = p .water; some = λ e. p .some (same-word i (p .water) ∙ e) }
 
-    back : (i : ℕ) → Placed T (set W' m v) i → Placed T W' i
-    back i p = record { water = p .water; some = λ e. p .some (same-word i (p .water) ∙ e) }
+      all-gone : Further n T W' (a .lead') W″ (a .lead') → Gone n T W lead L x y l W″ L' r
+      unfolding western eastern northern southern
+      all-gone last = record {
+        lead' = a .lead';
+        further = further-on (a .further) last;
+        met = λ i p. met-still last (back i p) (a .met i (back i p));
+        lines = record {
+          long = a .long;
+          north = λ u b d.
+              line-moved (y + 2 ^ l) u (y + 2 ^ l - 1) (omega (arith, two)) refl (omega (arith, two))
+              (line-still last
+              (⊎-elim
+              (λ (k : u < x + h). a .halves .west-half u b k)
+              (λ (k : x + h ≤ u). a .halves .east-half u k (omega (arith, d, two)))
+              (lt-or-ge u (x + h))));
+          west = λ u b d.
+              line-moved (x + 2 ^ l) (x + 2 ^ l - 1) u (omega (arith, two)) (omega (arith, two)) refl
+              (line-still last
+              (⊎-elim
+              (λ (k : u < y + h). a .halves .north-half u b k)
+              (λ (k : y + h ≤ u). a .halves .south-half u k (omega (arith, d, two)))
+              (lt-or-ge u (y + h))));
+          rest = λ i b d. a .rest i (λ p o. b p (omega (arith, o, two))) (λ p o. d p (omega (arith, o, two)));
+        };
+        placed = λ i w b. let k = some-quadrant n T i x y h half is l two b in forth i (a .placed (k .0) (k .1) i w (k .2));
+        others = λ i w nb o. same-word i w ∙ a .others l i two w nb o;
+        none = λ o i w b. rw (same-word i w) (bare o i w b .1);
+      }
 
-    mark : Dark n T W' (set W' m v) m
-    unfolding markOf
-    mark =
-        same-or-not r 0
-        (λ o.
-        let e : v ≡ leading = rw (eq-eqb r 0 o) at ev in
-        marked f (c .here ∙ e)
-        (λ i w b.
-        let g : Begins n T i x y l = rw (z .left, z .top, ← level-is (z .at)) at b in
-        let k = bare o i w g in
-        (forth i (k .0), rw (same-word i w) (k .1))))
-        (λ o. let e : v ≡ 0 = rw (ne-eqb r 0 o) at ev in none (c .here ∙ e))
+    -- the fork's own word stays
+    pub still-gone : Gone n T W lead L x y l W' L' r
+    still-gone = all-gone W' (λ i w. refl) (further-none (a .further .sets))
 
-    last : Further n T W' (a .lead') (set W' m v) (a .lead')
-    last =
-        further-same (a .further .sets) (c .long) same-word
-        (λ i d. same-or-not i m (λ e. rw e mark) (λ ne. as-before (c .rest i ne)))
+    -- it is marked where nothing in it leads
+    module _ (v : ℕ) (ev : v ≡ markOf r) where
+      c : Changed W' m v (set W' m v)
+      c = changed W' m v (omega (arith, z .at .node, a .further .sets .each))
 
-    pub fork-gone : Gone n T W lead L x y l (set W' m v) L' r
-    unfolding western eastern northern southern
-    fork-gone = record {
-      lead' = a .lead';
-      further = further-on (a .further) last;
-      met = λ i p. met-still last (back i p) (a .met i (back i p));
-      lines = record {
-        long = a .long;
-        north = λ u b d.
-            line-moved (y + 2 ^ l) u (y + 2 ^ l - 1) (omega (arith, two)) refl (omega (arith, two))
-            (line-still last
-            (⊎-elim
-            (λ (k : u < x + h). a .halves .west-half u b k)
-            (λ (k : x + h ≤ u). a .halves .east-half u k (omega (arith, d, two)))
-            (lt-or-ge u (x + h))));
-        west = λ u b d.
-            line-moved (x + 2 ^ l) (x + 2 ^ l - 1) u (omega (arith, two)) (omega (arith, two)) refl
-            (line-still last
-            (⊎-elim
-            (λ (k : u < y + h). a .halves .north-half u b k)
-            (λ (k : y + h ≤ u). a .halves .south-half u k (omega (arith, d, two)))
-            (lt-or-ge u (y + h))));
-        rest = λ i b d. a .rest i (λ p o. b p (omega (arith, o, two))) (λ p o. d p (omega (arith, o, two)));
-      };
-      placed = λ i w b. let k = some-quadrant n T i x y h half is l two b in forth i (a .placed (k .0) (k .1) i w (k .2));
-      others = λ i w nb o. same-word i w ∙ a .others l i two w nb o;
-      none = λ o i w b. rw (same-word i w) (bare o i w b .1);
-    }
+      not-water : (i : ℕ) → Water T i → i ≡ m → ⊥
+      not-water i w e = omega (arith, w .wet, ap (type T) e, eqb-true (type T m) forkType f)
+
+      same : (i : ℕ) → Water T i → wordOf (set W' m v) i ≡ wordOf W' i
+      same i w = c .rest i (not-water i w)
+
+      mark : Dark n T W' (set W' m v) m
+      unfolding markOf
+      mark =
+          same-or-not r 0
+          (λ o.
+          let e : v ≡ leading = rw (eq-eqb r 0 o) at ev in
+          marked f (c .here ∙ e)
+          (λ i w b.
+          let g : Begins n T i x y l = rw (z .left, z .top, ← level-is (z .at)) at b in
+          let k = bare o i w g in
+          (forth (set W' m v) same i (k .0), rw (same i w) (k .1))))
+          (λ o. let e : v ≡ 0 = rw (ne-eqb r 0 o) at ev in none (c .here ∙ e))
+
+      pub fork-gone : Gone n T W lead L x y l (set W' m v) L' r
+      fork-gone =
+          all-gone (set W' m v) same
+          (further-same (a .further .sets) (c .long) same
+          (λ i d. same-or-not i m (λ e. rw e mark) (λ ne. as-before (c .rest i ne))))
 
 -- in the code's own values
 abbrev pub Firsts : List ℕ → List ℕ → List ℕ → ℕ → ℕ → ℕ → ℕ → ℕ → ℕ → ℕ → List ℕ → List ℕ → ℕ → Type 0
@@ -426,7 +432,10 @@ module _ (T W L : List ℕ) (p x y l : ℕ) (f : isFork T p ≡ true) (h half : 
           (λ k. g (record { T = T; l = half; coming = k; leaf = ne-eqb (type T c) forkType (λ e. nf (ek ∙ e)); is = ek; power = power }))
 
   pub firsts-all : (W' L' : List ℕ) (r v : ℕ) → Those 4 W' L' r → v ≡ markOf r → Goes T W L p x y l (set W' p v) L' r
-  firsts-all W' L' r v a ev z = fork-gone z f h half is down W' L' r v (a z) ev
+  firsts-all W' L' r v a ev z = fork-gone z f h half is down W' L' r (a z) v ev
+
+  pub firsts-still : (W' L' : List ℕ) (r : ℕ) → Those 4 W' L' r → Goes T W L p x y l W' L' r
+  firsts-still W' L' r a z = still-gone z f h half is down W' L' r (a z)
 
   pub all-within : (W' L' : List ℕ) (r : ℕ) → Those 4 W' L' r → Coming T W L p x y l → p < length W'
   all-within W' L' r a z = omega (arith, z .at .node, a z .further .sets .each)

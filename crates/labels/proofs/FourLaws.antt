@@ -12,11 +12,11 @@ use Rattle.table.specs.Table.{son, type, isFork}
 use Rattle.table.proofs.AcceptedLaws.{fork-above, son-at}
 use Rattle.chains.proofs.NodeLaws.{same-or-not}
 use Rattle.labels.specs.Lines.{across}
-use Rattle.labels.specs.Touch.{orOf, sameOf, markOf, Touching, Touches}
+use Rattle.labels.specs.Touch.{orOf, sameOf, Touching, Touches}
 use Rattle.labels.specs.Walk.{Filled, Coming, Goes, ToLeaf, PastLeaf}
 use Rattle.labels.proofs.TouchLaws.{or-none}
 use Rattle.labels.proofs.LeafLaws.{leaf-touching, leaf-touched, pixel-past, filled-one}
-use Rattle.labels.proofs.ForkLaws.{room, Firsts, firsts-none, first-other, son-leaf, firsts-leaf, firsts-all, all-within}
+use Rattle.labels.proofs.ForkLaws.{room, Firsts, firsts-none, first-other, son-leaf, firsts-leaf, firsts-still}
 
 -- a fork of four pixels
 module _ (T W L : List ℕ) (p x y : ℕ) (f : isFork T p ≡ true) (c₀ c₁ c₂ c₃ : ℕ) (e₀ : c₀ ≡ son T p 0) (e₁ : c₁ ≡ son T p 1) (e₂ : c₂ ≡ son T p 2) (e₃ : c₃ ≡ son T p 3) where
@@ -76,18 +76,14 @@ module _ (T W L : List ℕ) (p x y : ℕ) (f : isFork T p ≡ true) (c₀ c₁ c
                 firsts-leaf T W L p x y 1 f 1 0 refl refl 3 (omega arith) W₃ L₃ (orOf (orOf (orOf 0 a) b) c) four-three c₃ (x + 1) (y + 1) e₃ (omega arith) (omega arith)
                 k₃ 1 t₃ (pixel-leaf z 3 (omega arith) c₃ k₃ e₃ t₃) refl W₄ L₄ d g₃
 
-            pub four-within : p < length W₄
-            four-within = all-within T W L p x y 1 f 1 0 refl refl W₄ L₄ _ four-all z
-
-            pub four-gone : (r v : ℕ) → r ≡ a + b + c + d → v ≡ markOf r → Goes T W L p x y 1 (set W₄ p v) L₄ r
-            four-gone r v er ev =
-                firsts-all T W L p x y 1 f 1 0 refl refl W₄ L₄ r v
+            pub four-gone : (r : ℕ) → r ≡ a + b + c + d → Goes T W L p x y 1 W₄ L₄ r
+            four-gone r er =
+                firsts-still T W L p x y 1 f 1 0 refl refl W₄ L₄ r
                 (λ k.
                 first-other r
                 (λ o.
                 or-none _ d (or-none _ c (or-none _ b (or-none 0 a refl ∙ omega (arith, er, o)) ∙ omega (arith, er, o)) ∙ omega (arith, er, o)) ∙ omega (arith, er, o))
                 (four-all k))
-                ev
 
 -- a pixel that has its label, the lines telling of it
 abbrev after : List ℕ → ℕ → ℕ → ℕ → List ℕ
@@ -269,13 +265,8 @@ module _ (T W L : List ℕ) (p x y : ℕ) (f : isFork T p ≡ true) (c₀ c₁ c
               pixel-past W₄ d (written L x y b c d) (sameOf d c₃) F₄ refl k
               (leaf-touched k b c (place + across + 1) north₃ west₃ (omega (arith, ep)) W₄ d h₃)
 
-          pub pixels-within : p < length W₄
-          pixels-within =
-              four-within T W L p x y f c₀ c₁ c₂ c₃ e₀ e₁ e₂ e₃ z k₀ k₁ k₂ k₃ t₀ t₁ t₂ t₃ W₁ L₁ (sameOf a c₀) g₀ W₂ L₂ (sameOf b c₁) g₁ W₃ L₃ (sameOf c c₂) g₂ W₄
-              (written L x y b c d) (sameOf d c₃) g₃
-
-          pub pixels-gone : (s₀ s₁ s₂ s₃ r v : ℕ) → s₀ ≡ sameOf a c₀ → s₁ ≡ sameOf b c₁ → s₂ ≡ sameOf c c₂ → s₃ ≡ sameOf d c₃ → r ≡ s₀ + s₁ + s₂ + s₃ → v ≡ markOf r
-              → Goes T W L p x y 1 (set W₄ p v) (written L x y b c d) r
-          pixels-gone s₀ s₁ s₂ s₃ r v q₀ q₁ q₂ q₃ er ev =
+          pub pixels-gone : (s₀ s₁ s₂ s₃ r : ℕ) → s₀ ≡ sameOf a c₀ → s₁ ≡ sameOf b c₁ → s₂ ≡ sameOf c c₂ → s₃ ≡ sameOf d c₃ → r ≡ s₀ + s₁ + s₂ + s₃
+              → Goes T W L p x y 1 W₄ (written L x y b c d) r
+          pixels-gone s₀ s₁ s₂ s₃ r q₀ q₁ q₂ q₃ er =
               four-gone T W L p x y f c₀ c₁ c₂ c₃ e₀ e₁ e₂ e₃ z k₀ k₁ k₂ k₃ t₀ t₁ t₂ t₃ W₁ L₁ (sameOf a c₀) g₀ W₂ L₂ (sameOf b c₁) g₁ W₃ L₃ (sameOf c c₂) g₂ W₄
-              (written L x y b c d) (sameOf d c₃) g₃ r v (rw (q₀, q₁, q₂, q₃) at er) ev
+              (written L x y b c d) (sameOf d c₃) g₃ r (rw (q₀, q₁, q₂, q₃) at er)

@@ -300,7 +300,7 @@ fn two(words: &mut [u32], lines: &mut [u32; 256], kind: usize, p: usize, x: usiz
     same(label, p)
 }
 
-// A fork's word: its mark where nothing under it leads a set of its own, else 0.
+// The word of a fork above level 1: its mark where nothing under it leads a set of its own, else 0.
 fn mark(leaders: u32) -> u32
     ensures { λ r. ⌜ r ≡ markOf leaders ⌝ }
 {
@@ -351,9 +351,7 @@ fn pixels(
     lines[x + 1] = d;
     lines[ACROSS + y] = b;
     lines[ACROSS + y + 1] = d;
-    let leaders = same(a, nw) + same(b, ne) + same(c, sw) + same(d, se);
-    words[p] = mark(leaders);
-    leaders
+    same(a, nw) + same(b, ne) + same(c, sw) + same(d, se)
 }
 
 // Goes through what is under a fork, of which (x, y) is the top left pixel: NW, NE, SW, SE, so that what lies north and west of each has been gone through
@@ -412,8 +410,8 @@ fn clear(words: &mut [u32])
     }
 }
 
-// Labels the black leaves of a sheet whose root is a fork: a leader's word is its place, any other's leads to an earlier leaf of its set, and a fork is marked
-// where no leader lies under it.
+// Labels the black leaves of a sheet whose root is a fork: a leader's word is its place, any other's leads to an earlier leaf of its set, and a fork above level 1
+// is marked where no leader lies under it.
 pub fn lead(n: u32, table: &[u32], words: &mut [u32])
     requires { ⌜ Accepted n (now table) × (length (now words) ≡ nodes (now table)) × (isFork (now table) 0 ≡ true) ⌝ }
     ensures { λ _. ⌜ Labelled n (now (table .entry)) (now (words .exit)) ⌝ }

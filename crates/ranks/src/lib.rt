@@ -57,7 +57,8 @@ fn stand_pixels(table: &[u32], words: &mut [u32], rows: &mut [u32; ROWS], p: usi
     rows[y] = stand(words, word_at(table, p, 1), ne);
 }
 
-// The leaves under fork p, whose block begins in row y, the last first. A son that is marked has no leader under it.
+// The leaves under fork p, whose block begins in row y, the last first. A son that is marked has no leader under it; of four pixels that is not asked, as going
+// through them is less than a wrong guess.
 fn stand_fork(
     table: &[u32],
     words: &mut [u32],
@@ -77,10 +78,10 @@ fn stand_fork(
         let top = y + (q / 2 << half);
         left = q;
         if word_at(table, son, 5) == quad::FORK {
-            if words[son] == 0 {
-                if half == 1 {
-                    stand_pixels(&*table, words, rows, son, top);
-                } else {
+            if half == 1 {
+                stand_pixels(&*table, words, rows, son, top);
+            } else {
+                if words[son] == 0 {
                     stand_fork(&*table, words, rows, son, half, top);
                 }
             }

@@ -1,10 +1,9 @@
 -- `labels::pixels`: pixel by pixel, and then the lines. Assumes nothing.
 use mathlib.Core.Path.{refl, _∙_}
 use native.Mathlib.Omega.{arith}
-use borrow.Author.Needs.{needs}
-use Rattle.labels.proofs.TouchLaws.{set-kept}
 use Rattle.labels.proofs.ForkLaws.{room, son-node}
-use Rattle.labels.proofs.FourLaws.{touching-first, touching-second, touching-third, touching-fourth, pixels-within, pixels-gone}
+use Rattle.labels.proofs.FourLaws.{touching-first, touching-second, touching-third, touching-fourth, pixels-gone}
+use borrow.Author.Needs.{needs}
 use Rattle.labels.proofs.pixels.Statement.{statement}
 use Rattle.labels.proofs.pixels.Tie as tie
 
@@ -146,35 +145,26 @@ same-requires c κs = search needs
 same-requires-2 : tie.Need-same-requires-2
 same-requires-2 c κs = search needs
 
-add-leaders : tie.Need-add-leaders
-add-leaders c = search needs
+add-result : tie.Need-add-result
+add-result c = search needs
 
 same-requires-3 : tie.Need-same-requires-3
 same-requires-3 c κs = search needs
 
-add-leaders-2 : tie.Need-add-leaders-2
-add-leaders-2 c = search needs
+add-result-2 : tie.Need-add-result-2
+add-result-2 c = search needs
 
 same-requires-4 : tie.Need-same-requires-4
 same-requires-4 c κs = search needs
 
-add-leaders-3 : tie.Need-add-leaders-3
-add-leaders-3 c = search needs
-
-mark-requires : tie.Need-mark-requires
-mark-requires c κs = search needs
-
-mul-words : tie.Need-mul-words
-mul-words c = omega (arith, c .before .before .before .before .before .before .before .before .before .before .before .before .before .before .before .before .before .before .before .before .before .before .before .before .before .before .before .before .before .before .before .before .before .before .before .pre .0 .at .node, c .before .before .before .before .before .before .before .before .before .before .before .before .before .before .before .before .before .before .before .before .before .before .before .before .before .before .before .before .before .before .before .before .before .before .before .pre .0 .at .accepted .sized .few, c .before .before .before .before .before .before .before .before .before .before .before .before .before .before .before .before .before .before .before .before .before .before .before .before .before .before .before .before .before .before .before .before .before .before .before .pre .0 .at .accepted .sized .whole)
-
-slice-write-words : tie.Need-slice-write-words
-slice-write-words c = pixels-within _ _ _ _ _ _ (c .before .before .before .before .before .before .before .before .before .before .before .before .before .before .before .before .before .before .before .before .before .before .before .before .before .before .before .before .before .before .before .before .before .before .before .pre .1) _ _ _ _ (c .before .before .before .before .before .before .before .before .before .before .before .before .before .before .before .before .before .before .before .before .before .before .before .before .before .before .before .before .before .before .before .before .word-at .ensures) (c .before .before .before .before .before .before .before .before .before .before .before .before .before .before .before .before .before .before .before .before .before .before .before .before .before .before .before .before .before .before .before .word-at2 .ensures) (c .before .before .before .before .before .before .before .before .before .before .before .before .before .before .before .before .before .before .before .before .before .before .before .before .before .before .before .before .before .before .word-at3 .ensures) (c .before .before .before .before .before .before .before .before .before .before .before .before .before .before .before .before .before .before .before .before .before .before .before .before .before .before .before .before .before .word-at4 .ensures) _ _ _ _ (c .before .before .before .before .before .before .before .before .before .before .before .before .before .before .before .before .before .before .before .before .before .before .before .before .before .before .before .word-at5 .ensures) (c .before .before .before .before .before .before .before .before .before .before .before .before .before .before .before .before .before .before .before .before .word-at6 .ensures) (c .before .before .before .before .before .before .before .before .before .before .before .before .before .before .word-at7 .ensures) (c .before .before .before .before .before .before .before .before .word-at8 .ensures) _ refl (c .before .before .before .before .before .before .before .before .before .before .before .before .before .before .before .before .before .before .before .before .before .before .before .before .before .before .before .before .before .before .before .before .before .before .before .pre .0) _ _ (c .before .before .before .before .before .before .before .before .before .before .before .before .before .before .before .before .before .before .before .before .before .before .before .before .touch .ensures) _ _ (c .before .before .before .before .before .before .before .before .before .before .before .before .before .before .before .before .before .before .touch2 .ensures) _ _ (c .before .before .before .before .before .before .before .before .before .before .before .before .touch3 .ensures) _ _ (c .before .before .before .before .before .before .before .touch4 .ensures)
+add-result-3 : tie.Need-add-result-3
+add-result-3 c = search needs
 
 same-length : tie.Need-same-length
-same-length c = set-kept (c .before .before .before .before .before .before .before .touch4 .last .0) (c .before .before .before .before .before .before .before .before .before .before .before .before .before .before .before .before .before .before .before .before .before .before .before .before .before .before .before .before .before .before .before .before .before .before .before .args .words .now) (c .before .before .before .before .before .before .before .before .before .before .before .before .before .before .before .before .before .before .before .before .before .before .before .before .before .before .before .before .before .before .before .before .before .before .before .args .p) (c .mark .result) (c .before .before .before .before .before .before .before .touch4 .kept .0 ∙ c .before .before .before .before .before .before .before .before .before .before .before .before .touch3 .kept .0 ∙ c .before .before .before .before .before .before .before .before .before .before .before .before .before .before .before .before .before .before .touch2 .kept .0 ∙ c .before .before .before .before .before .before .before .before .before .before .before .before .before .before .before .before .before .before .before .before .before .before .before .before .touch .kept .0)
+same-length c = (c .before .before .before .before .before .before .touch4 .kept .0 ∙ c .before .before .before .before .before .before .before .before .before .before .before .touch3 .kept .0 ∙ c .before .before .before .before .before .before .before .before .before .before .before .before .before .before .before .before .before .touch2 .kept .0 ∙ c .before .before .before .before .before .before .before .before .before .before .before .before .before .before .before .before .before .before .before .before .before .before .before .touch .kept .0)
 
 returns : tie.Need-returns
-returns c = pixels-gone _ _ _ _ _ _ (c .before .before .before .before .before .before .before .before .before .before .before .before .before .before .before .before .before .before .before .before .before .before .before .before .before .before .before .before .before .before .before .before .before .before .before .pre .1) _ _ _ _ (c .before .before .before .before .before .before .before .before .before .before .before .before .before .before .before .before .before .before .before .before .before .before .before .before .before .before .before .before .before .before .before .before .word-at .ensures) (c .before .before .before .before .before .before .before .before .before .before .before .before .before .before .before .before .before .before .before .before .before .before .before .before .before .before .before .before .before .before .before .word-at2 .ensures) (c .before .before .before .before .before .before .before .before .before .before .before .before .before .before .before .before .before .before .before .before .before .before .before .before .before .before .before .before .before .before .word-at3 .ensures) (c .before .before .before .before .before .before .before .before .before .before .before .before .before .before .before .before .before .before .before .before .before .before .before .before .before .before .before .before .before .word-at4 .ensures) _ _ _ _ (c .before .before .before .before .before .before .before .before .before .before .before .before .before .before .before .before .before .before .before .before .before .before .before .before .before .before .before .word-at5 .ensures) (c .before .before .before .before .before .before .before .before .before .before .before .before .before .before .before .before .before .before .before .before .word-at6 .ensures) (c .before .before .before .before .before .before .before .before .before .before .before .before .before .before .word-at7 .ensures) (c .before .before .before .before .before .before .before .before .word-at8 .ensures) _ refl (c .before .before .before .before .before .before .before .before .before .before .before .before .before .before .before .before .before .before .before .before .before .before .before .before .before .before .before .before .before .before .before .before .before .before .before .pre .0) _ _ (c .before .before .before .before .before .before .before .before .before .before .before .before .before .before .before .before .before .before .before .before .before .before .before .before .touch .ensures) _ _ (c .before .before .before .before .before .before .before .before .before .before .before .before .before .before .before .before .before .before .touch2 .ensures) _ _ (c .before .before .before .before .before .before .before .before .before .before .before .before .touch3 .ensures) _ _ (c .before .before .before .before .before .before .before .touch4 .ensures) _ _ _ _ _ _ (c .before .before .before .before .same .ensures .0) (c .before .before .before .same2 .ensures .0) (c .before .before .same3 .ensures .0) (c .before .same4 .ensures .0) refl (c .mark .ensures)
+returns c = pixels-gone _ _ _ _ _ _ (c .before .before .before .before .before .before .before .before .before .before .before .before .before .before .before .before .before .before .before .before .before .before .before .before .before .before .before .before .before .before .before .before .before .before .pre .1) _ _ _ _ (c .before .before .before .before .before .before .before .before .before .before .before .before .before .before .before .before .before .before .before .before .before .before .before .before .before .before .before .before .before .before .before .word-at .ensures) (c .before .before .before .before .before .before .before .before .before .before .before .before .before .before .before .before .before .before .before .before .before .before .before .before .before .before .before .before .before .before .word-at2 .ensures) (c .before .before .before .before .before .before .before .before .before .before .before .before .before .before .before .before .before .before .before .before .before .before .before .before .before .before .before .before .before .word-at3 .ensures) (c .before .before .before .before .before .before .before .before .before .before .before .before .before .before .before .before .before .before .before .before .before .before .before .before .before .before .before .before .word-at4 .ensures) _ _ _ _ (c .before .before .before .before .before .before .before .before .before .before .before .before .before .before .before .before .before .before .before .before .before .before .before .before .before .before .word-at5 .ensures) (c .before .before .before .before .before .before .before .before .before .before .before .before .before .before .before .before .before .before .before .word-at6 .ensures) (c .before .before .before .before .before .before .before .before .before .before .before .before .before .word-at7 .ensures) (c .before .before .before .before .before .before .before .word-at8 .ensures) _ refl (c .before .before .before .before .before .before .before .before .before .before .before .before .before .before .before .before .before .before .before .before .before .before .before .before .before .before .before .before .before .before .before .before .before .before .pre .0) _ _ (c .before .before .before .before .before .before .before .before .before .before .before .before .before .before .before .before .before .before .before .before .before .before .before .touch .ensures) _ _ (c .before .before .before .before .before .before .before .before .before .before .before .before .before .before .before .before .before .touch2 .ensures) _ _ (c .before .before .before .before .before .before .before .before .before .before .before .touch3 .ensures) _ _ (c .before .before .before .before .before .before .touch4 .ensures) _ _ _ _ _ (c .before .before .before .same .ensures .0) (c .before .before .same2 .ensures .0) (c .before .same3 .ensures .0) (c .same4 .ensures .0) refl
 
 pub pixels-spec : {M : Type 1} → statement M
 pixels-spec =
@@ -226,13 +216,10 @@ pixels-spec =
     element-write-lines-4
     same-requires
     same-requires-2
-    add-leaders
+    add-result
     same-requires-3
-    add-leaders-2
+    add-result-2
     same-requires-4
-    add-leaders-3
-    mark-requires
-    mul-words
-    slice-write-words
+    add-result-3
     same-length
     returns)

@@ -49,7 +49,9 @@ abbrev stand-fork-μ-loop : stand-fork-lts.MeasureT-loop
 stand-fork-μ-loop table words₀ rows₀ p level y half left₀ words rows left = left
 
 stand-fork-sub-half : (t : ℕ) → stand-fork-lts.Need-sub-half (calls t) (stand-fork-at t) stand-fork.Post stand-fork-Inv-loop stand-fork-μ-loop
-stand-fork-sub-half t c = let r = c .before .before .pre .1 .reach in fork-above (r .place) (r .fork)
+stand-fork-sub-half t c =
+    let r = c .before .before .pre .1 .reach in
+    fork-above (r .place) (r .fork)
 
 stand-fork-loop-holds : (t : ℕ) → stand-fork-lts.Need-loop-holds (calls t) (stand-fork-at t) stand-fork.Post stand-fork-Inv-loop stand-fork-μ-loop
 stand-fork-loop-holds t c = (omega arith, refl, λ n F D h. part-none h)
@@ -79,44 +81,44 @@ stand-fork-word-at-requires-2 t c κs =
     let r = c .before .before .before .before .before .pre .1 .reach in
     (omega (arith, c .word-at .ensures, son-at (r .place) (r .fork) (c .before .before .loop .left - 1) (fewer (c .before .before .loop .inv .0) (c .before .loop-test .taken)) .node), omega arith)
 
-stand-fork-mul-if2 : (t : ℕ) → stand-fork-lts.Need-mul-if2 (calls t) (stand-fork-at t) stand-fork.Post stand-fork-Inv-loop stand-fork-μ-loop
-stand-fork-mul-if2 t c =
-    let r = c .before .before .before .before .before .before .before .pre .1 .reach in
-    omega (arith, c .before .before .word-at .ensures, son-at (r .place) (r .fork) (c .before .before .before .before .loop .left - 1) (fewer (c .before .before .before .before .loop .inv .0) (c .before .before .before .loop-test .taken)) .node, r .place .accepted .sized .few)
-
-stand-fork-slice-read-if2 : (t : ℕ) → stand-fork-lts.Need-slice-read-if2 (calls t) (stand-fork-at t) stand-fork.Post stand-fork-Inv-loop stand-fork-μ-loop
-stand-fork-slice-read-if2 t c =
-    let r = c .before .before .before .before .before .before .before .before .pre .1 .reach in
-    let v = c .before .before .before .before .before .loop .inv in
-    let pos = c .before .before .before .before .loop-test .taken in
-    let lt = fewer (v .0) pos in
-    let el = one-less pos in
-    let e = c .before .before .before .word-at .ensures in
-    son-node r (v .2 _ _ _ r) el lt e
-
 stand-fork-stand-pixels-requires : (t : ℕ) → stand-fork-lts.Need-stand-pixels-requires (calls t) (stand-fork-at t) stand-fork.Post stand-fork-Inv-loop stand-fork-μ-loop
 stand-fork-stand-pixels-requires t c κs =
-    let r = c .before .before .before .before .before .before .before .before .before .before .before .before .pre .1 .reach in
-    let v = c .before .before .before .before .before .before .before .before .before .loop .inv in
-    let pos = c .before .before .before .before .before .before .before .before .loop-test .taken in
+    let r = c .before .before .before .before .before .before .before .before .before .before .pre .1 .reach in
+    let v = c .before .before .before .before .before .before .before .loop .inv in
+    let pos = c .before .before .before .before .before .before .loop-test .taken in
     let lt = fewer (v .0) pos in
     let el = one-less pos in
-    let e = c .before .before .before .before .before .before .before .word-at .ensures in
-    let f = told-fork (c .before .before .before .before .before .before .before .before .before .before .before .before .args .table .now) (c .before .before .before .before .before .before .before .word-at .result) _ (c .before .before .before .before .before .before .word-at2 .ensures) (c .before .before .before .before .before .if1 .taken) in
-    record { n = _; F = _; D = _; reach = son-reach r (v .2 _ _ _ r) el lt e f (c .before .before .if3 .taken) (son-row r lt e) }
+    let e = c .before .before .before .before .before .word-at .ensures in
+    let f = told-fork (c .before .before .before .before .before .before .before .before .before .before .args .table .now) (c .before .before .before .before .before .word-at .result) _ (c .before .before .before .before .word-at2 .ensures) (c .before .before .before .if1 .taken) in
+    record { n = _; F = _; D = _; reach = son-reach r (v .2 _ _ _ r) el lt e f (c .before .before .if2 .taken) (son-row r lt e) }
 
 stand-fork-loop-less : (t : ℕ) → stand-fork-lts.Need-loop-less (calls t) (stand-fork-at t) stand-fork.Post stand-fork-Inv-loop stand-fork-μ-loop
-stand-fork-loop-less t c = omega (arith, c .before .before .before .before .before .before .before .before .before .before .before .loop-test .taken)
+stand-fork-loop-less t c = omega (arith, c .before .before .before .before .before .before .before .before .before .loop-test .taken)
 
 stand-fork-loop-again : (t : ℕ) → stand-fork-lts.Need-loop-again (calls t) (stand-fork-at t) stand-fork.Post stand-fork-Inv-loop stand-fork-μ-loop
 stand-fork-loop-again t c =
-    let v = c .before .before .before .before .before .before .before .before .before .before .before .before .loop .inv in
-    let pos = c .before .before .before .before .before .before .before .before .before .before .before .loop-test .taken in
+    let v = c .before .before .before .before .before .before .before .before .before .before .loop .inv in
+    let pos = c .before .before .before .before .before .before .before .before .before .loop-test .taken in
     let lt = fewer (v .0) pos in
     let el = one-less pos in
-    let e = c .before .before .before .before .before .before .before .before .before .before .word-at .ensures in
-    let f = told-fork (c .before .before .before .before .before .before .before .before .before .before .before .before .before .before .before .args .table .now) (c .before .before .before .before .before .before .before .before .before .before .word-at .result) _ (c .before .before .before .before .before .before .before .before .before .word-at2 .ensures) (c .before .before .before .before .before .before .before .before .if1 .taken) in
-    (omega (arith, lt), c .before .before .stand-pixels .kept .1 .0 ∙ v .1, λ n F D r. turn-fork r (v .2 n F D r) el lt e f (c .before .before .before .before .before .if3 .taken) (son-row r lt e) (c .before .before .stand-pixels .ensures))
+    let e = c .before .before .before .before .before .before .before .before .word-at .ensures in
+    let f = told-fork (c .before .before .before .before .before .before .before .before .before .before .before .before .before .args .table .now) (c .before .before .before .before .before .before .before .before .word-at .result) _ (c .before .before .before .before .before .before .before .word-at2 .ensures) (c .before .before .before .before .before .before .if1 .taken) in
+    (omega (arith, lt), c .before .before .stand-pixels .kept .1 .0 ∙ v .1, λ n F D r. turn-fork r (v .2 n F D r) el lt e f (c .before .before .before .before .before .if2 .taken) (son-row r lt e) (c .before .before .stand-pixels .ensures))
+
+stand-fork-mul-if3 : (t : ℕ) → stand-fork-lts.Need-mul-if3 (calls t) (stand-fork-at t) stand-fork.Post stand-fork-Inv-loop stand-fork-μ-loop
+stand-fork-mul-if3 t c =
+    let r = c .before .before .before .before .before .before .before .before .pre .1 .reach in
+    omega (arith, c .before .before .before .word-at .ensures, son-at (r .place) (r .fork) (c .before .before .before .before .before .loop .left - 1) (fewer (c .before .before .before .before .before .loop .inv .0) (c .before .before .before .before .loop-test .taken)) .node, r .place .accepted .sized .few)
+
+stand-fork-slice-read-if3 : (t : ℕ) → stand-fork-lts.Need-slice-read-if3 (calls t) (stand-fork-at t) stand-fork.Post stand-fork-Inv-loop stand-fork-μ-loop
+stand-fork-slice-read-if3 t c =
+    let r = c .before .before .before .before .before .before .before .before .before .pre .1 .reach in
+    let v = c .before .before .before .before .before .before .loop .inv in
+    let pos = c .before .before .before .before .before .loop-test .taken in
+    let lt = fewer (v .0) pos in
+    let el = one-less pos in
+    let e = c .before .before .before .before .word-at .ensures in
+    son-node r (v .2 _ _ _ r) el lt e
 
 stand-fork-stand-fork-requires : (t : ℕ) → stand-fork-lts.Need-stand-fork-requires (calls t) (stand-fork-at t) stand-fork.Post stand-fork-Inv-loop stand-fork-μ-loop
 stand-fork-stand-fork-requires t c κs =
@@ -143,17 +145,17 @@ stand-fork-loop-again-2 t c =
     (omega (arith, lt), c .before .before .stand-fork .kept .1 .0 ∙ v .1, λ n F D r. turn-fork r (v .2 n F D r) el lt e f refl (son-row r lt e) (c .before .before .stand-fork .ensures))
 
 stand-fork-loop-less-3 : (t : ℕ) → stand-fork-lts.Need-loop-less-3 (calls t) (stand-fork-at t) stand-fork.Post stand-fork-Inv-loop stand-fork-μ-loop
-stand-fork-loop-less-3 t c = omega (arith, c .before .before .before .before .before .loop-test .taken)
+stand-fork-loop-less-3 t c = omega (arith, c .before .before .before .before .before .before .loop-test .taken)
 
 stand-fork-loop-again-3 : (t : ℕ) → stand-fork-lts.Need-loop-again-3 (calls t) (stand-fork-at t) stand-fork.Post stand-fork-Inv-loop stand-fork-μ-loop
 stand-fork-loop-again-3 t c =
-    let v = c .before .before .before .before .before .before .loop .inv in
-    let pos = c .before .before .before .before .before .loop-test .taken in
+    let v = c .before .before .before .before .before .before .before .loop .inv in
+    let pos = c .before .before .before .before .before .before .loop-test .taken in
     let lt = fewer (v .0) pos in
     let el = one-less pos in
-    let e = c .before .before .before .before .word-at .ensures in
-    let f = told-fork (c .before .before .before .before .before .before .before .before .before .args .table .now) (c .before .before .before .before .word-at .result) _ (c .before .before .before .word-at2 .ensures) (c .before .before .if1 .taken) in
-    (omega (arith, lt), v .1, λ n F D r. turn-marked r (v .2 n F D r) el lt e f (c .if2 .left))
+    let e = c .before .before .before .before .before .word-at .ensures in
+    let f = told-fork (c .before .before .before .before .before .before .before .before .before .before .args .table .now) (c .before .before .before .before .before .word-at .result) _ (c .before .before .before .before .word-at2 .ensures) (c .before .before .before .if1 .taken) in
+    (omega (arith, lt), v .1, λ n F D r. turn-marked r (v .2 n F D r) el lt e f (c .if3 .left))
 
 stand-fork-mul-stand : (t : ℕ) → stand-fork-lts.Need-mul-stand (calls t) (stand-fork-at t) stand-fork.Post stand-fork-Inv-loop stand-fork-μ-loop
 stand-fork-mul-stand t c =
@@ -244,11 +246,11 @@ pub +stand-fork-spec : {M : Type 1} → statement M
     (stand-fork-shl-top t)
     (stand-fork-add-top t)
     (stand-fork-word-at-requires-2 t)
-    (stand-fork-mul-if2 t)
-    (stand-fork-slice-read-if2 t)
     (stand-fork-stand-pixels-requires t)
     (stand-fork-loop-less t)
     (stand-fork-loop-again t)
+    (stand-fork-mul-if3 t)
+    (stand-fork-slice-read-if3 t)
     (stand-fork-stand-fork-requires t)
     (stand-fork-loop-less-2 t)
     (stand-fork-loop-again-2 t)
