@@ -14,7 +14,8 @@
  * the other paints the raster. A call that searches is also held against the check
  * alone, and on the sparse sheets of n = 7, where the check is short, what is left of
  * it when the check is taken away against what is left of plain C. In the end a table
- * has each call's worst at n = 7, its bound, and its stack.
+ * has each call's worst at n = 7, on sheets as they are built, for which its bound is
+ * given, and numbered at random; and its stack.
  *
  * A call is not timed, and the status is 1, where the library or plain C does not
  * give the second implementation's answer. A bound that is not kept leaves the
@@ -58,10 +59,13 @@ static const struct kind {
              {"chequered", PICTURE_CHESSBOARD},
              {"sparse", PICTURE_LONE_PIXEL}};
 
-/* What is remembered of a call's lines at n = 7. */
+/* What is remembered of a call's lines at n = 7, on tables as they are built and on
+ * those numbered at random. */
 struct summary {
-    double to_plain, to_floor;
-    char where[40]; /* to_plain was met */
+    struct worst {
+        double to_plain, to_floor;
+        const char *where; /* to_plain was met */
+    } as_built, at_random;
     size_t stack, plain_stack;
 };
 
@@ -317,12 +321,13 @@ static size_t more(size_t a, size_t b)
     return a > b ? a : b;
 }
 
-static void remember(struct summary *s, const char *where, const struct times *t)
+static void remember(struct summary *s, const char *where, int at_random, const struct times *t)
 {
-    if (t->first_to[PLAIN] > s->to_plain)
-        strcpy(s->where, where);
-    s->to_plain = larger(s->to_plain, t->first_to[PLAIN]);
-    s->to_floor = larger(s->to_floor, t->first_to[FLOOR]);
+    struct worst *w = at_random ? &s->at_random : &s->as_built;
+    if (t->first_to[PLAIN] > w->to_plain)
+        w->where = where;
+    w->to_plain = larger(w->to_plain, t->first_to[PLAIN]);
+    w->to_floor = larger(w->to_floor, t->first_to[FLOOR]);
     s->stack = more(s->stack, stack_used(proved_once));
     s->plain_stack = more(s->plain_stack, stack_used(plain_once));
 }
@@ -332,7 +337,7 @@ static void remember(struct summary *s, const char *where, const struct times *t
 static int time_line(enum call call, const struct kind *kind, uint32_t level, int at_random, struct summary *s,
                      struct line *l)
 {
-    char where[sizeof s->where];
+    char where[40];
     snprintf(where, sizeof where, "%s%s", kind->name, at_random ? ", random" : "");
     input_draw(&input, call, kind->pictures, level, at_random);
     if (!agree_on_input())
@@ -342,7 +347,7 @@ static int time_line(enum call call, const struct kind *kind, uint32_t level, in
     l->units = call_searches(call) ? (double)input.questions : l->work;
     print_line(call, where, level, l);
     if (level == HIGHEST)
-        remember(s, where, &l->times);
+        remember(s, kind->name, at_random, &l->times);
     return 1;
 }
 
@@ -367,7 +372,7 @@ static int time_call(enum call call, struct summary *s)
         if (!time_kind(call, &kinds[i], s))
             return 0;
     printf("stack at n 7: %zu bytes, plain %zu; worst at n 7: %.2f times plain, on %s\n\n", s->stack, s->plain_stack,
-           s->to_plain, s->where);
+           s->as_built.to_plain, s->as_built.where);
     return 1;
 }
 
@@ -382,21 +387,38 @@ static double bound_of(enum call call)
 
 static const double CHECK_TO_FLOOR = 8;
 
+static int is_kept(enum call call, const struct worst *w)
+{
+    return w->to_plain <= bound_of(call) && (call != CALL_CHECK || w->to_floor <= CHECK_TO_FLOOR);
+}
+
+static void print_worst(enum call call, const struct worst *w)
+{
+    if (w->where == NULL) /* a call that is given no table */
+        printf("  %36s", "");
+    else
+        printf("  %6.2f %8.2f  %-8s %-9s", w->to_plain, w->to_floor, is_kept(call, w) ? "kept" : "not kept", w->where);
+}
+
 static void print_summary(enum call call, const struct summary *s)
 {
-    int kept = s->to_plain <= bound_of(call) && (call != CALL_CHECK || s->to_floor <= CHECK_TO_FLOOR);
-    printf("%-14s %6.2f %6.2f %8.2f ", call_form[call].name, s->to_plain, bound_of(call), s->to_floor);
+    printf("%-13s %5.2f ", call_form[call].name, bound_of(call));
     if (call == CALL_CHECK)
         printf("%6.2f", CHECK_TO_FLOOR);
     else
         printf("%6s", "");
-    printf("  %-8s %6zu  %s\n", kept ? "kept" : "not kept", s->stack, s->where);
+    print_worst(call, &s->as_built);
+    print_worst(call, &s->at_random);
+    printf(" %6zu\n", s->stack);
 }
 
 static void print_table(const struct summary *summaries, int first, int last)
 {
-    printf("%-14s %6s %6s %8s %6s  %-8s %6s  %s\n", "worst at n 7", "/plain", "bound", "/floor", "bound", "", "stack",
-           "/plain is worst on");
+    printf("%-26s  %-35s  %s\n", "worst at n 7", "as built", "numbered at random");
+    printf("%-13s %5s %6s", "", "bound", "floor");
+    for (int i = 0; i < 2; i++)
+        printf("  %6s %8s  %-8s %-9s", "/plain", "/floor", "", "on");
+    printf(" %6s\n", "stack");
     for (int call = first; call <= last; call++)
         print_summary((enum call)call, &summaries[call]);
 }
