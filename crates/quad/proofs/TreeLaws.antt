@@ -10,7 +10,7 @@ use borrow.Author.Tests.{eq-eqb, ne-eqb, eqb-true}
 use Rattle.base.proofs.BoolLaws.{and-left, and-right}
 use Rattle.base.proofs.CaseLaws.{cond-case}
 use Rattle.quad.specs.Numbers.{topLevel, topColour, forkType, maxWords}
-use Rattle.quad.specs.Tree.{Tree, leaf, fork, colour, sonOf, Within, sameLeaf, alike, likeTypes, apartOf, Reduced, Coloured, sizeOf, typesOf, join}
+use Rattle.quad.specs.Tree.{Tree, leaf, fork, colour, sonOf, Within, sameLeaf, alike, likeTypes, Reduced, Coloured, sizeOf, typesOf, join}
 
 -- the quadrants are four
 pub by-quadrant : (P : ℕ → Type 0) → P 0 → P 1 → P 2 → P 3 → (q : ℕ) → q < 4 → P q
@@ -89,9 +89,14 @@ alike-types (leaf k) b c d h =
     simp (same-type k b le, same-type k c le, same-type k d le, and-cond) (unfold likeTypes colour in rw (ne-eqb k forkType (λ e. omega arith)))
 alike-types (fork _ _ _ _) b c d h = unfold likeTypes colour sameLeaf in refl
 
+pub choice-le : (b : Bool) → cond b 0 1 ≤ 1
+choice-le true = omega arith
+choice-le false = omega arith
+
 -- four types are those of like leaves where none of the others differs from the first, and a fork's does
-pub like-counted : (a b c d x y z w : ℕ) → x ≡ apartOf a b → y ≡ apartOf a c → z ≡ apartOf a d → w ≡ apartOf a forkType → eqb (x + y + z + 1) w ≡ likeTypes a b c d
-unfolding apartOf likeTypes
+pub like-counted : (a b c d x y z w : ℕ) → x ≡ cond (eqb a b) 0 1 → y ≡ cond (eqb a c) 0 1 → z ≡ cond (eqb a d) 0 1 → w ≡ cond (eqb a forkType) 0 1
+    → eqb (x + y + z + 1) w ≡ likeTypes a b c d
+unfolding likeTypes
 like-counted a b c d x y z w ex ey ez ew = rw (ex, ey, ez, ew) (go (eqb a b) (eqb a c) (eqb a d) (eqb a forkType))
   where
     go : (i j k f : Bool) → eqb (cond i 0 1 + cond j 0 1 + cond k 0 1 + 1) (cond f 0 1) ≡ cond f false (cond i (cond j k false) false)

@@ -51,10 +51,6 @@ alike a b c d = sameLeaf a b && (sameLeaf a c && sameLeaf a d)
 unfoldable pub likeTypes : ℕ → ℕ → ℕ → ℕ → Bool
 likeTypes a b c d = cond (eqb a forkType) false (cond (eqb a b) (cond (eqb a c) (eqb a d) false) false)
 
--- 1 for two types that differ, else 0
-unfoldable pub apartOf : ℕ → ℕ → ℕ
-apartOf a b = cond (eqb a b) 0 1
-
 -- no fork is needless
 unfoldable pub Reduced : Tree → Type 0
 Reduced (leaf c) = Unit {0}

@@ -1,9 +1,11 @@
 // Quadtrees: a block's side, four like leaves, and document 000's four tables, read by direction and quadrant number.
 ghost use mathlib.Core.Path.{_≡_};
+ghost use mathlib.Core.Bool.{cond};
 ghost use Prim.Native.Nat.{_<_, _≤_, _^_};
+ghost use lib.Dec.{eqb};
 ghost use Rattle.quad.specs.Numbers.{topLevel};
 ghost use Rattle.quad.specs.Direction.{adjOf, reflectOf, opquadOf, commonSideOf};
-ghost use Rattle.quad.specs.Tree.{apartOf, likeTypes};
+ghost use Rattle.quad.specs.Tree.{likeTypes};
 
 // The highest level of a sheet, and the most words of a table.
 pub const TOP_LEVEL: u32 = 7;
@@ -43,22 +45,23 @@ pub fn side(level: u32) -> u32
     1 << level
 }
 
-// 1 for two types that differ, else 0.
-fn apart(a: usize, b: usize) -> usize
-    ensures { λ r. ⌜ (r ≡ apartOf a b) × (r ≤ 1) ⌝ }
+// One number where two are the same, another where they differ. Both are at hand, so that nothing waits for a guess.
+pub fn pick(a: usize, b: usize, same: usize, other: usize) -> usize
+    ensures { λ r. ⌜ r ≡ cond (eqb a b) same other ⌝ }
 {
     if a == b {
-        return 0;
+        return same;
     }
-    1
+    other
 }
 
 // Whether four types are those of four like leaves, over which a fork is needless: none of the others differs from the first, and a fork's type does. They are
-// counted, not tested in turn, as no map tells beforehand which son differs.
+// counted and not tested in turn, as nothing tells beforehand which of them differs.
 pub fn like_leaves(nw: usize, ne: usize, sw: usize, se: usize) -> bool
     ensures { λ r. ⌜ r ≡ likeTypes nw ne sw se ⌝ }
 {
-    apart(nw, ne) + apart(nw, sw) + apart(nw, se) + 1 == apart(nw, FORK)
+    let differ = pick(nw, ne, 0, 1) + pick(nw, sw, 0, 1) + pick(nw, se, 0, 1);
+    differ + 1 == pick(nw, FORK, 0, 1)
 }
 
 // A byte as a number that counts or places something.

@@ -1,7 +1,7 @@
 // The node table: its words, its links, the check, and where a node's block lies.
 use answer::Outcome;
 ghost use mathlib.Core.Path.{_≡_};
-ghost use mathlib.Core.Bool.{true, cond};
+ghost use mathlib.Core.Bool.{true};
 ghost use mathlib.Core.List.{[], _∷_};
 ghost use Prim.Native.Nat.{_+_, _*_, _<_, _≤_};
 ghost use lib.Dec.{eqb};
@@ -353,18 +353,7 @@ pub fn asked(n: u32, table: &[u32], node: u32) -> Outcome
     Outcome::Answered { value: 0 }
 }
 
-// One number for two that are the same, another for two that differ.
-fn pick(a: usize, b: usize, same: usize, other: usize) -> usize
-    ensures { λ r. ⌜ r ≡ cond (eqb a b) same other ⌝ }
-{
-    if a == b {
-        return same;
-    }
-    other
-}
-
-// Which son of its father p is (document 000's SONTYPE). The root is never asked. All three words are at hand before one is asked for, so that nothing waits for a
-// guess.
+// Which son of its father p is (document 000's SONTYPE). The root is never asked.
 pub fn son_type(table: &[u32], p: usize) -> usize
     requires { ⌜ (p < nodes (now table)) × (father (now table) p < nodes (now table)) ⌝ }
     ensures { λ r. ⌜ r ≡ sonType (now (table .entry)) p ⌝ }
@@ -373,7 +362,7 @@ pub fn son_type(table: &[u32], p: usize) -> usize
     let nw = word_at(table, father, 1);
     let ne = word_at(table, father, 2);
     let sw = word_at(table, father, 3);
-    pick(nw, p, 0, pick(ne, p, 1, pick(sw, p, 2, 3)))
+    quad::pick(nw, p, 0, quad::pick(ne, p, 1, quad::pick(sw, p, 2, 3)))
 }
 
 // Writes the six words of node p.

@@ -1,8 +1,8 @@
--- `table::pick`: one test, as the choice has it. Assumes nothing.
+-- `quad::pick`: one test, as the choice has it. Assumes nothing.
 use borrow.Author.Needs.{needs}
 use Rattle.base.proofs.CaseLaws.{cases}
-use Rattle.table.proofs.pick.Statement.{statement}
-use Rattle.table.proofs.pick.Tie as tie
+use Rattle.quad.proofs.pick.Statement.{statement}
+use Rattle.quad.proofs.pick.Tie as tie
 
 returns : tie.Need-returns
 returns c = search (cases, needs)
