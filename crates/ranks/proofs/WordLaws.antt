@@ -109,14 +109,22 @@ next-there W end far h p j lt e =
     rw is (lt, refl))
     (lt-or-ge (wordOf W p) leading)
 
-pub settling-more : {B W : List ℕ} {p j v : ℕ} → p < length B → j ≡ nextOf (wordOf W p) p → Traced W (wordOf W j) v → Settling B W p
-    → Settling B (set W p v) (p + 1)
-settling-more {B} {W} {p} {j} {v} lt e t s =
+-- and so does the one after it
+pub two-there : (W : List ℕ) (end far : ℕ → ℕ) → Ends W end far → (p j k : ℕ) → p < length W → j ≡ nextOf (wordOf W p) p → k ≡ nextOf (wordOf W j) j
+    → (k < length W) × (end k ≡ end p)
+two-there W end far h p j k lt e f =
+    let a = next-there W end far h p j lt e in
+    let b = next-there W end far h j k (a .0) f in
+    (b .0, b .1 ∙ a .1)
+
+pub settling-more : {B W : List ℕ} {p j k v : ℕ} → p < length B → j ≡ nextOf (wordOf W p) p → k ≡ nextOf (wordOf W j) j → Traced W (wordOf W k) v
+    → Settling B W p → Settling B (set W p v) (p + 1)
+settling-more {B} {W} {p} {j} {k} {v} lt e f t s =
     let is : (end far : ℕ → ℕ) → Ends B end far → v ≡ end p =
     λ end far h.
-    let k = s .still end far h in
-    let n = next-there W end far k p j (omega (arith, s .long)) e in
-    t end far k ∙ reach-word W end far k j (n .0) ∙ n .1 in
+    let now = s .still end far h in
+    let n = two-there W end far now p j k (omega (arith, s .long)) e f in
+    t end far now ∙ reach-word W end far now k (n .0) ∙ n .1 in
     record {
       long = length-set W p v ∙ s .long;
       still = λ end far h. rw (is end far h) (ends-set W end far (s .still end far h) p (omega (arith, s .long)));
