@@ -1,29 +1,26 @@
 -- The walk at a fork: its four quadrants gone through in turn, NW, NE, SW, SE, each after what lies north and west of it.
-use mathlib.Core.Bool.{true, false, cond}
+use mathlib.Core.Bool.{true}
 use mathlib.Core.List.{List, [], _∷_}
 use mathlib.Core.Logic.{⊎-elim}
 use mathlib.Core.Path.{_≡_, refl, ap, sym, _∙_}
-use Prim.Native.Nat.{ℕ, zero, suc, _+_, _-_, _*_, _/_, _%_, _^_, _≤_, _<_}
+use Prim.Native.Nat.{ℕ, _+_, _-_, _*_, _/_, _%_, _^_, _≤_, _<_}
 use native.Mathlib.Nat.{pow-le-pow-right}
 use native.Mathlib.Omega.{arith}
-use lib.Dec.{eqb}
 use lib.ListN.{length, getD, set}
 use lib.Pow.{pow-pos}
 use borrow.Author.Tests.{eqb-true, eq-eqb, ne-eqb}
 use Rattle.base.proofs.BoolLaws.{lt-or-ge}
-use Rattle.quad.specs.Numbers.{black, forkType, topLevel}
-use Rattle.quad.specs.Block.{column, row}
+use Rattle.quad.specs.Numbers.{forkType, topLevel}
 use Rattle.quad.proofs.TreeLaws.{by-quadrant}
 use Rattle.table.specs.Table.{nodes, son, type, isFork}
-use Rattle.table.specs.Nodes.{pathTo, leftOf, topOf, sideOf, levelOf}
+use Rattle.table.specs.Nodes.{leftOf, topOf, sideOf}
 use Rattle.table.specs.Rules.{AtLevel}
 use Rattle.table.proofs.AcceptedLaws.{fork-above, level-is, level-top, son-at}
-use Rattle.table.proofs.HolderLaws.{path-son}
 use Rattle.chains.specs.Chain.{Water}
 use Rattle.chains.specs.Words.{wordOf}
 use Rattle.chains.proofs.SonLaws.{son-side, son-left, son-top}
 use Rattle.chains.proofs.NodeLaws.{same-or-not, last-or-before}
-use Rattle.labels.specs.Sets.{leading, Placed, Sets, Begins, Bare, Dark, as-before, none, marked, Further, Alike}
+use Rattle.labels.specs.Sets.{leading, Placed, Begins, Dark, as-before, none, marked, Further}
 use Rattle.labels.specs.Lines.{Has, Line, Met, across}
 use Rattle.labels.specs.Touch.{orOf, markOf}
 use Rattle.labels.specs.Walk.{Lines, Left, Coming, Gone, Goes, ToLeaf, PastLeaf}

@@ -5,13 +5,13 @@ use Prim.Native.Nat.{ℕ, _+_, _≤_, _<_}
 use native.Mathlib.Nat.{eq-or-lt-of-le}
 use native.Mathlib.Omega.{arith}
 use lib.ListN.{length, set}
-use Rattle.chains.specs.Chain.{Water, Chain}
+use Rattle.chains.specs.Chain.{Chain}
 use Rattle.chains.specs.Words.{wordOf}
 use Rattle.chains.proofs.ChainLaws.{chain-joined, chain-back}
 use Rattle.base.proofs.BoolLaws.{lt-or-ge}
 use mathlib.Core.Logic.{⊎-elim}
 use Rattle.chains.proofs.NodeLaws.{same-or-not}
-use Rattle.labels.specs.Sets.{leading, placeOf, Placed, Sets, Further, Alike, Asking, Led, Shorter, Joining, Union, Joined}
+use Rattle.labels.specs.Sets.{leading, placeOf, Placed, Sets, Further, Alike, Asking, Led, Shorter, Joining, Joined}
 use Rattle.labels.proofs.PlaceLaws.{place-one}
 use Rattle.labels.proofs.SetsLaws.{Changed, changed, within, leads, further-none, further-on, shorter, under-further, under-one, lead'}
 

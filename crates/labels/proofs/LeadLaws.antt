@@ -1,14 +1,13 @@
 -- From no leaf placed to all of them: the root's block is the sheet.
 use mathlib.Core.Bool.{true, false, true≢false}
 use mathlib.Core.List.{List, []}
-use mathlib.Core.Logic.{_⊎_, inl, inr, ⊎-elim}
-use mathlib.Core.Path.{_≡_, refl, ap, sym, _∙_}
-use Prim.Native.Nat.{ℕ, zero, suc, _+_, _-_, _*_, _^_, _≤_, _<_}
+use mathlib.Core.Logic.{inl, inr}
+use mathlib.Core.Path.{_≡_, refl, sym, _∙_}
+use Prim.Native.Nat.{ℕ, zero, suc, _+_, _-_, _≤_, _<_}
 use native.Mathlib.Omega.{arith}
 use lib.ListN.{length, getD, set, length-set, replicate}
 use lib.Seq.{getD-set-same, getD-set-other}
 use borrow.Author.Tests.{eqb-true}
-use Rattle.base.proofs.BoolLaws.{lt-or-ge}
 use Rattle.quad.specs.Numbers.{black, forkType}
 use Rattle.quad.specs.Block.{column, row}
 use Rattle.quad.specs.Direction.{eastStep, southStep}
@@ -18,13 +17,13 @@ use Rattle.table.specs.Nodes.{pathTo, leftOf, topOf, levelOf}
 use Rattle.table.specs.Rules.{Accepted}
 use Rattle.table.proofs.AcceptedLaws.{root-at}
 use Rattle.neighbour.proofs.SideLaws.{on-sheet}
-use Rattle.chains.specs.Chain.{Water, Shares, Chain, end, link}
+use Rattle.chains.specs.Chain.{Water, Chain, end, link}
 use Rattle.chains.specs.Words.{wordOf}
 use Rattle.chains.proofs.ChainLaws.{chain-start}
-use Rattle.chains.proofs.NodeLaws.{same-or-not, last-or-before}
-use Rattle.labels.specs.Sets.{leading, Placed, Sets, Begins, Bare, Dark, as-before, none, marked, Further}
-use Rattle.labels.specs.Lines.{Has, Met, across}
-use Rattle.labels.specs.Walk.{Lines, Coming, Gone, Goes}
+use Rattle.chains.proofs.NodeLaws.{last-or-before}
+use Rattle.labels.specs.Sets.{leading, Placed, Begins, Bare, Dark, as-before, none, marked}
+use Rattle.labels.specs.Lines.{Has, across}
+use Rattle.labels.specs.Walk.{Coming, Gone, Goes}
 use Rattle.labels.specs.Labelled.{Labelled, Cleared}
 use Rattle.labels.proofs.PlaceLaws.{has-contains, contains-has, has-moved, own-pixel}
 

@@ -1,30 +1,26 @@
 -- The walk at a leaf: what its label, its sides and the filled lines come to.
-use mathlib.Core.Bool.{true, false, cond}
 use mathlib.Core.List.{List}
-use mathlib.Core.Logic.{⊎-elim}
 use mathlib.Core.Path.{_≡_, refl, ap, sym, _∙_}
-use Prim.Native.Nat.{ℕ, suc, _+_, _-_, _*_, _^_, _≤_, _<_}
+use Prim.Native.Nat.{ℕ, _+_, _-_, _*_, _^_, _≤_, _<_}
 use native.Mathlib.Omega.{arith}
-use lib.Dec.{eqb}
 use lib.ListN.{length, getD, set}
 use lib.Pow.{pow-pos}
-use borrow.Author.Tests.{eq-eqb, ne-eqb}
+use borrow.Author.Tests.{eq-eqb}
 use Rattle.quad.specs.Numbers.{black}
-use Rattle.table.specs.Table.{nodes, type, isFork}
-use Rattle.table.specs.Nodes.{leftOf, topOf, sideOf, levelOf}
-use Rattle.table.specs.Rules.{AtLevel}
+use Rattle.table.specs.Table.{type}
+use Rattle.table.specs.Nodes.{sideOf}
 use Rattle.table.proofs.AcceptedLaws.{level-is}
 use Rattle.neighbour.proofs.SideLaws.{leaf-holds}
 use Rattle.chains.specs.Chain.{Water}
 use Rattle.chains.specs.Words.{wordOf}
-use Rattle.chains.proofs.NodeLaws.{same-or-not, last-or-before}
-use Rattle.labels.specs.Sets.{leading, placeOf, Placed, Sets, Begins, Further, Alike}
-use Rattle.labels.specs.Lines.{Has, Label, Tells, Line, MetAt, Met, across}
+use Rattle.chains.proofs.NodeLaws.{same-or-not}
+use Rattle.labels.specs.Sets.{placeOf, Placed, Begins, Further, Alike}
+use Rattle.labels.specs.Lines.{Has, Label, Line, MetAt, Met, across}
 use Rattle.labels.specs.Touch.{sameOf, Touching, Touched, Touches}
-use Rattle.labels.specs.Walk.{Lines, Left, Coming, Gone, Along, Shore, Shored, Shores, Filled, Sides, ToLeaf, PastLeaf}
+use Rattle.labels.specs.Walk.{Gone, Along, Shore, Shores, Filled, Sides, ToLeaf}
 use Rattle.labels.proofs.PlaceLaws.{black-leaf, has-contains, has-moved, own-pixel, has-across}
 use Rattle.labels.proofs.SetsLaws.{further-none, further-on}
-use Rattle.labels.proofs.LineLaws.{label-still, line-still, met-still, met-at-still}
+use Rattle.labels.proofs.LineLaws.{label-still, line-still, met-still}
 use Rattle.labels.proofs.ShoreLaws.{fill-none, fill-more}
 
 same-own : (a p r : ℕ) → r ≡ sameOf a p → r ≡ 0 → a ≡ p → ⊥

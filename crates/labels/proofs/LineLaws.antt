@@ -1,21 +1,13 @@
 -- The lines as the sets grow together, and a label joined with what a line tells.
-use mathlib.Core.Bool.{true, false}
 use mathlib.Core.List.{List}
-use mathlib.Core.Logic.{⊎-elim}
 use mathlib.Core.Path.{_≡_, refl, ap, sym, _∙_}
-use Prim.Native.Nat.{ℕ, _+_, _-_, _*_, _^_, _≤_, _<_}
-use native.Mathlib.Omega.{arith}
-use lib.ListN.{length, getD}
-use Rattle.chains.specs.Chain.{Water, Shares, Chain, link}
-use Rattle.chains.specs.Words.{wordOf}
-use Rattle.chains.proofs.ChainLaws.{chain-joined, chain-back}
-use Rattle.chains.proofs.NodeLaws.{same-or-not}
-use Rattle.labels.specs.Sets.{placeOf, Placed, Sets, Further, Alike, Joining, Joined}
-use Rattle.labels.specs.Lines.{Has, Label, Tells, Line, MetAt, Met, across}
+use Prim.Native.Nat.{ℕ, _-_}
+use Rattle.labels.specs.Sets.{Placed, Further, Joining, Joined}
+use Rattle.labels.specs.Lines.{Label, Line, MetAt, Met}
 use Rattle.labels.specs.Touch.{orOf}
-use Rattle.labels.specs.Walk.{Facing, Faced, Meets}
-use Rattle.labels.proofs.SetsLaws.{further-none, not-root}
-use Rattle.labels.proofs.TouchLaws.{or-none, or-some, set-chain}
+use Rattle.labels.specs.Walk.{Facing, Meets}
+use Rattle.labels.proofs.SetsLaws.{further-none}
+use Rattle.labels.proofs.TouchLaws.{or-none, or-some}
 
 module _ {n : ℕ} {T W W' : List ℕ} {f g : ℕ → ℕ} (m : Further n T W f W' g) where
   pub label-still : {v j : ℕ} → Label n T W f v j → Label n T W' g v j

@@ -9,12 +9,12 @@ use lib.Dec.{eqb}
 use lib.ListN.{length}
 use borrow.Author.Tests.{eq-eqb, ne-eqb}
 use Rattle.quad.specs.Numbers.{black}
-use Rattle.table.specs.Table.{nodes, type}
+use Rattle.table.specs.Table.{type}
 use Rattle.chains.specs.Chain.{Water, Chain, end}
 use Rattle.chains.specs.Words.{wordOf}
 use Rattle.chains.proofs.NodeLaws.{same-or-not}
 use Rattle.labels.specs.Sets.{leading, placeOf, Placed, Sets, Dark, as-before, Further}
-use Rattle.labels.proofs.SetsLaws.{Changed, few, not-root, other-placed, other-was, placed-still}
+use Rattle.labels.proofs.SetsLaws.{Changed, few, not-root, other-placed, other-was}
 
 -- no black leaf's word is another than before
 module _ {n : ℕ} {T W W' : List ℕ} {lead : ℕ → ℕ} (s : Sets n T W lead) (long : length W' ≡ length W) (same : (i : ℕ) → Water T i → wordOf W' i ≡ wordOf W i)

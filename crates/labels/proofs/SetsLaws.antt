@@ -1,24 +1,23 @@
 -- Sets of labelled leaves, for any leaders that fit the words: a word may go to a leaf of its set that begins earlier, a leader under another that begins
 -- earlier, and a leaf that the walk comes to into a set or into one of its own.
-use mathlib.Core.Bool.{true, false, cond}
+use mathlib.Core.Bool.{cond}
 use mathlib.Core.List.{List}
 use mathlib.Core.Logic.{⊎-elim}
 use mathlib.Core.Path.{_≡_, refl, ap, sym, _∙_}
-use Prim.Native.Nat.{ℕ, _+_, _≤_, _<_}
+use Prim.Native.Nat.{ℕ, _≤_, _<_}
 use native.Mathlib.Omega.{arith}
 use lib.Dec.{eqb}
 use lib.ListN.{length, set, length-set}
 use lib.Seq.{getD-set-same, getD-set-other}
-use borrow.Author.Tests.{eqb-true, eqb-false, eq-eqb, ne-eqb}
-use Rattle.base.proofs.BoolLaws.{by-bool, lt-or-ge}
-use Rattle.base.proofs.CaseLaws.{cond-case}
+use borrow.Author.Tests.{eqb-true, eq-eqb, ne-eqb}
+use Rattle.base.proofs.BoolLaws.{lt-or-ge}
 use Rattle.quad.specs.Numbers.{forkType}
-use Rattle.table.specs.Table.{nodes, type, isFork}
+use Rattle.table.specs.Table.{nodes, type}
 use Rattle.chains.specs.Chain.{Water, Chain}
 use Rattle.chains.specs.Words.{wordOf}
-use Rattle.chains.proofs.ChainLaws.{chain-joined, chain-back}
+use Rattle.chains.proofs.ChainLaws.{chain-joined}
 use Rattle.chains.proofs.NodeLaws.{same-or-not}
-use Rattle.labels.specs.Sets.{leading, placeOf, Placed, Sets, Bare, Dark, as-before, none, marked, Further, Alike}
+use Rattle.labels.specs.Sets.{leading, placeOf, Placed, Sets, Bare, Dark, as-before, none, marked, Further}
 
 -- the words with p's word set to v
 pub record Changed (W : List ℕ) (p v : ℕ) (W' : List ℕ) : Type 0 where

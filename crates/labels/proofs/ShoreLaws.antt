@@ -1,24 +1,20 @@
 -- Along the north side and the west side of a black leaf: one pixel more is met, whichever side it lies on.
 use mathlib.Core.List.{List}
-use mathlib.Core.Logic.{⊎-elim}
 use mathlib.Core.Path.{_≡_, refl, ap, sym, _∙_}
-use Rattle.quad.specs.Numbers.{black}
-use Prim.Native.Nat.{ℕ, suc, _+_, _-_, _*_, _^_, _≤_, _<_}
+use Prim.Native.Nat.{ℕ, _+_, _-_, _*_, _≤_, _<_}
 use native.Mathlib.Omega.{arith}
 use lib.ListN.{length, getD, set, length-set}
 use lib.Seq.{getD-set-same, getD-set-other}
 use lib.Pow.{pow-pos}
 use borrow.Author.Tests.{ne-eqb}
-use Rattle.table.specs.Nodes.{leftOf, topOf, sideOf}
-use Rattle.chains.specs.Chain.{Water, Shares, Chain, end, link}
-use Rattle.chains.specs.Words.{wordOf}
-use Rattle.chains.proofs.ChainLaws.{chain-joined, chain-back}
+use Rattle.chains.specs.Chain.{Water, Shares, Chain, link}
+use Rattle.chains.proofs.ChainLaws.{chain-joined}
 use Rattle.chains.proofs.NodeLaws.{same-or-not, last-or-before}
-use Rattle.labels.specs.Sets.{placeOf, Placed, Sets, Further, Alike}
-use Rattle.labels.specs.Lines.{Has, Label, Tells, Line, MetAt, Met, across}
+use Rattle.labels.specs.Sets.{Placed, Sets, Further, Alike}
+use Rattle.labels.specs.Lines.{Has, Label, Line, across}
 use Rattle.labels.specs.Touch.{apartOf, oddOf}
-use Rattle.labels.specs.Walk.{Lines, Facing, Faced, Meets, Nexts, Along, Shore, Shored, Shores, Quiet, Sides, Filled}
-use Rattle.labels.proofs.PlaceLaws.{own-pixel, has-across}
+use Rattle.labels.specs.Walk.{Facing, Meets, Nexts, Along, Shore, Shores, Quiet, Sides, Filled}
+use Rattle.labels.proofs.PlaceLaws.{has-across}
 use Rattle.labels.proofs.SetsLaws.{further-none, further-on, not-root}
 use Rattle.labels.proofs.TouchLaws.{apart-is, set-chain, shares-north, shares-west}
 use Rattle.labels.proofs.LineLaws.{line-still, label-still}

@@ -1,28 +1,25 @@
 -- What a leaf takes from the labels north and west of its top left pixel, in the code's own values: first its own word, then the two sets joined.
-use mathlib.Core.Bool.{true, false, cond}
 use mathlib.Core.List.{List}
-use mathlib.Core.Logic.{⊎-elim}
 use mathlib.Core.Path.{_≡_, refl, ap, sym, _∙_}
-use Prim.Native.Nat.{ℕ, _+_, _-_, _*_, _^_, _≤_, _<_}
+use Prim.Native.Nat.{ℕ, _+_, _-_, _*_, _≤_, _<_}
 use native.Mathlib.Omega.{arith}
-use lib.Dec.{eqb}
 use lib.ListN.{length, set, length-set}
 use borrow.Author.Tests.{eq-eqb, ne-eqb}
 use Rattle.quad.specs.Numbers.{black}
 use Rattle.quad.specs.Direction.{eastStep, southStep}
-use Rattle.table.specs.Table.{nodes, type}
+use Rattle.table.specs.Table.{type}
 use Rattle.table.specs.Nodes.{leftOf, topOf}
 use Rattle.table.proofs.AcceptedLaws.{leaf-colour}
-use Rattle.chains.specs.Chain.{Water, Shares, Chain, end, link}
+use Rattle.chains.specs.Chain.{Water, Shares, Chain, link}
 use Rattle.chains.specs.Words.{wordOf}
 use Rattle.chains.proofs.ChainLaws.{chain-joined, chain-back}
 use Rattle.chains.proofs.NodeLaws.{same-or-not}
 use Rattle.labels.specs.Sets.{leading, placeOf, Placed, Sets, as-before, none, Further, Joining, Joined}
-use Rattle.labels.specs.Lines.{Has, Label, Tells, Line, MetAt, across}
-use Rattle.labels.specs.Touch.{orOf, blackOf, someOf, apartOf, Touching, Touched, Touches}
+use Rattle.labels.specs.Lines.{Has, Label, across}
+use Rattle.labels.specs.Touch.{orOf, blackOf, someOf, apartOf, Touching, Touched}
 use Rattle.labels.proofs.PlaceLaws.{has-contains, own-pixel, has-across}
 use Rattle.labels.proofs.SetsLaws.{Changed, changed, few, not-root, further-none, further-on}
-use Rattle.labels.proofs.PlacedLaws.{further-same, Fits, fits-own, fits-label, then, then-same, now-placed, placed-further, with-here, not-before}
+use Rattle.labels.proofs.PlacedLaws.{further-same, Fits, fits-own, fits-label, then, then-same, now-placed, placed-further, with-here}
 
 pub or-none : (a b : ℕ) → a ≡ 0 → orOf a b ≡ b
 unfolding orOf

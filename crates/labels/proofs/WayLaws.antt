@@ -1,9 +1,9 @@
 -- How many words lead on from a leaf: fewer than there are places, since each leads to an earlier one.
-use mathlib.Core.Bool.{true, false, cond}
+use mathlib.Core.Bool.{cond}
 use mathlib.Core.List.{List}
 use mathlib.Core.Logic.{⊎-elim}
-use mathlib.Core.Path.{_≡_, refl, ap, sym, _∙_}
-use Prim.Native.Nat.{ℕ, zero, suc, _+_, _*_, _≤_, _<_}
+use mathlib.Core.Path.{_≡_, ap}
+use Prim.Native.Nat.{ℕ, zero, suc, _*_, _≤_, _<_}
 use native.Mathlib.Omega.{arith}
 use lib.Dec.{ltb}
 use borrow.Author.Tests.{lt-ltb, le-ltb}
@@ -12,7 +12,7 @@ use Rattle.chains.specs.Words.{wordOf}
 use Rattle.labels.specs.Sets.{leading, placeOf, Placed, Sets, Asking}
 use Rattle.labels.specs.Lines.{across}
 use Rattle.labels.proofs.PlaceLaws.{own-pixel, has-across}
-use Rattle.labels.proofs.JoinLaws.{OnWay, way-less, placed-here}
+use Rattle.labels.proofs.JoinLaws.{OnWay, placed-here}
 
 -- at most k of them
 unfoldable pub steps : List ℕ → ℕ → ℕ → ℕ

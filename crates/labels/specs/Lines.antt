@@ -3,7 +3,6 @@
 use mathlib.Core.List.{List}
 use mathlib.Core.Path.{_≡_}
 use Prim.Native.Nat.{ℕ, _+_, _-_, _^_, _≤_, _<_}
-use lib.ListN.{getD}
 use Rattle.quad.specs.Numbers.{topLevel}
 use Rattle.table.specs.Table.{nodes}
 use Rattle.table.specs.Nodes.{leftOf, topOf, sideOf}

@@ -2,7 +2,7 @@
 use mathlib.Core.Bool.{false, cond}
 use mathlib.Core.List.{List}
 use mathlib.Core.Path.{_≡_}
-use Prim.Native.Nat.{ℕ, _+_, _-_, _<_}
+use Prim.Native.Nat.{ℕ, _-_, _<_}
 use lib.Dec.{eqb}
 use Rattle.quad.specs.Numbers.{black}
 use Rattle.table.specs.Table.{nodes, type, isFork}

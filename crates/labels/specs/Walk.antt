@@ -1,17 +1,17 @@
 -- What the walk does with a block: its black leaves are placed and joined with those north and west of them, and the lines tell of its own last row and column.
 -- Inner definitions: no outside call's statement cites them.
-use mathlib.Core.Bool.{true, false}
+use mathlib.Core.Bool.{false}
 use mathlib.Core.List.{List}
 use mathlib.Core.Path.{_≡_}
 use Prim.Native.Nat.{ℕ, _+_, _-_, _*_, _^_, _≤_, _<_}
 use lib.ListN.{length, getD}
 use Rattle.quad.specs.Numbers.{black}
-use Rattle.table.specs.Table.{nodes, type, isFork}
+use Rattle.table.specs.Table.{type, isFork}
 use Rattle.table.specs.Rules.{AtLevel}
 use Rattle.table.specs.Nodes.{leftOf, topOf, sideOf}
 use Rattle.chains.specs.Chain.{Water, Chain}
 use Rattle.chains.specs.Words.{wordOf}
-use Rattle.labels.specs.Sets.{leading, placeOf, Placed, Sets, Begins, Further, Alike}
+use Rattle.labels.specs.Sets.{leading, Placed, Sets, Begins, Further, Alike}
 use Rattle.labels.specs.Lines.{Has, Label, Line, Met, across}
 
 -- the lines L tell of what lies north and west of the block of level l at (x, y)

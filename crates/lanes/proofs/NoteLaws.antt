@@ -15,7 +15,7 @@ use Rattle.base.specs.Tab.{sum}
 use Rattle.base.proofs.BoolLaws.{by-bool}
 use Rattle.base.proofs.SumLaws.{sum-most}
 use Rattle.quad.specs.Numbers.{forkType, topLevel, maxWords}
-use Rattle.quad.specs.Tree.{leaf, sonOf, colour, sizeOf, likeTypes, treeOf}
+use Rattle.quad.specs.Tree.{sonOf, colour, sizeOf, likeTypes, treeOf}
 use Rattle.quad.proofs.TreeLaws.{leaf-by-type, size-fits}
 use Rattle.quad.proofs.PictureLaws.{tree-son, tree-within}
 use Rattle.lanes.specs.Sums.{Colours}

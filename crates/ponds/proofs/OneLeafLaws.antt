@@ -2,19 +2,19 @@
 use mathlib.Core.Bool.{Bool, true, false}
 use mathlib.Core.List.{List}
 use mathlib.Core.Path.{_≡_, refl, ap, sym, _∙_}
-use Prim.Native.Nat.{ℕ, _+_, _≤_, _<_}
+use Prim.Native.Nat.{ℕ, _≤_, _<_}
 use native.Mathlib.Omega.{arith}
 use lib.Dec.{eqb}
 use lib.ListN.{length, getD, set, length-set}
 use lib.Seq.{getD-set-same}
 use borrow.Author.Tests.{eq-eqb, ne-eqb}
-use Rattle.quad.specs.Numbers.{black, forkType}
+use Rattle.quad.specs.Numbers.{black}
 use Rattle.quad.specs.Tree.{sizeOf}
 use Rattle.table.specs.Table.{nodes, type, isFork}
 use Rattle.table.specs.Rules.{one, Accepted}
 use Rattle.table.proofs.AcceptedLaws.{tree-leaf}
 use Rattle.table.proofs.SizeLaws.{tree-size}
-use Rattle.chains.specs.Chain.{Water, Chain, end}
+use Rattle.chains.specs.Chain.{end}
 use Rattle.chains.proofs.ChainLaws.{chain-start, chain-end}
 use Rattle.chains.proofs.NodeLaws.{same-or-not}
 use Rattle.register.specs.Entries.{leafAt}

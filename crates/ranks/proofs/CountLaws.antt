@@ -1,5 +1,5 @@
 -- Counting off: the next in a queue is the leader with the next place, so it gets the next number, and those before it keep theirs.
-use mathlib.Core.Bool.{Bool, true}
+use mathlib.Core.Bool.{Bool}
 use mathlib.Core.List.{List}
 use mathlib.Core.Logic.{_⊎_, ⊎-elim}
 use mathlib.Core.Path.{_≡_, refl, ap, sym, _∙_}
@@ -9,7 +9,6 @@ use lib.ListN.{length, set, length-set}
 use lib.Seq.{getD-set-same, getD-set-other}
 use Rattle.base.proofs.BoolLaws.{lt-or-ge}
 use Rattle.quad.specs.Numbers.{topLevel}
-use Rattle.table.specs.Table.{nodes}
 use Rattle.table.specs.Nodes.{leftOf, topOf}
 use Rattle.chains.specs.Words.{wordOf}
 use Rattle.labels.specs.Sets.{leading, placeOf}
@@ -138,15 +137,12 @@ module _ {n : ℕ} {T F W R : List ℕ} (h : Full n T F W R) {y at count : ℕ} 
     unfolding placeOf
     uncounted = let k = g .ahead .some some in g .counted .rest at (λ l p. omega (arith, p, k .1, k .2))
 
-    pub going-high : leading ≤ wordOf W' at
-    going-high = rw uncounted (h .queued .high at (g .ahead .some some .0))
-
     pub going-less : count < 4 ^ topLevel
     going-less =
         let k = g .ahead .some some in
         omega (arith, g .counted .few, k .2, left-top n T (h .ready .sets .accepted) at (leader .water .node), row)
 
-    pub going-more : Going n T F W (h .now) y (wordOf W' at - leading) (count + 1) (set W' at (leading + (count + 1)))
+    pub going-more : Going n T F W (h .now) y (wordOf W' at) (count + 1) (set W' at (leading + (count + 1)))
     unfolding placeOf
     going-more =
         let k = g .ahead .some some in

@@ -48,14 +48,6 @@ pub water-some : {n : ℕ} {T F : List ℕ} → Labelled n T F → (p : ℕ) →
 water-some {T = T} r p w z = omega (arith, w .wet, ap (type T) z, eqb-true (type T 0) forkType (r .sets .root))
 
 module _ {n : ℕ} {T F : List ℕ} {D : ℕ → Bool} {W R : List ℕ} (g : Queued n T F D W R) where
-  -- the head of a queue is a node
-  pub head-node : Labelled n T F → (y : ℕ) → rowOf R y < nodes T
-  head-node r y =
-      ⊎-elim
-      (λ (z : rowOf R y ≡ 0). omega (arith, z, r .sets .accepted .sized .some))
-      (λ (z : rowOf R y ≡ 0 → ⊥). g .leads (rowOf R y) (g .heads y .some z .0) .water .node)
-      (same-or (rowOf R y) 0)
-
   -- leader p, with the leaders of its row east of it
   module _ (r : Labelled n T F) (p : ℕ) (lp : Leads T F p) (new : D p ≡ false)
       (east : (i : ℕ) → D i ≡ true → topOf n T i ≡ topOf n T p → leftOf n T p < leftOf n T i) where
@@ -63,7 +55,7 @@ module _ {n : ℕ} {T F : List ℕ} {D : ℕ → Bool} {W R : List ℕ} (g : Que
     y = topOf n T p
 
     after : List ℕ
-    after = set W p (leading + rowOf R y)
+    after = set W p (rowOf R y)
 
     rows : List ℕ
     rows = set R y p
@@ -83,13 +75,13 @@ module _ {n : ℕ} {T F : List ℕ} {D : ℕ → Bool} {W R : List ℕ} (g : Que
     unfolding also
     old-or i a = ⊎-elim (λ (d : D i ≡ true). inl d) (λ (e : eqb i p ≡ true). inr (eqb-true i p e)) (either (D i) (eqb i p) a)
 
-    is : wordOf after p ≡ leading + rowOf R y
+    is : wordOf after p ≡ rowOf R y
     unfolding after
-    is = getD-set-same W p (leading + rowOf R y) 0 (omega (arith, g .size, lp .water .node))
+    is = getD-set-same W p (rowOf R y) 0 (omega (arith, g .size, lp .water .node))
 
     same : (i : ℕ) → (i ≡ p → ⊥) → wordOf after i ≡ wordOf W i
     unfolding after
-    same i h = getD-set-other W p i (leading + rowOf R y) 0 h
+    same i h = getD-set-other W p i (rowOf R y) 0 h
 
     kept : (i : ℕ) → D i ≡ true → wordOf after i ≡ wordOf W i
     kept i d = same i (λ e. true≢false (sym (rw e at d) ∙ new))
@@ -131,7 +123,7 @@ module _ {n : ℕ} {T F : List ℕ} {D : ℕ → Bool} {W R : List ℕ} (g : Que
 
     long : length after ≡ length W
     unfolding after
-    long = length-set W p (leading + rowOf R y)
+    long = length-set W p (rowOf R y)
 
     high : length rows ≡ length R
     unfolding rows
@@ -146,11 +138,6 @@ module _ {n : ℕ} {T F : List ℕ} {D : ℕ → Bool} {W R : List ℕ} (g : Que
       still = λ i a.
           let z = neither (D i) (eqb i p) (unfold also in a) in
           same i (eqb-false i p (z .1)) ∙ g .still i (z .0);
-      high = λ i a.
-          ⊎-elim
-          (λ (d : D i ≡ true). omega (arith, kept i d, g .high i d))
-          (λ (e : i ≡ p). omega (arith, ap (wordOf after) e, is))
-          (old-or i a);
       heads = λ z.
           ⊎-elim
           (λ (e : z ≡ topOf n T p). rw (e, row-is) own-head)
@@ -159,12 +146,12 @@ module _ {n : ℕ} {T F : List ℕ} {D : ℕ → Bool} {W R : List ℕ} (g : Que
       nexts = λ i a.
           ⊎-elim
           (λ (d : D i ≡ true). rw (kept i d) (ahead-too (λ t l. omega (arith, l, east i d (sym t))) (g .nexts i d)))
-          (λ (e : i ≡ p). let v : wordOf after p - leading ≡ rowOf R (topOf n T p) = omega (arith, is) in rw (e, v) own-next)
+          (λ (e : i ≡ p). rw (e, is) own-next)
           (old-or i a);
     }
 
     pub leader-passed : (l : ℕ) → AtLevel n T p l
-        → Passed n T F D (leftOf n T p) (topOf n T p) l (set W p (leading + rowOf R (topOf n T p))) (set R (topOf n T p) p)
+        → Passed n T F D (leftOf n T p) (topOf n T p) l (set W p (rowOf R (topOf n T p))) (set R (topOf n T p) p)
     unfolding after rows y
     leader-passed l h = record {
       now = also;
@@ -191,11 +178,10 @@ module _ {n : ℕ} {T F : List ℕ} {D : ℕ → Bool} {W R : List ℕ} (g : Que
     pub leaf-row : y < 2 ^ topLevel
     leaf-row = omega (arith, e, top-top n T (r .sets .accepted) p (h .node))
 
-    pub leaf-room : Room W p (rowOf R y)
+    pub leaf-room : Room W p
     leaf-room = record {
       node = omega (arith, g .size, h .node);
       few = omega (arith, g .size, words-few (r .sets .accepted));
-      head = omega (arith, g .size, head-node r y);
     }
 
     module _ (east : East n T D (leftOf n T p) (topOf n T p) l) where
@@ -226,7 +212,7 @@ module _ {n : ℕ} {T F : List ℕ} {D : ℕ → Bool} {W R : List ℕ} (g : Que
           let z = leaf-only h f i (li .water .node) (water-leaf T i (li .water .wet)) b in
           omega (arith, li .high, ap (wordOf F) z, g .still p leaf-new))))
           (λ (m : leading ≤ wordOf W p).
-          let ew : W' ≡ set W p (leading + rowOf R (topOf n T p)) = a .words ∙ rw (le-ltb (wordOf W p) leading m, e) in
+          let ew : W' ≡ set W p (rowOf R (topOf n T p)) = a .words ∙ rw (le-ltb (wordOf W p) leading m, e) in
           let er : R' ≡ set R (topOf n T p) p = a .rows ∙ rw (le-ltb (wordOf W p) leading m, e) in
           rw (ew, er)
           (leader-passed r p (leaf-leads m) leaf-new (λ i d t. omega (arith, east i d (omega (arith, t)) (omega (arith, t, pow-pos l)), pow-pos l)) l h))

@@ -1,6 +1,6 @@
 -- From the leaders' queues to the numbers: the walk begins with no leader in a queue and ends with every one; they are counted off; each word then leads to its
 -- leader's, and what is left without the mark is a number from 1 on, in the order of places.
-use mathlib.Core.Bool.{Bool, true, false, cond, false≢true}
+use mathlib.Core.Bool.{true, false, cond, false≢true}
 use mathlib.Core.List.{List}
 use mathlib.Core.Logic.{_⊎_, inl, inr, ⊎-elim}
 use mathlib.Core.Path.{_≡_, refl, ap, sym, _∙_}
@@ -47,7 +47,6 @@ root-reach {n} {T} {F} {R} r tall none =
         tall = tall;
         leads = λ i d. absurd (off d);
         still = λ i d. refl;
-        high = λ i d. absurd (off d);
         heads = λ y. record { none = λ e j d. absurd (off d); some = λ z. absurd (z (none y)); first = λ j d. absurd (off d) };
         nexts = λ i d. absurd (off d);
       };

@@ -134,7 +134,7 @@ module _ {n : ℕ} {T F : List ℕ} {D : ℕ → Bool} {W R : List ℕ} {p l y :
         pub turn-row : v < 2 ^ topLevel
         turn-row = leaf-row (s .queued) (h .ready) place f t
 
-        pub turn-room : Room W₁ k (rowOf R₁ v)
+        pub turn-room : Room W₁ k
         turn-room = leaf-room (s .queued) (h .ready) place f t
 
         pub turn-leaf : {W₂ : List ℕ} {r : ℕ} → Stood W₁ k (rowOf R₁ v) W₂ r → Part n T F D p l q W₂ (set R₁ v r)
@@ -247,7 +247,7 @@ module _ {n : ℕ} {T F : List ℕ} {D : ℕ → Bool} {W R : List ℕ} {p y : �
   pixel-top : v ≡ topOf n T k
   pixel-top = rw e (omega (arith, t, h .top, son-top (h .place) (h .fork) q q4))
 
-  pub pixel-room : Room W₁ k (rowOf R₁ v)
+  pub pixel-room : Room W₁ k
   pixel-room = turn-room h s refl q4 e pixel-leaf pixel-top
 
   pixel-stands : {W₂ : List ℕ} {r : ℕ} → Stood W₁ k (rowOf R₁ v) W₂ r → Part n T F D p 1 q W₂ (set R₁ v r)
@@ -268,9 +268,6 @@ module _ {n : ℕ} {T F : List ℕ} {D : ℕ → Bool} {W R : List ℕ} {p y : �
     (q4 : q < 4) (s : Part n T F D p 1 (q + 1) W₁ (set R₁ v a)) {k : ℕ} (e : k ≡ son T p q) (t : v ≡ y + q / 2) (lt : v < 2 ^ topLevel) where
   head-is : rowOf (set R₁ v a) v ≡ a
   head-is = getD-set-same R₁ v a 0 (omega (arith, lt, s .queued .tall, length-set R₁ v a))
-
-  pub second-room : Room W₁ k a
-  second-room = rw head-is at (pixel-room h v q q4 s e t)
 
   pub second-more : {W₂ : List ℕ} {b : ℕ} → Stood W₁ k a W₂ b → Part n T F D p 1 q W₂ (set R₁ v b)
   second-more {W₂} {b} d =

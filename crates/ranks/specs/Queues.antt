@@ -5,7 +5,7 @@ use mathlib.Core.Bool.{Bool, true, false, cond}
 use mathlib.Core.List.{List}
 use mathlib.Core.Logic.{_⊎_}
 use mathlib.Core.Path.{_≡_}
-use Prim.Native.Nat.{ℕ, _+_, _-_, _^_, _≤_, _<_}
+use Prim.Native.Nat.{ℕ, _+_, _^_, _≤_, _<_}
 use lib.Dec.{ltb}
 use lib.ListN.{length, getD, set}
 use Rattle.quad.specs.Numbers.{topLevel}
@@ -28,7 +28,7 @@ pub record Leads (T F : List ℕ) (i : ℕ) : Type 0 where
 
 -- the word with that next one where it leads, and the head of a queue that p's goes to where it leads
 unfoldable pub linkedOf : ℕ → ℕ → ℕ
-linkedOf word next = cond (ltb word leading) word (leading + next)
+linkedOf word next = cond (ltb word leading) word next
 
 unfoldable pub headOf : ℕ → ℕ → ℕ → ℕ
 headOf word p head = cond (ltb word leading) head p
@@ -45,9 +45,8 @@ pub record Queued (n : ℕ) (T F : List ℕ) (D : ℕ → Bool) (W R : List ℕ)
   pub tall : length R ≡ 2 ^ topLevel
   pub leads : (i : ℕ) → D i ≡ true → Leads T F i
   pub still : (i : ℕ) → D i ≡ false → wordOf W i ≡ wordOf F i
-  pub high : (i : ℕ) → D i ≡ true → leading ≤ wordOf W i
   pub heads : (y : ℕ) → Ahead n T D y 0 (rowOf R y)
-  pub nexts : (i : ℕ) → D i ≡ true → Ahead n T D (topOf n T i) (leftOf n T i + 1) (wordOf W i - leading)
+  pub nexts : (i : ℕ) → D i ≡ true → Ahead n T D (topOf n T i) (leftOf n T i + 1) (wordOf W i)
 
 -- in the rows of the block of level l at (x, y), the leaders that stand in queues begin east of it
 abbrev pub East : ℕ → List ℕ → (ℕ → Bool) → ℕ → ℕ → ℕ → Type 0
@@ -80,11 +79,10 @@ abbrev pub Through : List ℕ → List ℕ → List ℕ → ℕ → ℕ → ℕ 
 Through T W R p l y W' R' =
     (n : ℕ) (F : List ℕ) (D : ℕ → Bool) → Reach n F D T W R p l y → Passed n T F D (leftOf n T p) (topOf n T p) l W' R'
 
--- there is a word for leaf p, and the first of a queue is a node
-pub record Room (W : List ℕ) (p first : ℕ) : Type 0 where
+-- there is a word for leaf p, and its number is one of 32 bits
+pub record Room (W : List ℕ) (p : ℕ) : Type 0 where
   pub node : p < length W
   pub few : length W < leading
-  pub head : first < length W
 
 -- leaf p's word, and the first of the queue, once it stands there where it leads
 pub record Stood (W : List ℕ) (p first : ℕ) (W' : List ℕ) (r : ℕ) : Type 0 where

@@ -3,10 +3,9 @@
 use mathlib.Core.Bool.{cond}
 use mathlib.Core.List.{List}
 use mathlib.Core.Path.{_≡_}
-use Prim.Native.Nat.{ℕ, zero, suc, _+_, _-_, _/_, _%_, _^_, _≤_, _<_}
+use Prim.Native.Nat.{ℕ, zero, suc, _-_, _^_, _≤_, _<_}
 use lib.Dec.{ltb}
-use lib.ListN.{length, getD}
-use Rattle.base.specs.Tab.{sum}
+use lib.ListN.{length}
 use Rattle.quad.specs.Numbers.{topLevel}
 use Rattle.chains.specs.Words.{wordOf}
 use Rattle.labels.specs.Sets.{leading}

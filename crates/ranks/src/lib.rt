@@ -2,7 +2,6 @@
 use table::word_at;
 ghost use mathlib.Core.Path.{_≡_};
 ghost use Prim.Native.Nat.{_<_, _≤_};
-ghost use Rattle.labels.specs.Sets.{leading};
 ghost use Rattle.labels.specs.Labelled.{Labelled};
 ghost use Rattle.ranks.specs.Queues.{linkedOf, headOf, Room, Stood, Reached, Through};
 ghost use Rattle.ranks.specs.Counts.{Row, RowOff, Rows, RowsOff};
@@ -15,15 +14,14 @@ const LEADING: u32 = 2147483648;
 // The widest sheet has so many rows, 2 ^ TOP_LEVEL.
 const ROWS: usize = 128;
 
-// A leader's word becomes the way to the next in its row, any other stays.
+// A leader's word becomes the next leader in its row, any other stays.
 fn linked(word: u32, next: u32) -> u32
-    requires { ⌜ next < leading ⌝ }
     ensures { λ r. ⌜ r ≡ linkedOf word next ⌝ }
 {
     if word < LEADING {
         return word;
     }
-    LEADING + next
+    next
 }
 
 // The head of a row's queue once p, whose word this is, has gone there if it leads.
@@ -38,7 +36,7 @@ fn head(word: u32, p: u32, first: u32) -> u32
 
 // Leaf p goes before the first of a row's queue where it leads. Gives the first one then. Nothing waits for a guess whether it does.
 fn stand(words: &mut [u32], p: usize, first: u32) -> u32
-    requires { ⌜ Room (now words) p first ⌝ }
+    requires { ⌜ Room (now words) p ⌝ }
     ensures { λ r. ⌜ Stood (now (words .entry)) p first (now (words .exit)) r ⌝ }
 {
     let word = words[p];
@@ -100,7 +98,7 @@ fn count_row(words: &mut [u32], first: u32, before: u32) -> u32
     let mut at = first;
     while at != 0 {
         let p = at as usize;
-        at = words[p] - LEADING;
+        at = words[p];
         count += 1;
         words[p] = LEADING + count;
     }

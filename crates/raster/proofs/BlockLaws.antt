@@ -8,7 +8,7 @@ use lib.Arith.{digits-lt}
 use lib.Pow.{pow-pos}
 use Rattle.base.proofs.PowLaws.{pow-product, four-pow}
 use Rattle.quad.specs.Numbers.{topLevel}
-use Rattle.quad.specs.Tree.{Coloured, join, treeOf}
+use Rattle.quad.specs.Tree.{Coloured, treeOf}
 use Rattle.quad.proofs.TreeLaws.{pixels-top}
 use Rattle.quad.proofs.PictureLaws.{tree-coloured}
 use Rattle.raster.specs.Raster.{pictureOf}

@@ -3,7 +3,7 @@ use mathlib.Core.Path.{sym, _∙_}
 use Prim.Native.Nat.{_-_, _^_}
 use native.Mathlib.Omega.{arith}
 use Rattle.quad.specs.Numbers.{topLevel}
-use Rattle.ranks.proofs.CountLaws.{Rowing, rowing-none, rowing-all, going-node, going-high, going-less, going-more}
+use Rattle.ranks.proofs.CountLaws.{Rowing, rowing-none, rowing-all, going-node, going-less, going-more}
 use Rattle.ranks.proofs.QueueLaws.{words-few}
 use Rattle.ranks.proofs.count_row.Statement.{statement}
 use Rattle.ranks.proofs.count_row.Tie as tie
@@ -25,9 +25,6 @@ mul-at c = let z = c .before .before .pre in let g = c .before .loop .inv z in o
 
 slice-read-at : tie.Need-slice-read-at Inv-loop μ-loop
 slice-read-at c = let z = c .before .before .before .pre in let g = c .before .before .loop .inv z in going-node (z .full) (z .row) g (c .before .loop-test .taken)
-
-sub-at : tie.Need-sub-at Inv-loop μ-loop
-sub-at c = let z = c .before .before .before .pre in let g = c .before .before .loop .inv z in going-high (z .full) (z .row) g (c .before .loop-test .taken)
 
 add-count : tie.Need-add-count Inv-loop μ-loop
 add-count c = let z = c .before .before .before .pre in let g = c .before .before .loop .inv z in omega (arith, going-less (z .full) (z .row) g (c .before .loop-test .taken))
@@ -63,7 +60,6 @@ count-row-spec =
     cast-p
     mul-at
     slice-read-at
-    sub-at
     add-count
     add-words
     mul-words

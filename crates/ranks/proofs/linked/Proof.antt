@@ -9,12 +9,9 @@ returns : tie.Need-returns
 unfolding linkedOf
 returns c = search (cases, needs)
 
-add-result : tie.Need-add-result
-add-result c = search needs
-
 returns-2 : tie.Need-returns-2
 unfolding linkedOf
 returns-2 c = search (cases, needs)
 
 pub linked-spec : {M : Type 1} → statement M
-linked-spec = tie.close (tie.spec returns add-result returns-2)
+linked-spec = tie.close (tie.spec returns returns-2)

@@ -2,7 +2,7 @@
 use Prim.Native.Nat.{_+_}
 use native.Mathlib.Omega.{arith}
 use lib.ListN.{set}
-use Rattle.ranks.proofs.SonLaws.{part-none, pixel-room, pixel-more, south-row, second-room, second-more, part-all}
+use Rattle.ranks.proofs.SonLaws.{part-none, pixel-room, pixel-more, south-row, second-more, part-all}
 use borrow.Author.Needs.{needs}
 use Rattle.ranks.proofs.stand_pixels.Statement.{statement}
 use Rattle.ranks.proofs.stand_pixels.Tie as tie
@@ -30,9 +30,8 @@ word-at-requires-2 c κs = search needs
 stand-requires-2 : tie.Need-stand-requires-2
 stand-requires-2 c κs =
     let r = c .before .before .before .before .before .before .before .before .before .before .pre .reach in
-    let wide = south-row r in
     let three = pixel-more r (c .before .before .before .before .before .before .before .before .before .before .args .y + 1) 3 (omega arith) (part-none r) (c .before .before .before .before .before .before .word-at .ensures) (c .before .before .before .before .stand .ensures) (omega arith) in
-    second-room r (c .before .before .before .before .before .before .before .before .before .before .args .rows .now) (c .before .before .before .before .before .before .before .before .before .before .args .y + 1) (c .before .before .before .before .stand .result) 2 (omega arith) three (c .word-at2 .ensures) (omega arith) wide
+    pixel-room r (c .before .before .before .before .before .before .before .before .before .before .args .y + 1) 2 (omega arith) three (c .word-at2 .ensures) (omega arith)
 
 add-rows : tie.Need-add-rows
 add-rows c = let r = c .before .before .before .before .before .before .before .before .before .before .before .before .before .pre .reach in omega (arith, south-row r)
@@ -70,7 +69,7 @@ stand-requires-4 c κs =
     let three = pixel-more r (c .before .before .before .before .before .before .before .before .before .before .before .before .before .before .before .before .before .before .before .before .before .args .y + 1) 3 (omega arith) (part-none r) (c .before .before .before .before .before .before .before .before .before .before .before .before .before .before .before .before .before .word-at .ensures) (c .before .before .before .before .before .before .before .before .before .before .before .before .before .before .before .stand .ensures) (omega arith) in
     let two = second-more r (c .before .before .before .before .before .before .before .before .before .before .before .before .before .before .before .before .before .before .before .before .before .args .rows .now) (c .before .before .before .before .before .before .before .before .before .before .before .before .before .before .before .before .before .before .before .before .before .args .y + 1) (c .before .before .before .before .before .before .before .before .before .before .before .before .before .before .before .stand .result) 2 (omega arith) three (c .before .before .before .before .before .before .before .before .before .before .before .word-at2 .ensures) (omega arith) wide (c .before .before .before .before .before .before .before .before .before .before .stand2 .ensures) in
     let one = pixel-more r (c .before .before .before .before .before .before .before .before .before .before .before .before .before .before .before .before .before .before .before .before .before .args .y) 1 (omega arith) two (c .before .before .before .before .before .before .word-at3 .ensures) (c .before .before .before .before .stand3 .ensures) (omega arith) in
-    second-room r (set (c .before .before .before .before .before .before .before .before .before .before .before .before .before .before .before .before .before .before .before .before .before .args .rows .now) (c .before .before .before .before .before .before .before .before .before .before .before .before .before .before .before .before .before .before .before .before .before .args .y + 1) (c .before .before .before .before .before .before .before .before .before .before .stand2 .result)) (c .before .before .before .before .before .before .before .before .before .before .before .before .before .before .before .before .before .before .before .before .before .args .y) (c .before .before .before .before .stand3 .result) 0 (omega arith) one (c .word-at4 .ensures) (omega arith) (omega (arith, wide))
+    pixel-room r (c .before .before .before .before .before .before .before .before .before .before .before .before .before .before .before .before .before .before .before .before .before .args .y) 0 (omega arith) one (c .word-at4 .ensures) (omega arith)
 
 mul-rows-2 : tie.Need-mul-rows-2
 mul-rows-2 c = let r = c .before .before .before .before .before .before .before .before .before .before .before .before .before .before .before .before .before .before .before .before .before .before .before .before .pre .reach in omega (arith, south-row r)
