@@ -2,12 +2,8 @@
 use mathlib.Core.Path.{_≡_, refl, ap, sym, _∙_}
 use Prim.Native.Nat.{ℕ, zero, suc, _+_, _-_, _*_, _/_, _^_, _<_}
 use native.Mathlib.Nat.{add-comm, add-mul, mul-assoc, mul-comm, pow-succ', div-lt-iff-lt-mul}
-use native.Mathlib.Numerals.{add-one}
 use native.Mathlib.Omega.{arith}
 use lib.Pow.{pow-add, pow-pos}
-
-pub pow-more : (b l : ℕ) → b ^ (l + 1) ≡ b * b ^ l
-pow-more b l = ap (λ (k : ℕ). b ^ k) (add-one l) ∙ pow-succ' b l
 
 pub pow-less : (b l : ℕ) → 0 < l → b ^ l ≡ b * b ^ (l - 1)
 pow-less b l h =

@@ -218,9 +218,6 @@ module _ (T W L : List ℕ) (p x y : ℕ) (f : isFork T p ≡ true) (c₀ c₁ c
         F₃ : Filled L₂ c x (y + 1) 1 L₃
         F₃ = filled-one L₂ c x (y + 1) long₂ (omega (arith, lx)) ly
 
-        long₃ : length L₃ ≡ 2 * across
-        long₃ = F₃ .long ∙ long₂
-
         g₂ : PastLeaf W₂ L₂ k₂ c₂ 1 x (y + 1) W₃ L₃ (sameOf c c₂)
         g₂ = pixel-touched long₂ (omega (arith, lx)) ly _ _ (place + across) north₂ west₂ (omega (arith, ep)) W₃ c h₂
 

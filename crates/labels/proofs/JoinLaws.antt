@@ -35,9 +35,6 @@ module _ {W : List ℕ} {p q w : ℕ} (a : Asking W p) (o : OnWay W p q w) where
     pub way-within : w < length W
     way-within = within (a .sets) w (next .0)
 
-    pub way-less : placeOf (a .n) (a .T) w < placeOf (a .n) (a .T) q
-    way-less = next .2
-
     pub way-on : {v : ℕ} → v ≡ wordOf W w → OnWay W p w v
     way-on e = record {
       word = e;
@@ -89,18 +86,11 @@ module _ {W : List ℕ} {p r : ℕ} (a : Asking W p) (l : Led W p r) (z : r ≡ 
     further = λ n T lead s h. shorter s root-changed h (led-placed n T lead s h) (led-one n T lead s h) (led-early n T lead s h);
   }
 
--- a leader is a node
-pub led-within : {W : List ℕ} {p r : ℕ} → Asking W p → Led W p r → r < length W
-led-within a l = let e = l (a .n) (a .T) (a .lead) (a .sets) (a .placed) in rw e (within (a .sets) _ (a .sets .leader _ (a .placed)))
-
 -- the words have become W', some ways to the leaders shorter, and a and b are the leaders of p and q
 pub record Two (W : List ℕ) (p q : ℕ) (W' : List ℕ) (a b : ℕ) : Type 0 where
   pub long : length W' ≡ length W
   pub alike : Alike W W'
   pub found : (n : ℕ) (T : List ℕ) (lead : ℕ → ℕ) → Sets n T W lead → Placed T W p → Placed T W q → Further n T W lead W' lead × (a ≡ lead p) × (b ≡ lead q)
-
-pub first-asking : {W : List ℕ} {p q : ℕ} → Joining W p q → Asking W p
-first-asking j = record { n = j .n; T = j .T; lead = j .lead; sets = j .sets; placed = j .first }
 
 pub second-asking : {W W' : List ℕ} {p q a : ℕ} → Joining W p q → Shorter W p W' a → Asking W' q
 second-asking {q = q} j f =

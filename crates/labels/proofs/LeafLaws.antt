@@ -102,9 +102,6 @@ module _ {W L : List ℕ} {kind p side x y : ℕ} (z : ToLeaf W L kind p side x 
 
   -- once it has its label
   module _ (W₁ : List ℕ) (label : ℕ) (t : Touched n T W (z .coming .lead) p W₁ label) where
-    black-water : type T p ≡ black → Water T p
-    black-water b = record { node = z .coming .at .node; wet = b }
-
     met-here : type T p ≡ black → MetAt n T W₁ (t .lead') p x y
     met-here b = rw (z .coming .left, z .coming .top) at (t .met b)
 

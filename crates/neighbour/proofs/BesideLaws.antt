@@ -1,27 +1,23 @@
 -- The neighbour of a fork's son is the quadrant that the move's mirror names of the fork's own neighbour, in the direction in which the move leads on from the
 -- fork: the path of the block beside the son's is that quadrant and the path beside the fork's. Nothing lies beside the whole sheet.
-use mathlib.Core.Bool.{Bool, true, false, cond, _&&_}
+use mathlib.Core.Bool.{true, false}
 use mathlib.Core.List.{List}
 use mathlib.Core.Logic.{⊎-elim}
 use mathlib.Core.Path.{_≡_, refl, ap, sym, _∙_}
-use Prim.Native.Nat.{ℕ, _+_, _-_, _/_, _%_, _≤_, _<_}
+use Prim.Native.Nat.{ℕ, _-_, _≤_, _<_}
 use native.Mathlib.Omega.{arith}
-use lib.Dec.{leb, eqb}
-use borrow.Author.Tests.{ne-eqb, eq-eqb, eqb-true, leb-true}
-use Rattle.base.specs.All.{all2}
-use Rattle.base.proofs.AllLaws.{all2-at}
-use Rattle.base.proofs.BoolLaws.{by-bool, and-left, and-right}
+use borrow.Author.Tests.{ne-eqb}
+use Rattle.base.proofs.BoolLaws.{by-bool}
 use Rattle.table.specs.Table.{nodes, son, isFork}
-use Rattle.table.specs.Rules.{Accepted, AtLevel}
+use Rattle.table.specs.Rules.{Accepted}
 use Rattle.table.specs.Nodes.{pathTo, holder, levelOf}
-use Rattle.table.proofs.AcceptedLaws.{sons-of, depth-son, level-is}
+use Rattle.table.proofs.AcceptedLaws.{sons-of, depth-son}
 use Rattle.table.proofs.NodeLaws.{path-root, holder-fork, holder-leaf}
 use Rattle.table.proofs.HolderLaws.{held, own-quadrants, own-path, path-son}
-use Rattle.neighbour.specs.declared.Found.{Found}
 use Rattle.neighbour.specs.declared.Found.the-variants.{At, Off}
 use Rattle.neighbour.specs.Neighbour.{neighbourFound}
 use Rattle.neighbour.specs.Search.{stay, onwardOf, mirrorOf, Where, off, block, inner, moved}
-use Rattle.neighbour.specs.SonBeside.{partIn, Forward, besideSon}
+use Rattle.neighbour.specs.SonBeside.{partIn}
 use Rattle.neighbour.proofs.SearchLaws.{MovedTo, moved-to, steers, moved-stay, heldBy, beside-moved}
 
 module _ (n : ℕ) (T : List ℕ) (acc : Accepted n T) where
@@ -65,65 +61,3 @@ module _ (n : ℕ) (T : List ℕ) (acc : Accepted n T) where
   pub none-beside : (D : ℕ) → D < stay → Off ≡ neighbourFound n T 0 D
   unfolding heldBy moved
   none-beside D lt = sym (by-moves 0 D (acc .sized .some) (omega arith) ∙ rw (path-root T n, ne-eqb D stay (λ e. omega arith)))
-
--- sides E and S by the quadrants' numbers, as one test
-forthOk : ℕ → ℕ → Bool
-forthOk d q =
-    let D = d + 1 in
-    cond (eqb (q / D % 2) 0)
-    (eqb (onwardOf D q) stay && eqb (mirrorOf D q) (q + D))
-    (eqb (onwardOf D q) D && (eqb (mirrorOf D q) (q - D) && leb D q))
-
-forth-all : all2 forthOk 2 4 ≡ true
-unfolding forthOk mirrorOf onwardOf
-forth-all = refl
-
-module _ (D q : ℕ) (way : Forward D) (q4 : q < 4) where
-  forth : cond (eqb (q / D % 2) 0)
-      (eqb (onwardOf D q) stay && eqb (mirrorOf D q) (q + D))
-      (eqb (onwardOf D q) D && (eqb (mirrorOf D q) (q - D) && leb D q))
-      ≡ true
-  unfolding forthOk
-  forth =
-      let e : D - 1 + 1 ≡ D = omega arith in
-      rw e at (all2-at forthOk 2 4 forth-all (D - 1) q (omega arith) q4)
-
-  to-brother : eqb (q / D % 2) 0 ≡ true → (onwardOf D q ≡ stay) × (mirrorOf D q ≡ q + D)
-  to-brother h =
-      let v = rw h at forth in
-      let a = eqb (onwardOf D q) stay in
-      let b = eqb (mirrorOf D q) (q + D) in
-      (eqb-true _ _ (and-left a b v), eqb-true _ _ (and-right a b v))
-
-  to-next : eqb (q / D % 2) 0 ≡ false → (onwardOf D q ≡ D) × (mirrorOf D q ≡ q - D) × (D ≤ q)
-  to-next h =
-      let v = rw h at forth in
-      let a = eqb (onwardOf D q) D in
-      let b = eqb (mirrorOf D q) (q - D) in
-      let c = leb D q in
-      let w = and-right a (b && c) v in
-      (eqb-true _ _ (and-left a (b && c) v), eqb-true _ _ (and-left b c w), leb-true _ _ (and-right b c w))
-
-  -- the quadrants that they name
-  pub brother-there : q / D % 2 ≡ 0 → q + D < 4
-  brother-there h = omega (arith, to-brother (eq-eqb _ _ h) .1, steers D q (omega (arith, way .1)) q4 .small)
-
-  pub next-there : (q / D % 2 ≡ 0 → ⊥) → D ≤ q
-  next-there h = to-next (ne-eqb _ _ h) .2
-
--- fork p, of level l, and its own neighbour on side D
-module _ {n : ℕ} {T : List ℕ} {p l : ℕ} (z : AtLevel n T p l) (D : ℕ) (way : Forward D) (found : Found) (is : found ≡ neighbourFound n T p D) where
-  -- is enough for its sons'
-  pub beside-of-son : isFork T p ≡ true → (half q : ℕ) → half ≡ l - 1 → q < 4 → besideSon T p half found q D ≡ neighbourFound n T (son T p q) D
-  unfolding besideSon partIn
-  beside-of-son f half q eh q4 =
-      let step = son-beside n T (z .accepted) p q D (z .node) f q4 (omega (arith, way .1)) in
-      let e : half ≡ levelOf n T p - 1 = omega (arith, level-is z) in
-      ⊎-elim
-      (λ (h : eqb (q / D % 2) 0 ≡ true).
-      let b = to-brother D q way q4 h in
-      rw (h, e) (sym (step ∙ rw (b .0, b .1, stays-own n T (z .accepted) p (z .node), f))))
-      (λ (h : eqb (q / D % 2) 0 ≡ false).
-      let b = to-next D q way q4 h in
-      rw (h, is) (sym (step ∙ rw (b .0, b .1))))
-      (by-bool (eqb (q / D % 2) 0))

@@ -114,9 +114,6 @@ unfolding placeOf
 in-row {n} {T} h y i l a b = let w = left-top n T (h .ready .sets .accepted) i (l .water .node) in omega (arith, a, b, w)
 
 module _ {n : ℕ} {T F W R : List ℕ} (h : Full n T F W R) {y at count : ℕ} {W' : List ℕ} (row : y < 2 ^ topLevel) (g : Going n T F W (h .now) y at count W') where
-  pub going-few : count ≤ 4 ^ topLevel
-  going-few = omega (arith, g .counted .few, g .wide, row)
-
   -- a row that has no more
   pub going-all : at ≡ 0 → Counted n T F W ((y + 1) * 2 ^ topLevel) count W'
   unfolding placeOf
