@@ -7,18 +7,18 @@ use native.Mathlib.Omega.{arith}
 use lib.Arith.{digits-lt}
 use lib.Pow.{pow-pos, pow-mono, high}
 use borrow.Author.Tests.{ne-eqb}
-use Rattle.base.proofs.PowLaws.{pow-less, pow-product, halved}
+use Rattle.base.proofs.PowLaws.{pow-product}
 use Rattle.quad.specs.Numbers.{black, forkType, topLevel}
 use Rattle.quad.specs.Block.{pathOf, column, row}
 use Rattle.table.specs.Table.{nodes, son, type, isFork}
 use Rattle.table.specs.Rules.{depthTo, Accepted, AtLevel}
 use Rattle.table.specs.Nodes.{pathTo, holder, levelOf, leftOf, topOf}
-use Rattle.table.proofs.AcceptedLaws.{depth-le, level-is, fork-above, son-at}
-use Rattle.table.proofs.HolderLaws.{path-son, within-leaf}
+use Rattle.table.proofs.AcceptedLaws.{depth-le, level-is, son-at}
+use Rattle.table.proofs.HolderLaws.{within-leaf}
 use Rattle.table.proofs.BlockLaws.{column-below, row-below}
 use Rattle.chains.specs.Chain.{Water}
-use Rattle.labels.specs.Sets.{placeOf}
-use Rattle.labels.specs.Sets.{Begins}
+use Rattle.chains.proofs.SonLaws.{son-left as left-of-son, son-top as top-of-son}
+use Rattle.labels.specs.Sets.{placeOf, Begins}
 
 -- a black node is a leaf
 pub water-leaf : (T : List ℕ) (p : ℕ) → type T p ≡ black → isFork T p ≡ false
@@ -58,19 +58,14 @@ module _ (n : ℕ) (T : List ℕ) (acc : Accepted n T) (i : ℕ) (lt : i < nodes
 module _ {n : ℕ} {T : List ℕ} {p l : ℕ} (h : AtLevel n T p l) where
   -- where son q of a fork begins
   module _ (f : isFork T p ≡ true) (q : ℕ) (q4 : q < 4) where
+    below : levelOf n T (son T p q) ≡ l - 1
+    below = sym (level-is (son-at h f q q4))
+
     pub son-left : leftOf n T (son T p q) ≡ leftOf n T p + q % 2 * 2 ^ (l - 1)
-    unfolding column
-    son-left =
-        let e : levelOf n T (son T p q) ≡ l - 1 = sym (level-is (son-at h f q q4)) in
-        let u : levelOf n T p ≡ l = sym (level-is h) in
-        rw (path-son n T (h .accepted) p q (h .node) f q4, e, u, pow-less 2 l (fork-above h f)) (halved (q % 2) (column (pathTo T n p)) (2 ^ (l - 1)))
+    son-left = rw below (rw below at (left-of-son (h .accepted) (h .node) f q q4))
 
     pub son-top : topOf n T (son T p q) ≡ topOf n T p + q / 2 * 2 ^ (l - 1)
-    unfolding row
-    son-top =
-        let e : levelOf n T (son T p q) ≡ l - 1 = sym (level-is (son-at h f q q4)) in
-        let u : levelOf n T p ≡ l = sym (level-is h) in
-        rw (path-son n T (h .accepted) p q (h .node) f q4, e, u, pow-less 2 l (fork-above h f)) (halved (q / 2) (row (pathTo T n p)) (2 ^ (l - 1)))
+    son-top = rw below (rw below at (top-of-son (h .accepted) (h .node) f q q4))
 
   -- a leaf that begins in a leaf's block
   pub leaf-only : isFork T p ≡ false → (i : ℕ) → i < nodes T → isFork T i ≡ false → Begins n T i (leftOf n T p) (topOf n T p) l → i ≡ p
