@@ -135,5 +135,10 @@ pub record ToLeaf (W L : List ℕ) (kind p side x y : ℕ) : Type 0 where
   pub is : kind ≡ type T p
   pub power : side ≡ 2 ^ l
 
+-- the same, whatever its side
+pub record Reaching (W L : List ℕ) (kind p x y : ℕ) : Type 0 where
+  pub side : ℕ
+  pub leaf : ToLeaf W L kind p side x y
+
 abbrev pub PastLeaf : List ℕ → List ℕ → ℕ → ℕ → ℕ → ℕ → ℕ → List ℕ → List ℕ → ℕ → Type 0
 PastLeaf W L kind p side x y W' L' r = (z : ToLeaf W L kind p side x y) → Gone (z .coming .n) (z .T) W (z .coming .lead) L x y (z .l) W' L' r

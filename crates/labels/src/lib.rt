@@ -4,12 +4,12 @@ ghost use mathlib.Core.Path.{_≡_};
 ghost use mathlib.Core.Bool.{true};
 ghost use Rattle.quad.specs.Numbers.{black};
 ghost use Prim.Native.Nat.{_+_, _*_, _<_, _≤_};
-ghost use lib.ListN.{length};
+ghost use lib.ListN.{length, getD};
 ghost use Rattle.labels.specs.Lines.{across};
 ghost use Rattle.table.specs.Table.{nodes, isFork};
 ghost use Rattle.table.specs.Rules.{Accepted};
 ghost use Rattle.labels.specs.Labelled.{Cleared, Labelled};
-ghost use Rattle.labels.specs.Walk.{Facing, Meets, Nexts, Shore, Shores, Quiet, Sides, Filled, ToLeaf, PastLeaf, Coming, Goes};
+ghost use Rattle.labels.specs.Walk.{Facing, Meets, Nexts, Shore, Shores, Quiet, Sides, Filled, ToLeaf, Reaching, PastLeaf, Coming, Goes};
 ghost use Rattle.labels.specs.Touch.{orOf, blackOf, someOf, apartOf, sameOf, markOf, oddOf, Touching, Touches};
 ghost use Rattle.labels.specs.Sets.{Asking, Led, Shorter, Joining, Joined};
 
@@ -255,6 +255,21 @@ fn same(label: u32, p: usize) -> u32
     0
 }
 
+// The label of leaf p, of which (x, y) is the top left pixel, from what the lines tell there.
+fn label_at(words: &mut [u32], lines: &[u32; 256], kind: usize, p: usize, x: usize, y: usize) -> u32
+    requires { ⌜ Reaching (now words) (now lines) kind p x y ⌝ }
+    ensures { λ r. ⌜ Touches (now (words .entry)) kind p (getD (now (lines .entry)) x 0) (getD (now (lines .entry)) (across + y) 0) (across * y + x) (now (words .exit)) r ⌝ }
+{
+    touch(
+        words,
+        kind,
+        p,
+        lines[x],
+        lines[ACROSS + y],
+        (ACROSS * y + x) as u32,
+    )
+}
+
 // A leaf of which (x, y) is the top left pixel gets its label, is joined with what lies north and west of it, and stands in the lines then. Gives 1 where it
 // leads a set of its own, else 0.
 fn leaf(
@@ -269,14 +284,7 @@ fn leaf(
     requires { ⌜ ToLeaf (now words) (now lines) kind p side x y ⌝ }
     ensures { λ r. ⌜ PastLeaf (now (words .entry)) (now (lines .entry)) kind p side x y (now (words .exit)) (now (lines .exit)) r ⌝ }
 {
-    let label = touch(
-        words,
-        kind,
-        p,
-        lines[x],
-        lines[ACROSS + y],
-        (ACROSS * y + x) as u32,
-    );
+    let label = label_at(words, lines, kind, p, x, y);
     sides(words, lines, kind, label, x, y, side);
     fill(lines, label, x, y, side);
     same(label, p)
@@ -287,14 +295,7 @@ fn two(words: &mut [u32], lines: &mut [u32; 256], kind: usize, p: usize, x: usiz
     requires { ⌜ ToLeaf (now words) (now lines) kind p 2 x y ⌝ }
     ensures { λ r. ⌜ PastLeaf (now (words .entry)) (now (lines .entry)) kind p 2 x y (now (words .exit)) (now (lines .exit)) r ⌝ }
 {
-    let label = touch(
-        words,
-        kind,
-        p,
-        lines[x],
-        lines[ACROSS + y],
-        (ACROSS * y + x) as u32,
-    );
+    let label = label_at(words, lines, kind, p, x, y);
     two_sides(words, lines, kind, label, x, y);
     fill_two(lines, label, x, y);
     same(label, p)

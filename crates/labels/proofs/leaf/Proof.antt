@@ -1,43 +1,18 @@
 -- `labels::leaf`: its label, its sides, and the lines. Assumes nothing.
 use mathlib.Core.Path.{refl}
-use native.Mathlib.Omega.{arith}
+use Rattle.labels.proofs.LeafLaws.{leaf-room, leaf-touched, leaf-shore, leaf-past}
 use borrow.Author.Needs.{needs}
-use Rattle.labels.proofs.LeafLaws.{leaf-bounds, leaf-room, leaf-touching, leaf-touched, leaf-shore, leaf-past}
 use Rattle.labels.proofs.leaf.Statement.{statement}
 use Rattle.labels.proofs.leaf.Tie as tie
 
-mul-touch : tie.Need-mul-touch
-mul-touch c = omega (arith, leaf-bounds (c .before .before .pre) .0)
-
-element-copy-out-touch : tie.Need-element-copy-out-touch
-element-copy-out-touch c = omega (arith, leaf-bounds (c .before .before .pre) .0)
-
-add-touch : tie.Need-add-touch
-add-touch c = omega (arith, leaf-bounds (c .before .before .before .pre) .1)
-
-mul-touch-2 : tie.Need-mul-touch-2
-mul-touch-2 c = omega (arith, leaf-bounds (c .before .before .before .pre) .1)
-
-element-copy-out-touch-2 : tie.Need-element-copy-out-touch-2
-element-copy-out-touch-2 c = omega (arith, leaf-bounds (c .before .before .before .pre) .1)
-
-mul-touch-3 : tie.Need-mul-touch-3
-mul-touch-3 c = omega (arith, leaf-bounds (c .before .before .before .before .pre) .1)
-
-add-touch-2 : tie.Need-add-touch-2
-add-touch-2 c = omega (arith, leaf-bounds (c .before .before .before .before .pre) .0, leaf-bounds (c .before .before .before .before .pre) .1)
-
-cast-touch : tie.Need-cast-touch
-cast-touch c = omega (arith, leaf-bounds (c .before .before .before .before .pre) .0, leaf-bounds (c .before .before .before .before .pre) .1)
-
-touch-requires : tie.Need-touch-requires
-touch-requires c κs = leaf-touching (c .before .before .before .before .pre) _ _ _ refl refl refl
+label-at-requires : tie.Need-label-at-requires
+label-at-requires c κs = search needs
 
 sides-requires : tie.Need-sides-requires
-sides-requires c κs = (λ b. leaf-shore (c .before .before .before .before .before .before .before .before .before .pre) _ _ (leaf-touched (c .before .before .before .before .before .before .before .before .before .pre) _ _ _ refl refl refl _ _ (c .before .before .before .before .touch .ensures)) b, leaf-room (c .before .before .before .before .before .before .before .before .before .pre) .0, leaf-room (c .before .before .before .before .before .before .before .before .before .pre) .1)
+sides-requires c κs = (λ b. leaf-shore (c .before .before .before .before .before .before .before .before .pre) _ _ (leaf-touched (c .before .before .before .before .before .before .before .before .pre) _ _ _ refl refl refl _ _ (c .before .before .before .before .label-at .ensures)) b, leaf-room (c .before .before .before .before .before .before .before .before .pre) .0, leaf-room (c .before .before .before .before .before .before .before .before .pre) .1)
 
 fill-requires : tie.Need-fill-requires
-fill-requires c κs = (c .before .before .before .before .before .before .before .before .before .before .before .before .before .pre .coming .long, leaf-room (c .before .before .before .before .before .before .before .before .before .before .before .before .before .pre) .0, leaf-room (c .before .before .before .before .before .before .before .before .before .before .before .before .before .pre) .1)
+fill-requires c κs = (c .before .before .before .before .before .before .before .before .before .before .before .before .pre .coming .long, leaf-room (c .before .before .before .before .before .before .before .before .before .before .before .before .pre) .0, leaf-room (c .before .before .before .before .before .before .before .before .before .before .before .before .pre) .1)
 
 same-requires : tie.Need-same-requires
 same-requires c κs = search needs
@@ -46,23 +21,9 @@ same-length : tie.Need-same-length
 same-length c = search needs
 
 returns : tie.Need-returns
-returns c = λ z. leaf-past _ _ _ (c .before .before .before .before .before .sides .ensures) _ _ (c .before .fill .ensures) (c .same .ensures .0) z (leaf-touched z _ _ _ refl refl refl _ _ (c .before .before .before .before .before .before .before .before .before .before .touch .ensures))
+returns c = λ z. leaf-past _ _ _ (c .before .before .before .before .before .sides .ensures) _ _ (c .before .fill .ensures) (c .same .ensures .0) z (leaf-touched z _ _ _ refl refl refl _ _ (c .before .before .before .before .before .before .before .before .before .before .label-at .ensures))
 
 pub leaf-spec : {M : Type 1} → statement M
 leaf-spec =
     tie.close
-    (tie.spec
-    mul-touch
-    element-copy-out-touch
-    add-touch
-    mul-touch-2
-    element-copy-out-touch-2
-    mul-touch-3
-    add-touch-2
-    cast-touch
-    touch-requires
-    sides-requires
-    fill-requires
-    same-requires
-    same-length
-    returns)
+    (tie.spec label-at-requires sides-requires fill-requires same-requires same-length returns)
