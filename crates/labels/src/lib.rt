@@ -14,7 +14,7 @@ ghost use Rattle.labels.specs.Touch.{orOf, blackOf, someOf, apartOf, sam
 ghost use Rattle.labels.specs.Sets.{Asking, Led, Shorter, Joining, Joined};
 
 // From this number on a word is a leader's.
-const LEADING: u32 = 2147483648;
+pub const LEADING: u32 = 2147483648;
 
 // A line has a word for each column, or row, of the widest sheet; the rows' line comes after the columns'.
 const ACROSS: usize = 128;

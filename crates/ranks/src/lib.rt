@@ -1,4 +1,5 @@
 // The numbers of a sheet's ponds by rows, from the words of their leaders.
+use labels::LEADING;
 use table::word_at;
 ghost use mathlib.Core.Path.{_≡_};
 ghost use Prim.Native.Nat.{_<_, _≤_};
@@ -7,9 +8,6 @@ ghost use Rattle.ranks.specs.Queues.{linkedOf, headOf, Room, Stood, Reac
 ghost use Rattle.ranks.specs.Counts.{Row, RowOff, Rows, RowsOff};
 ghost use Rattle.ranks.specs.Ranked.{Ranked};
 ghost use Rattle.ranks.specs.Words.{nextOf, Tracing, Traced, Ending, Settled, Finishing, Finished};
-
-// From this number on a word is a leader's.
-const LEADING: u32 = 2147483648;
 
 // The widest sheet has so many rows, 2 ^ TOP_LEVEL.
 const ROWS: usize = 128;
