@@ -46,18 +46,18 @@ abbrev pub number_of : Outcome → ℕ
 number_of o = code_of o + 256 * value_of o
 
 -- a level is beside a node, or beside a node count, in one value: both documents' × 8, with room for the levels 0 to 7
-abbrev pub levelRoom : ℕ
-levelRoom = 8
+abbrev pub level_room : ℕ
+level_room = 8
 
-abbrev pub withLevel : ℕ → ℕ → ℕ
-withLevel k level = levelRoom * k + level
+abbrev pub with_level : ℕ → ℕ → ℕ
+with_level k level = level_room * k + level
 
 -- the two of them in such a value: the node or node count, and the level
-abbrev pub nodeIn : ℕ → ℕ
-nodeIn v = v / levelRoom
+abbrev pub node_in : ℕ → ℕ
+node_in v = v / level_room
 
-abbrev pub levelIn : ℕ → ℕ
-levelIn v = v % levelRoom
+abbrev pub level_in : ℕ → ℕ
+level_in v = v % level_room
 
 -- is it an answer, and no refusal?
 abbrev pub answers : Outcome → Bool

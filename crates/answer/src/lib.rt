@@ -1,8 +1,8 @@
 // What an outside call gives back: document 01's table 'Numbers given back', as an enum with one case for each code.
 ghost use Rattle.std.specs.Prelude.{◌≡◌, ◌≤◌};
-ghost use Rattle.answer.specs.Numbers.{code_of, value_of, number_of, withLevel, answers};
+ghost use Rattle.answer.specs.Numbers.{code_of, value_of, number_of, with_level, answers};
 
-#[derive(Drop)]
+#[derive(Clone, Copy)]
 pub enum Outcome {
     // The call was answered.
     Answered { value: u32 },
@@ -109,8 +109,8 @@ pub const LEVEL_ROOM: u32 = 8;
 
 // A node, or a node count, and a level beside it in one value.
 pub fn with_level(k: u32, level: u32) -> u32
-    requires { withLevel k level ≤ 4294967295 }
-    ensures { result ≡ withLevel k level }
+    requires { with_level k level ≤ 4294967295 }
+    ensures { result ≡ with_level k level }
 {
     LEVEL_ROOM * k + level
 }

@@ -6,20 +6,20 @@ use native.Mathlib.Nat.{add_comm, add-mul, mul_assoc, mul_comm, pow-succ', div-l
 use native.Mathlib.Omega.{arith}
 use lib.Pow.{pow-add, pow_pos}
 
-pub pow-less : (b l : ℕ) → 0 < l → b ^ l ≡ b * b ^ (l - 1)
-pow-less b l h =
+pub pow_less : (b l : ℕ) → 0 < l → b ^ l ≡ b * b ^ (l - 1)
+pow_less b l h =
     let e : l ≡ suc (l - 1) = omega arith in
     ap (λ (k : ℕ). b ^ k) e ∙ pow-succ' b (l - 1)
 
-pub pow-product : (k l m : ℕ) → k + l ≡ m → 2 ^ m ≡ 2 ^ k * 2 ^ l
-pow-product k l m e = ap (λ (j : ℕ). 2 ^ j) (sym e) ∙ pow-add 2 k l
+pub pow_product : (k l m : ℕ) → k + l ≡ m → 2 ^ m ≡ 2 ^ k * 2 ^ l
+pow_product k l m e = ap (λ (j : ℕ). 2 ^ j) (sym e) ∙ pow-add 2 k l
 
 -- a number is below 2 ^ m where its upper k of m digits are below 2 ^ k
-pub below-pow : (k l m x : ℕ) → k + l ≡ m → x / 2 ^ l < 2 ^ k → x < 2 ^ m
-below-pow k l m x e h = rw (pow-product k l m e) ((div-lt_iff_lt-mul {k = 2 ^ l} {x = x} {y = 2 ^ k} (pow_pos l)).0 h)
+pub below_pow : (k l m x : ℕ) → k + l ≡ m → x / 2 ^ l < 2 ^ k → x < 2 ^ m
+below_pow k l m x e h = rw (pow_product k l m e) ((div-lt_iff_lt-mul {k = 2 ^ l} {x = x} {y = 2 ^ k} (pow_pos l)).0 h)
 
-pub four-pow : (n : ℕ) → 4 ^ n ≡ 2 ^ n * 2 ^ n
-four-pow n = go n ∙ pow-add 2 n n
+pub four_pow : (n : ℕ) → 4 ^ n ≡ 2 ^ n * 2 ^ n
+four_pow n = go n ∙ pow-add 2 n n
   where
     go : (k : ℕ) → 4 ^ k ≡ 2 ^ (k + k)
     go zero = refl

@@ -9,18 +9,18 @@ use Rattle.base.specs.Tab.{sum}
 use Rattle.base.proofs.SumLaws.{sum_same, sum_zeros, sum_one}
 
 -- the first a terms, then b more
-pub sum-split : (f : ℕ → ℕ) (a b : ℕ) → sum f (a + b) ≡ sum f a + sum (λ i. f (a + i)) b
+pub sum_split : (f : ℕ → ℕ) (a b : ℕ) → sum f (a + b) ≡ sum f a + sum (λ i. f (a + i)) b
 unfolding sum
-sum-split f a zero = rw add-zero (omega arith)
-sum-split f a (suc b) =
+sum_split f a zero = rw add-zero (omega arith)
+sum_split f a (suc b) =
     let e : a + suc b ≡ suc (a + b) = omega arith in
-    rw e (omega (arith, sum-split f a b))
+    rw e (omega (arith, sum_split f a b))
 
 -- one number so often
-pub sum-times : (v k : ℕ) → sum (λ i. v) k ≡ k * v
+pub sum_times : (v k : ℕ) → sum (λ i. v) k ≡ k * v
 unfolding sum
-sum-times v zero = omega arith
-sum-times v (suc k) = omega (arith, sum-times v k, suc-mul k v)
+sum_times v zero = omega arith
+sum_times v (suc k) = omega (arith, sum_times v k, suc-mul k v)
 
 pub sum_rows : (f : ℕ → ℕ → ℕ) (w h : ℕ) → 0 < w → sum (λ i. f (i % w) (i / w)) (h * w) ≡ sum (λ y. sum (λ x. f x y) w) h
 unfolding sum
@@ -33,26 +33,26 @@ sum_rows f w (suc h) pos =
     let m : (h * w + x) % w ≡ x = mul-add-mod_self_right h w x ∙ mod-eq_of_lt l in
     let d : (h * w + x) / w ≡ h = mul-add-div_right pos h x ∙ omega (arith, div-eq_of_lt l) in
     rw (m, d)) in
-    rw e (omega (arith, sum-split (λ i. f (i % w) (i / w)) (h * w) w, row, sum_rows f w h pos))
+    rw e (omega (arith, sum_split (λ i. f (i % w) (i / w)) (h * w) w, row, sum_rows f w h pos))
 
 -- a sum where a test holds
-sum-if : (t : Bool) (f : ℕ → ℕ) (k : ℕ) → sum (λ i. cond t (f i) 0) k ≡ cond t (sum f k) 0
-sum-if true f k = refl
-sum-if false f k = sum_zeros k
+sum_if : (t : Bool) (f : ℕ → ℕ) (k : ℕ) → sum (λ i. cond t (f i) 0) k ≡ cond t (sum f k) 0
+sum_if true f k = refl
+sum_if false f k = sum_zeros k
 
 -- one of k stretches of s places has s of them
-stretch-sum : (s c k v : ℕ) → 0 < s → c < k → sum (λ x. cond (eqb c (x / s)) v 0) (k * s) ≡ s * v
-stretch-sum s c k v pos lt =
+stretch_sum : (s c k v : ℕ) → 0 < s → c < k → sum (λ x. cond (eqb c (x / s)) v 0) (k * s) ≡ s * v
+stretch_sum s c k v pos lt =
     sum_rows (λ x y. cond (eqb c y) v 0) s k pos
-    ∙ (sum_same _ _ k (λ y l. sum-if (eqb c y) (λ x. v) s ∙ ap (λ (u : ℕ). cond (eqb c y) u 0) (sum-times v s)) ∙ sum_one (λ y. s * v) c k lt)
+    ∙ (sum_same _ _ k (λ y l. sum_if (eqb c y) (λ x. v) s ∙ ap (λ (u : ℕ). cond (eqb c y) u 0) (sum_times v s)) ∙ sum_one (λ y. s * v) c k lt)
 
 -- and one of k * k blocks, the one in column c and row r, has s * s
-pub block-sum : (s c r k v : ℕ) → 0 < s → c < k → r < k
+pub block_sum : (s c r k v : ℕ) → 0 < s → c < k → r < k
     → sum (λ i. cond (eqb r (i / (k * s) / s)) (cond (eqb c (i % (k * s) / s)) v 0) 0) (k * s * (k * s)) ≡ s * s * v
-block-sum s c r k v pos lc lr =
+block_sum s c r k v pos lc lr =
     sum_rows (λ x y. cond (eqb r (y / s)) (cond (eqb c (x / s)) v 0) 0) (k * s) (k * s) (mul-pos (le_trans (omega arith) lc) pos)
     ∙ (sum_same _ _ (k * s)
     (λ y l.
-    sum-if (eqb r (y / s)) (λ x. cond (eqb c (x / s)) v 0) (k * s)
-    ∙ ap (λ (u : ℕ). cond (eqb r (y / s)) u 0) (stretch-sum s c k v pos lc))
-    ∙ (stretch-sum s r k (s * v) pos lr ∙ sym (mul_assoc s s v)))
+    sum_if (eqb r (y / s)) (λ x. cond (eqb c (x / s)) v 0) (k * s)
+    ∙ ap (λ (u : ℕ). cond (eqb r (y / s)) u 0) (stretch_sum s c k v pos lc))
+    ∙ (stretch_sum s r k (s * v) pos lr ∙ sym (mul_assoc s s v)))

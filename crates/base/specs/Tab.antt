@@ -3,13 +3,13 @@
 use Rattle.std.specs.Prelude.{List, [], ◌∷◌, ◌++◌, length, drop, ℕ, zero, suc, ◌+◌, min, max}
 
 -- f i, f (i + 1), .., k of them
-unfoldable pub tabFrom : (ℕ → ℕ) → ℕ → ℕ → List ℕ
-tabFrom f zero i = []
-tabFrom f (suc k) i = f i ∷ tabFrom f k (i + 1)
+unfoldable pub tab_from : (ℕ → ℕ) → ℕ → ℕ → List ℕ
+tab_from f zero i = []
+tab_from f (suc k) i = f i ∷ tab_from f k (i + 1)
 
 -- f 0, .., f (k - 1)
 abbrev pub tab : (ℕ → ℕ) → ℕ → List ℕ
-tab f k = tabFrom f k 0
+tab f k = tab_from f k 0
 
 -- the least of top and f 0, .., f (k - 1)
 unfoldable pub least : ℕ → (ℕ → ℕ) → ℕ → ℕ

@@ -7,7 +7,7 @@ use ponds::Pond;
 const NODES: usize = 9;
 
 // What the call gave back, and what its register then held.
-#[derive(Drop)]
+#[derive(Clone, Copy)]
 struct Done {
     given: Outcome,
     reg: [Pond; 3],

@@ -27,7 +27,7 @@ fn tables() {
     check(b"2, a table of 53 words", 2, 53);
     check(b"2, a table of none", 2, 0);
     check(b"4, sheet A at level 1", 1, 54);
-    changed(b"3, node 1 of type 3", 11, 3);
+    changed(b"3, node 1 of node_type 3", 11, 3);
     changed(b"3, a son of another father", 18, 0);
     changed(b"5, four white sons", 41, 0);
 }
@@ -117,7 +117,7 @@ fn files() {
     file(b"12, a wrong mark", b"QT");
     file(b"1, a file of level 8", b"QS\x08");
     file(b"13, half a count", b"QS\x00\x01");
-    file(b"12, type 3", b"QS\x00\x01\x00QN\x03");
+    file(b"12, node_type 3", b"QS\x00\x01\x00QN\x03");
     file(b"4, a fork at level 0", b"QS\x00\x05\x00QN\x02");
     file(
         b"5, four like leaves",

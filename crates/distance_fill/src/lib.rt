@@ -1,13 +1,13 @@
 // Every leaf's distance: a pass from the root down hands each fork its eight neighbours (`sheet_distance`).
 ghost use Rattle.std.specs.Prelude.{◌≡◌, true, false, length, ◌+◌, ◌*◌, ◌^◌, ◌<◌, ◌≤◌};
-ghost use Rattle.quad.specs.Numbers.{topLevel};
-ghost use Rattle.table.specs.Table.{nodes, son, isFork};
+ghost use Rattle.quad.specs.Numbers.{top_level};
+ghost use Rattle.table.specs.Table.{nodes, son, is_fork};
 ghost use Rattle.table.specs.Rules.{Accepted};
 ghost use Rattle.neighbour.specs.Search.{stay};
 ghost use Rattle.neighbour_around.specs.Surround.{InNodes};
 ghost use Rattle.distance.specs.Calls.{Distances};
-ghost use Rattle.distance.specs.Distance.{plainOutside, distance_at, distancesOf};
-ghost use Rattle.distance_seek.specs.Around.{leastAround, AllBeside, SomeWhite};
+ghost use Rattle.distance.specs.Distance.{plain_outside, distance_at, distances_of};
+ghost use Rattle.distance_seek.specs.Around.{least_around, AllBeside, SomeWhite};
 ghost use Rattle.distance_fill.specs.Handed.{Land, Fork, Handed, Fills};
 
 use answer::Outcome;
@@ -36,8 +36,8 @@ fn some_white(table: &[u32], near: &[u32; 8]) -> bool
 // The least offset of a white pixel in the eight nodes around a block, or one less than the side, where there is none
 // below it. A white leaf tells at once, before anything is searched; and none is below 0.
 fn around(table: &[u32], level: u32, near: &[u32; 8]) -> u32
-    requires { (level ≤ topLevel) × AllBeside table.now level near.now }
-    ensures { result ≡ leastAround table.now level near.now stay }
+    requires { (level ≤ top_level) × AllBeside table.now level near.now }
+    ensures { result ≡ least_around table.now level near.now stay }
 {
     if some_white(table, near) {
         return 0;
@@ -56,7 +56,7 @@ fn around(table: &[u32], level: u32, near: &[u32; 8]) -> u32
 
 // In half pixels, from the centre of a leaf of that side to the near edge of a pixel at that offset.
 fn to_edge(side: u32, offset: u32) -> u32
-    requires { (side ≤ 2 ^ topLevel) × (offset < 2 ^ topLevel) }
+    requires { (side ≤ 2 ^ top_level) × (offset < 2 ^ top_level) }
     ensures { result ≡ side + 2 * offset }
 {
     side + 2 * offset
@@ -72,8 +72,8 @@ fn leaf_distance(
     near: &[u32; 8],
 ) -> u32
     requires { Handed n table.now p (level + 1) near.now × (quadrant < 4)
-        × (isFork table.now (son table.now p quadrant) ≡ false) }
-    ensures { result ≡ distance_at plainOutside n table.now (son table.now p quadrant) }
+        × (is_fork table.now (son table.now p quadrant) ≡ false) }
+    ensures { result ≡ distance_at plain_outside n table.now (son table.now p quadrant) }
 {
     let leaf = word_at(table, p, 1 + quadrant);
     if word_at(table, leaf, 5) == 0 {
@@ -111,7 +111,7 @@ fn below(
     out: &mut [u32],
 )
     requires { Handed n table.now p (level + 1) near.now × (quadrant < 4)
-        × (isFork table.now (son table.now p quadrant) ≡ true) × (length out.old ≡ nodes table.now) }
+        × (is_fork table.now (son table.now p quadrant) ≡ true) × (length out.old ≡ nodes table.now) }
     ensures { Fills n table.now out.old out.new level
         (son table.now p quadrant) }
 {
@@ -166,7 +166,7 @@ fn outside(n: u32, table: &[u32]) -> u32
 // Writes the distance of every node. A black root is the whole sheet: nothing is white.
 fn fill(n: u32, table: &[u32], out: &mut [u32])
     requires { Accepted n table.now × (length out.old ≡ nodes table.now) }
-    ensures { out.new ≡ distancesOf plainOutside n table.now }
+    ensures { out.new ≡ distances_of plain_outside n table.now }
 {
     let kind = word_at(table, 0, 5);
     if kind == quad::FORK {

@@ -1,10 +1,10 @@
 // The nearest white pixel under a grey neighbour.
 ghost use Rattle.std.specs.Prelude.{◌≡◌, true, ◌*◌, ◌/◌, ◌%◌, ◌^◌, ◌<◌, ◌≤◌, min};
-ghost use Rattle.quad.specs.Direction.{eastStep, southStep};
-ghost use Rattle.table.specs.Table.{isFork};
+ghost use Rattle.quad.specs.Direction.{east_step, south_step};
+ghost use Rattle.table.specs.Table.{is_fork};
 ghost use Rattle.neighbour.specs.Search.{stay};
 ghost use Rattle.distance_seek.specs.Around.{Beside};
-ghost use Rattle.distance_seek.specs.Search.{nearQuarter, nextQuarter, NextWay, OtherWay, nextEdge, offsetFrom};
+ghost use Rattle.distance_seek.specs.Search.{near_quarter, next_quarter, NextWay, OtherWay, next_edge, offset_from};
 ghost use Rattle.distance_seek.specs.Search.{Spot};
 
 use table_node::word_at;
@@ -32,7 +32,7 @@ fn digit(digits: usize, direction: usize) -> usize
 // The quarter of a block that lies nearest.
 fn near_quarter(direction: usize) -> usize
     requires { direction < stay }
-    ensures { result ≡ nearQuarter (eastStep direction) (southStep direction) }
+    ensures { result ≡ near_quarter (east_step direction) (south_step direction) }
 {
     digit(NEAR, direction)
 }
@@ -40,7 +40,7 @@ fn near_quarter(direction: usize) -> usize
 // The quarter that lies nearest but for that one.
 fn next_quarter(direction: usize) -> usize
     requires { direction < stay }
-    ensures { result ≡ nextQuarter (eastStep direction) (southStep direction) }
+    ensures { result ≡ next_quarter (east_step direction) (south_step direction) }
 {
     digit(NEXT, direction)
 }
@@ -63,7 +63,7 @@ fn other_way(direction: usize) -> usize
 
 // Where the next quarter begins: beside the nearest one along a side, and farther on at a corner.
 fn next_edge(direction: usize, at: u32, far: u32) -> u32
-    ensures { result ≡ nextEdge direction at far }
+    ensures { result ≡ next_edge direction at far }
 {
     if direction < 4 {
         return at;
@@ -76,7 +76,7 @@ fn next_edge(direction: usize, at: u32, far: u32) -> u32
 #[cycle(look_seek)]
 fn look(table: &[u32], direction: usize, p: usize, level: u32, at: u32, best: u32) -> u32
     requires { Spot table.now level p at × (direction < stay) × (at ≤ best) }
-    ensures { result ≡ min best (offsetFrom table.now direction level p at) }
+    ensures { result ≡ min best (offset_from table.now direction level p at) }
 {
     let kind = word_at(table, p, 5);
     if kind == 0 {
@@ -92,8 +92,8 @@ fn look(table: &[u32], direction: usize, p: usize, level: u32, at: u32, best: u3
 // first, until none that is left begins below the best.
 #[cycle(look_seek)]
 fn seek(table: &[u32], direction: usize, p: usize, level: u32, at: u32, best: u32) -> u32
-    requires { Spot table.now level p at × (isFork table.now p ≡ true) × (direction < stay) × (at ≤ best) }
-    ensures { result ≡ min best (offsetFrom table.now direction level p at) }
+    requires { Spot table.now level p at × (is_fork table.now p ≡ true) × (direction < stay) × (at ≤ best) }
+    ensures { result ≡ min best (offset_from table.now direction level p at) }
 {
     let m = level - 1;
     let far = at + quad::side(m);
@@ -123,7 +123,7 @@ fn seek(table: &[u32], direction: usize, p: usize, level: u32, at: u32, best: u3
 // at once.
 pub fn beside(table: &[u32], node: u32, level: u32, direction: usize, best: u32) -> u32
     requires { Beside table.now level node × (direction < stay) }
-    ensures { result ≡ min best (offsetFrom table.now direction level node 0) }
+    ensures { result ≡ min best (offset_from table.now direction level node 0) }
 {
     let kind = word_at(table, node as usize, 5);
     if kind == 0 {

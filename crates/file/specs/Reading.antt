@@ -4,24 +4,24 @@ use Rattle.std.specs.Prelude.{Bool, true, false, cond, ◌≡◌, List, ℕ, zer
 use Rattle.answer.specs.declared.Outcome.{Outcome}
 use Rattle.answer.specs.declared.Outcome.TheVariants.{Answered, BadLevel, BadByte, BadCount}
 use Rattle.answer.specs.Numbers.{answers, and_then}
-use Rattle.quad.specs.Numbers.{topLevel, topColour, forkType, is_type}
-use Rattle.quad.specs.Tree.{Tree, colour, likeTypes, size_of}
+use Rattle.quad.specs.Numbers.{top_level, top_colour, fork_type, is_type}
+use Rattle.quad.specs.Tree.{Tree, colour, like_types, size_of}
 use Rattle.file.specs.declared.Block.{Block}
 use Rattle.file.specs.declared.Block.TheVariants.{Read, Bad}
 use Rattle.file.specs.declared.Contents.{Contents}
 use Rattle.file.specs.declared.Contents.TheVariants.{Sheet, Faulty}
-use Rattle.file.specs.File.{Got, got, bad, Opened, opened, faulty, mark, sheetMark, nodeMark, needed, marked}
+use Rattle.file.specs.File.{Got, got, bad, Opened, opened, faulty, mark, sheet_mark, node_mark, needed, marked}
 
 -- the two mark bytes at a place
-unfoldable pub marksOf : List ℕ → ℕ → ℕ → Outcome
-marksOf s at second = marked s at mark (λ o. o) (marked s (at + 1) second (λ o. o) (Answered 0))
+unfoldable pub marks_of : List ℕ → ℕ → ℕ → Outcome
+marks_of s at second = marked s at mark (λ o. o) (marked s (at + 1) second (λ o. o) (Answered 0))
 
 -- a node record: the place after it and its type, or the fault
-unfoldable pub recordOf : List ℕ → ℕ → Block
-recordOf s at =
-    cond (answers (marksOf s at nodeMark))
+unfoldable pub record_of : List ℕ → ℕ → Block
+record_of s at =
+    cond (answers (marks_of s at node_mark))
     (needed s (at + 2) Bad (cond (is_type (get_or s (at + 2) 0)) (Read (at + 3) (get_or s (at + 2) 0)) (Bad (BadByte (at + 2)))))
-    (Bad (marksOf s at nodeMark))
+    (Bad (marks_of s at node_mark))
 
 -- a block: the place after it and its root's type, or the fault
 abbrev pub told : Got → Block
@@ -38,38 +38,38 @@ abbrev pub FourReach : ℕ → ℕ → Type 0
 FourReach l at = at + 16 * 4 ^ l < 4294967299
 
 -- the header: its level as the answer, or the first fault
-unfoldable pub headerOf : List ℕ → Outcome
-headerOf s =
-    and_then (marksOf s 0 sheetMark)
+unfoldable pub header_of : List ℕ → Outcome
+header_of s =
+    and_then (marks_of s 0 sheet_mark)
     (needed s 2 (λ o. o)
-    (cond (ltb topLevel (get_or s 2 0)) (BadLevel 2) (needed s 3 (λ o. o) (needed s 4 (λ o. o) (Answered (get_or s 2 0))))))
+    (cond (ltb top_level (get_or s 2 0)) (BadLevel 2) (needed s 3 (λ o. o) (needed s 4 (λ o. o) (Answered (get_or s 2 0))))))
 
 -- the node count that the header names
 abbrev pub count_of : List ℕ → ℕ
 count_of s = get_or s 3 0 + 256 * get_or s 4 0
 
 -- the records before a place
-abbrev pub recordsTo : ℕ → ℕ
-recordsTo at = (at - 5) / 3
+abbrev pub records_to : ℕ → ℕ
+records_to at = (at - 5) / 3
 
 -- after a block of a file of level n that ends before a place: the count, then the bytes left over
-unfoldable pub closingOf : List ℕ → ℕ → ℕ → Contents
-closingOf s n at =
-    cond (eqb (count_of s) (recordsTo at)) (cond (ltb at (length s)) (Faulty (BadCount at)) (Sheet n (recordsTo at))) (Faulty (BadCount 3))
+unfoldable pub closing_of : List ℕ → ℕ → ℕ → Contents
+closing_of s n at =
+    cond (eqb (count_of s) (records_to at)) (cond (ltb at (length s)) (Faulty (BadCount at)) (Sheet n (records_to at))) (Faulty (BadCount 3))
 
 -- a whole file: level and node count, or the first fault
-abbrev pub contentsOf : Opened → Contents
-contentsOf (opened n t) = Sheet n (size_of t)
-contentsOf (faulty o) = Faulty o
+abbrev pub contents_of : Opened → Contents
+contents_of (opened n t) = Sheet n (size_of t)
+contents_of (faulty o) = Faulty o
 
 -- a whole node record stands at a place
-unfoldable pub standsAt : List ℕ → ℕ → Bool
-standsAt s at =
+unfoldable pub stands_at : List ℕ → ℕ → Bool
+stands_at s at =
     cond (ltb (length s - at) 3) false
-    (cond (eqb (get_or s at 0) mark) (cond (eqb (get_or s (at + 1) 0) nodeMark) (is_type (get_or s (at + 2) 0)) false) false)
+    (cond (eqb (get_or s at 0) mark) (cond (eqb (get_or s (at + 1) 0) node_mark) (is_type (get_or s (at + 2) 0)) false) false)
 
-abbrev pub sameType : ℕ → ℕ → ℕ
-sameType a b = cond (eqb a b) 1 0
+abbrev pub same_type : ℕ → ℕ → ℕ
+same_type a b = cond (eqb a b) 1 0
 
 -- the place after what was read, or 0 where it is refused
 abbrev pub end_of : Got → ℕ
@@ -77,15 +77,15 @@ end_of (got at t) = at
 end_of (bad o) = 0
 
 -- and what comes after a block, or 0
-abbrev pub endThen : Got → (ℕ → Tree → ℕ) → ℕ
-endThen (got at t) next = next at t
-endThen (bad o) next = 0
+abbrev pub end_then : Got → (ℕ → Tree → ℕ) → ℕ
+end_then (got at t) next = next at t
+end_then (bad o) next = 0
 
 -- the place after the last so many of four blocks, or 0: `last` is the type of the block before them, and `same` of
 -- those before have the type of the one before
-unfoldable pub restEnd : (ℕ → Got) → ℕ → ℕ → ℕ → ℕ → ℕ
-restEnd block zero at last same = cond (eqb last forkType) at (cond (eqb same 3) 0 at)
-restEnd block (suc left) at last same = endThen (block at) (λ i t. restEnd block left i (colour t) (same + sameType (colour t) last))
+unfoldable pub rest_end : (ℕ → Got) → ℕ → ℕ → ℕ → ℕ → ℕ
+rest_end block zero at last same = cond (eqb last fork_type) at (cond (eqb same 3) 0 at)
+rest_end block (suc left) at last same = end_then (block at) (λ i t. rest_end block left i (colour t) (same + same_type (colour t) last))
 
 -- r is the number of the four bytes at a place, the low byte first
 pub record FourBytes (s : List ℕ) (at r : ℕ) : Type 0 where
@@ -96,7 +96,7 @@ pub record FourBytes (s : List ℕ) (at r : ℕ) : Type 0 where
   pub fourth : get_or s (at + 3) 0 < 256
 
 -- four types of a fork's pixels: each is a colour, and they are not all alike
-unfoldable pub pixelTypes : ℕ → ℕ → ℕ → ℕ → Bool
-pixelTypes a b c d =
-    cond (ltb topColour a) false
-    (cond (ltb topColour b) false (cond (ltb topColour c) false (cond (ltb topColour d) false (cond (likeTypes a b c d) false true))))
+unfoldable pub pixel_types : ℕ → ℕ → ℕ → ℕ → Bool
+pixel_types a b c d =
+    cond (ltb top_colour a) false
+    (cond (ltb top_colour b) false (cond (ltb top_colour c) false (cond (ltb top_colour d) false (cond (like_types a b c d) false true))))

@@ -9,7 +9,7 @@ pub const SHEET: u8 = 83;
 pub const NODE: u8 = 78;
 
 // What reading a block, or four blocks, gives.
-#[derive(Drop)]
+#[derive(Clone, Copy)]
 pub enum Block {
     // The place after it, and its root's type.
     Read(u32, usize),
@@ -18,7 +18,7 @@ pub enum Block {
 }
 
 // What reading a whole file gives, before the room for its table is looked at.
-#[derive(Drop)]
+#[derive(Clone, Copy)]
 pub enum Contents {
     Sheet { level: u32, count: u32 },
     Faulty { outcome: Outcome },

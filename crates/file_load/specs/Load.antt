@@ -3,30 +3,30 @@
 use Rattle.std.specs.Prelude.{Bool, false, cond, List, ◌≡◌, ℕ, eqb, leb, length, get_or}
 use Rattle.answer.specs.declared.Outcome.{Outcome}
 use Rattle.answer.specs.declared.Outcome.TheVariants.{TooLarge}
-use Rattle.quad.specs.Numbers.{topLevel}
-use Rattle.file.specs.File.{mark, sheetMark, read_of, readTable}
+use Rattle.quad.specs.Numbers.{top_level}
+use Rattle.file.specs.File.{mark, sheet_mark, read_of, read_table}
 
 -- programs print levels 0 to this
-abbrev pub printedLevel : ℕ
-printedLevel = 5
+abbrev pub printed_level : ℕ
+printed_level = 5
 
 -- the header's marks are right, and its level is one of a sheet's that no program prints
-unfoldable pub tooLarge : List ℕ → Bool
-tooLarge s =
+unfoldable pub too_large : List ℕ → Bool
+too_large s =
     cond (leb (length s) 2) false
     (cond (eqb (get_or s 0 0) mark)
-    (cond (eqb (get_or s 1 0) sheetMark)
-    (cond (leb (get_or s 2 0) printedLevel) false (leb (get_or s 2 0) topLevel))
+    (cond (eqb (get_or s 1 0) sheet_mark)
+    (cond (leb (get_or s 2 0) printed_level) false (leb (get_or s 2 0) top_level))
     false)
     false)
 
 unfoldable pub load_of : List ℕ → ℕ → Outcome
-load_of s words = cond (tooLarge s) (TooLarge 2) (read_of s words)
+load_of s words = cond (too_large s) (TooLarge 2) (read_of s words)
 
-unfoldable pub loadedTable : List ℕ → List ℕ → List ℕ
-loadedTable s old = cond (tooLarge s) old (readTable s old)
+unfoldable pub loaded_table : List ℕ → List ℕ → List ℕ
+loaded_table s old = cond (too_large s) old (read_table s old)
 
 -- loading a file into the table `before` answers r and leaves the table `after`
 pub record Loads (file before : List ℕ) (r : Outcome) (after : List ℕ) : Type 0 where
   pub answer : r ≡ load_of file (length before)
-  pub table : after ≡ loadedTable file before
+  pub table : after ≡ loaded_table file before

@@ -1,6 +1,6 @@
 // The programs' read: 15 straight after the test of n.
 ghost use Rattle.std.specs.Prelude.{◌≡◌};
-ghost use Rattle.file_load.specs.Load.{tooLarge, Loads};
+ghost use Rattle.file_load.specs.Load.{too_large, Loads};
 
 use answer::Outcome;
 
@@ -9,7 +9,7 @@ const PRINTED: usize = 5;
 
 // Whether the file's header names a level that a sheet may have, and that no program prints.
 fn too_large(file: &[u8]) -> bool
-    ensures { result ≡ tooLarge file.now }
+    ensures { result ≡ too_large file.now }
 {
     if file.len() <= 2 {
         return false;

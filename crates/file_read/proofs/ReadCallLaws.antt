@@ -9,77 +9,77 @@ use borrow.Author.Tests.{lt-ltb, le-ltb}
 use Rattle.base.proofs.CaseLaws.{cond_same}
 use Rattle.answer.specs.declared.Outcome.{Outcome}
 use Rattle.answer.specs.declared.Outcome.TheVariants.{Answered, NoRoom}
-use Rattle.answer.specs.Numbers.{withLevel, answers}
-use Rattle.quad.specs.Numbers.{topLevel, none, maxWords}
+use Rattle.answer.specs.Numbers.{with_level, answers}
+use Rattle.quad.specs.Numbers.{top_level, none, max_words}
 use Rattle.quad.specs.Tree.{Tree, size_of}
 use Rattle.quad.proofs.TreeLaws.{size_fits}
-use Rattle.table.proofs.PreorderLaws.{Written, written-whole}
+use Rattle.table.proofs.PreorderLaws.{Written, written_whole}
 use Rattle.file.specs.declared.Contents.{Contents}
 use Rattle.file.specs.declared.Contents.TheVariants.{Sheet, Faulty}
-use Rattle.file.specs.File.{Opened, opened, faulty, openOf, read_of, readTable}
+use Rattle.file.specs.File.{Opened, opened, faulty, open_of, read_of, read_table}
 use Rattle.file.specs.Calls.{Reads}
-use Rattle.file.specs.Reading.{contentsOf}
+use Rattle.file.specs.Reading.{contents_of}
 use Rattle.file_read.specs.Linking.{BlockToLink, BlockLinked}
 use Rattle.file_read.proofs.LinkLaws.{linkable}
-use Rattle.file.proofs.OpenLaws.{Whole, open-whole}
+use Rattle.file.proofs.OpenLaws.{Whole, open_whole}
 
 -- a file that opens, as the first pass tells it
 record Told (s : List ℕ) (n count : ℕ) : Type 0 where
   pub tree : Tree
-  pub is : openOf s ≡ opened n tree
+  pub is : open_of s ≡ opened n tree
   pub size : size_of tree ≡ count
 
-faulty-reads : (s old : List ℕ) (o : Outcome) → openOf s ≡ faulty o → Reads s old o old
-unfolding read_of readTable
-faulty-reads s old o is = record { answer = rw is; table = rw is (sym (cond_same (answers o) old)) }
+faulty_reads : (s old : List ℕ) (o : Outcome) → open_of s ≡ faulty o → Reads s old o old
+unfolding read_of read_table
+faulty_reads s old o is = record { answer = rw is; table = rw is (sym (cond_same (answers o) old)) }
 
-module _ (s old : List ℕ) (c : Contents) (e : c ≡ contentsOf (openOf s)) where
-  pub reads-faulty : (o : Outcome) → c ≡ Faulty o → Reads s old o old
-  reads-faulty o f = go (openOf s) refl (sym e ∙ f)
+module _ (s old : List ℕ) (c : Contents) (e : c ≡ contents_of (open_of s)) where
+  pub reads_faulty : (o : Outcome) → c ≡ Faulty o → Reads s old o old
+  reads_faulty o f = go (open_of s) refl (sym e ∙ f)
     where
-      go : (q : Opened) → openOf s ≡ q → contentsOf q ≡ Faulty o → Reads s old o old
+      go : (q : Opened) → open_of s ≡ q → contents_of q ≡ Faulty o → Reads s old o old
       go (opened n t) is h = absurd (let z : ◌≡◌ {A = ℕ} 0 1 = cc in omega arith)
       go (faulty p) is h =
           let op : p ≡ o = cc in
-          faulty-reads s old o (rw op at is)
+          faulty_reads s old o (rw op at is)
 
   module _ (n count : ℕ) (f : c ≡ Sheet n count) where
     its : Told s n count
-    its = go (openOf s) refl (sym e ∙ f)
+    its = go (open_of s) refl (sym e ∙ f)
       where
-        go : (q : Opened) → openOf s ≡ q → contentsOf q ≡ Sheet n count → Told s n count
+        go : (q : Opened) → open_of s ≡ q → contents_of q ≡ Sheet n count → Told s n count
         go (opened m t) is h =
             let mn : m ≡ n = cc in
             record { tree = t; is = rw mn at is; size = cc }
         go (faulty p) is h = absurd (let z : ◌≡◌ {A = ℕ} 0 1 = cc in omega arith)
 
     whole : Whole s n its.tree
-    whole = open-whole s n its.tree its.is
+    whole = open_whole s n its.tree its.is
 
-    level : n ≤ topLevel
+    level : n ≤ top_level
     level = rw whole.level at whole.header.level
 
     -- its numbers are small
-    pub sheet-fits : (n ≤ topLevel) × (6 * count ≤ maxWords)
-    sheet-fits = (level, rw its.size at (size_fits n its.tree level whole.spells.sound.within))
+    pub sheet_fits : (n ≤ top_level) × (6 * count ≤ max_words)
+    sheet_fits = (level, rw its.size at (size_fits n its.tree level whole.spells.sound.within))
 
-    pub reads-full : length old < 6 * count → Reads s old (NoRoom (6 * count)) old
-    unfolding read_of readTable
-    reads-full lt = record {
+    pub reads_full : length old < 6 * count → Reads s old (NoRoom (6 * count)) old
+    unfolding read_of read_table
+    reads_full lt = record {
       answer = rw (its.is, its.size, lt-ltb (length old) (6 * count) lt);
       table = rw (its.is, its.size, lt-ltb (length old) (6 * count) lt);
     }
 
-    pub link-asks : 6 * count ≤ length old → BlockToLink s n 0 (length old)
-    link-asks le = linkable its.tree (rw zero-add whole.block) (record { room = omega (arith, its.size); few = omega (arith, its.size, sheet-fits.1) })
+    pub link_asks : 6 * count ≤ length old → BlockToLink s n 0 (length old)
+    link_asks le = linkable its.tree (rw zero-add whole.block) (record { room = omega (arith, its.size); few = omega (arith, its.size, sheet_fits.1) })
 
-    pub reads-sheet : 6 * count ≤ length old → (after : List ℕ) (r : ℕ) → BlockLinked s n none 0 old after r
-        → (v : ℕ) → v ≡ withLevel count n → Reads s old (Answered v) after
-    unfolding read_of readTable
-    reads-sheet le after r h v is =
+    pub reads_sheet : 6 * count ≤ length old → (after : List ℕ) (r : ℕ) → BlockLinked s n none 0 old after r
+        → (v : ℕ) → v ≡ with_level count n → Reads s old (Answered v) after
+    unfolding read_of read_table
+    reads_sheet le after r h v is =
         let t : Tree = its.tree in
         let w : Written none 0 t old after = rw whole.block at h.words in
         record {
           answer = rw (is, its.is, its.size, le-ltb (length old) (6 * count) le);
-          table = written-whole t old after (omega (arith, its.size)) w ∙ rw (its.is, its.size, le-ltb (length old) (6 * count) le);
+          table = written_whole t old after (omega (arith, its.size)) w ∙ rw (its.is, its.size, le-ltb (length old) (6 * count) le);
         }

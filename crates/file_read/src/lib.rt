@@ -1,9 +1,9 @@
 // A file's table: two ways to read, which agree, and then the nodes in preorder (`sheet_read`).
 ghost use Rattle.std.specs.Prelude.{◌≡◌, ◌+◌, ◌≤◌, length, get_or};
-ghost use Rattle.file.specs.File.{openOf};
+ghost use Rattle.file.specs.File.{open_of};
 ghost use Rattle.file.specs.Calls.{Reads};
-ghost use Rattle.file.specs.Reading.{contentsOf};
-ghost use Rattle.file_read.specs.Linking.{recordPlace, BlockToLink, ForkToLink, BlockLinked};
+ghost use Rattle.file.specs.Reading.{contents_of};
+ghost use Rattle.file_read.specs.Linking.{record_place, BlockToLink, ForkToLink, BlockLinked};
 
 use answer::Outcome;
 use file::{Block, Contents};
@@ -14,7 +14,7 @@ use table_node::{put_leaf, put_node};
 // The first pass: level and node count, or the first fault. It writes nothing. A sound file is read by a faster way,
 // and only one that is not is read again for its fault.
 fn survey(file: &[u8]) -> Contents
-    ensures { result ≡ contentsOf (openOf file.now) }
+    ensures { result ≡ contents_of (open_of file.now) }
 {
     let header = read_header(file);
     if !answer::answered(header) {
@@ -34,8 +34,8 @@ fn survey(file: &[u8]) -> Contents
 
 // The type of node p, which is record p of the file.
 fn type_of(file: &[u8], p: u32) -> usize
-    requires { recordPlace p + 3 ≤ length file.now }
-    ensures { result ≡ get_or file.now (recordPlace p + 2) 0 }
+    requires { record_place p + 3 ≤ length file.now }
+    ensures { result ≡ get_or file.now (record_place p + 2) 0 }
 {
     type_at(file, 5 + 3 * (p as usize))
 }

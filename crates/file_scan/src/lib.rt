@@ -1,7 +1,7 @@
 // Reading a sheet file at speed: where its block ends, or 0 where something is wrong.
 ghost use Rattle.std.specs.Prelude.{◌≡◌, ◌+◌, ◌<◌, ◌≤◌, length, get_or};
-ghost use Rattle.file.specs.File.{block_at, fourAt};
-ghost use Rattle.file.specs.Reading.{end_of, standsAt, sameType, FourBytes, pixelTypes};
+ghost use Rattle.file.specs.File.{block_at, four_at};
+ghost use Rattle.file.specs.Reading.{end_of, stands_at, same_type, FourBytes, pixel_types};
 
 // The marks of a node record as one number, the low byte first; and those of four pixels' twelve bytes, as three
 // numbers, with 0 for each type: 51 4E 00 51, 4E 00 51 4E and 00 51 4E 00.
@@ -27,7 +27,7 @@ pub fn type_at(file: &[u8], at: usize) -> usize
 // Whether a whole node record stands at a place.
 fn has_record(file: &[u8], at: usize) -> bool
     requires { at ≤ length file.now }
-    ensures { result ≡ standsAt file.now at }
+    ensures { result ≡ stands_at file.now at }
 {
     if file.len() - at < 3 {
         return false;
@@ -42,7 +42,7 @@ fn has_record(file: &[u8], at: usize) -> bool
 
 // 1 where two types are the same, else 0.
 fn same_type(one: usize, other: usize) -> usize
-    ensures { (result ≡ sameType one other) × (result ≤ 1) }
+    ensures { (result ≡ same_type one other) × (result ≤ 1) }
 {
     if one == other {
         return 1;
@@ -64,7 +64,7 @@ fn four_bytes(file: &[u8], at: usize) -> u32
 
 // Whether four types are those of a fork's four pixels: each is a colour, and they are not all alike.
 fn are_pixels(nw: usize, ne: usize, sw: usize, se: usize) -> bool
-    ensures { result ≡ pixelTypes nw ne sw se }
+    ensures { result ≡ pixel_types nw ne sw se }
 {
     if quad::TOP_COLOUR < nw {
         return false;
@@ -88,7 +88,7 @@ fn are_pixels(nw: usize, ne: usize, sw: usize, se: usize) -> bool
 // wrong. Their twelve bytes are taken as three numbers.
 fn scan_pixels(file: &[u8], at: usize) -> usize
     requires { at ≤ length file.now }
-    ensures { (result ≡ end_of (fourAt (block_at file.now 0) at)) × (result ≤ length file.now) }
+    ensures { (result ≡ end_of (four_at (block_at file.now 0) at)) × (result ≤ length file.now) }
 {
     if file.len() - at < 12 {
         return 0;
@@ -120,7 +120,7 @@ fn scan_pixels(file: &[u8], at: usize) -> usize
 // three have the type of the one before.
 fn scan(file: &&[u8], level: u32, at: usize) -> usize
     requires { (0 < level) × (at ≤ length file.now.now) × (length file.now.now < 18446744073709551616) }
-    ensures { (result ≡ end_of (fourAt (block_at file.now.now level) at))
+    ensures { (result ≡ end_of (four_at (block_at file.now.now level) at))
         × (result ≤ length file.now.now) }
 {
     let mut next = at;

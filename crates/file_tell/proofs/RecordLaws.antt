@@ -11,16 +11,16 @@ use Rattle.quad.specs.Numbers.{is_type}
 
 -- the marks were tested by a call, which refused, or did not
 module _ (o s : Outcome) (next : Block) (u : Bool) (e : s ≡ o) (a : u ≡ answers s) where
-  pub marks-stop : not u ≡ true → Bad s ≡ cond (answers o) next (Bad o)
-  marks-stop h = rw (← e, off u (answers s) a h)
+  pub marks_stop : not u ≡ true → Bad s ≡ cond (answers o) next (Bad o)
+  marks_stop h = rw (← e, off u (answers s) a h)
 
-  pub marks-go : (r : Block) → not u ≡ false → r ≡ next → r ≡ cond (answers o) next (Bad o)
-  marks-go r h f = rw (← e, on u (answers s) a h) f
+  pub marks_go : (r : Block) → not u ≡ false → r ≡ next → r ≡ cond (answers o) next (Bad o)
+  marks_go r h f = rw (← e, on u (answers s) a h) f
 
 -- the type byte b was read as k, and tested by a call
 module _ (b k : ℕ) (u : Bool) (e : k ≡ b) (a : u ≡ is_type k) where
-  pub kind-stop : (r x y : Block) → not u ≡ true → r ≡ y → r ≡ cond (is_type b) x y
-  kind-stop r x y h f = rw (← e, off u (is_type k) a h) f
+  pub kind_stop : (r x y : Block) → not u ≡ true → r ≡ y → r ≡ cond (is_type b) x y
+  kind_stop r x y h f = rw (← e, off u (is_type k) a h) f
 
-  pub kind-go : (i : ℕ) (y : Block) → not u ≡ false → Read i k ≡ cond (is_type b) (Read i b) y
-  kind-go i y h = rw (← e, on u (is_type k) a h)
+  pub kind_go : (i : ℕ) (y : Block) → not u ≡ false → Read i k ≡ cond (is_type b) (Read i b) y
+  kind_go i y h = rw (← e, on u (is_type k) a h)

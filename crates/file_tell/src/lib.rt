@@ -1,7 +1,7 @@
 // Reading a sheet file byte by byte: the first fault, with its place.
 ghost use Rattle.std.specs.Prelude.{◌≡◌, ◌+◌, ◌<◌, ◌≤◌, length};
-ghost use Rattle.file.specs.File.{block_at, fourAt};
-ghost use Rattle.file.specs.Reading.{marksOf, recordOf, told, Reaches, FourReach, headerOf, count_of, closingOf};
+ghost use Rattle.file.specs.File.{block_at, four_at};
+ghost use Rattle.file.specs.Reading.{marks_of, record_of, told, Reaches, FourReach, header_of, count_of, closing_of};
 
 use answer::Outcome;
 use file::{Block, Contents, MARK, NODE, SHEET};
@@ -9,7 +9,7 @@ use file::{Block, Contents, MARK, NODE, SHEET};
 // The two mark bytes at a place: the first fault, or an answer.
 fn marks(file: &[u8], at: u32, second: u8) -> Outcome
     requires { at + 1 < 4294967296 }
-    ensures { result ≡ marksOf file.now at second }
+    ensures { result ≡ marks_of file.now at second }
 {
     let first_at = at as usize;
     if file.len() <= first_at {
@@ -32,7 +32,7 @@ fn marks(file: &[u8], at: u32, second: u8) -> Outcome
 // A node record: the place after it and its type, or the first fault.
 fn read_record(file: &[u8], at: u32) -> Block
     requires { at + 3 < 4294967296 }
-    ensures { result ≡ recordOf file.now at }
+    ensures { result ≡ record_of file.now at }
 {
     let outcome = marks(file, at, NODE);
     if !answer::answered(outcome) {
@@ -73,7 +73,7 @@ pub fn read_block(file: &[u8], level: u32, at: u32) -> Block
 #[cycle(read_block_read_four)]
 fn read_four(file: &[u8], level: u32, at: u32) -> Block
     requires { FourReach level at }
-    ensures { result ≡ told (fourAt (block_at file.now level) at) }
+    ensures { result ≡ told (four_at (block_at file.now level) at) }
 {
     let nw = read_block(file, level, at);
     let Block::Read(at_ne, kind_nw) = nw else {
@@ -99,7 +99,7 @@ fn read_four(file: &[u8], level: u32, at: u32) -> Block
 
 // The header: its level as the answer, or the first fault.
 pub fn read_header(file: &[u8]) -> Outcome
-    ensures { result ≡ headerOf file.now }
+    ensures { result ≡ header_of file.now }
 {
     let marked = marks(file, 0, SHEET);
     if !answer::answered(marked) {
@@ -134,7 +134,7 @@ fn header_count(file: &[u8]) -> u32
 // After the block, which ends before a place: the node count, then the bytes left over.
 pub fn close(file: &[u8], level: u32, at: u32) -> Contents
     requires { (5 ≤ at) × (5 ≤ length file.now) }
-    ensures { result ≡ closingOf file.now level at }
+    ensures { result ≡ closing_of file.now level at }
 {
     let count = (at - 5) / 3;
     let named = header_count(file);

@@ -1,9 +1,9 @@
 // A table's file, from whichever numbering (`sheet_write`).
 ghost use Rattle.std.specs.Prelude.{[], ◌∷◌, true, ◌≡◌, ◌+◌, ◌/◌, ◌%◌, ◌<◌, ◌≤◌, length};
 ghost use Rattle.std.proofs.lemmas.List.Edits.{sets};
-ghost use Rattle.table.specs.Table.{son, type, isFork};
-ghost use Rattle.table.specs.Nodes.{treeAt};
-ghost use Rattle.file.specs.File.{mark, sheetMark, nodeMark};
+ghost use Rattle.table.specs.Table.{son, node_type, is_fork};
+ghost use Rattle.table.specs.Nodes.{tree_at};
+ghost use Rattle.file.specs.File.{mark, sheet_mark, node_mark};
 ghost use Rattle.file.specs.Calls.{Writes};
 ghost use Rattle.file.specs.Writing.{Writable, OverPixels, Wrote};
 
@@ -14,7 +14,7 @@ use file::{MARK, NODE, SHEET};
 fn put_header(file: &mut [u8], level: u32, count: u32)
     requires { (5 ≤ length file.old) × (level < 256) × (count < 65536) }
     ensures { file.new ≡ sets file.old 0
-        (mark ∷ sheetMark ∷ level ∷ count % 256 ∷ count / 256 ∷ []) }
+        (mark ∷ sheet_mark ∷ level ∷ count % 256 ∷ count / 256 ∷ []) }
 {
     file[0] = MARK;
     file[1] = SHEET;
@@ -26,7 +26,7 @@ fn put_header(file: &mut [u8], level: u32, count: u32)
 // Writes a node record.
 fn put_record(file: &mut [u8], at: usize, kind: u8)
     requires { at + 3 ≤ length file.old }
-    ensures { file.new ≡ sets file.old at (mark ∷ nodeMark ∷ kind ∷ []) }
+    ensures { file.new ≡ sets file.old at (mark ∷ node_mark ∷ kind ∷ []) }
 {
     file[at] = MARK;
     file[at + 1] = NODE;
@@ -36,7 +36,7 @@ fn put_record(file: &mut [u8], at: usize, kind: u8)
 // The type of son q of a fork p over four pixels.
 fn pixel_type(table: &[u32], p: usize, q: usize) -> u8
     requires { OverPixels table.now p × (q < 4) }
-    ensures { result ≡ type table.now (son table.now p q) }
+    ensures { result ≡ node_type table.now (son table.now p q) }
 {
     let pixel = table_node::word_at(table, p, 1 + q);
     table_node::word_at(table, pixel, 5) as u8
@@ -46,7 +46,7 @@ fn pixel_type(table: &[u32], p: usize, q: usize) -> u8
 // byte is written.
 fn write_pixels(table: &[u32], p: usize, file: &mut [u8], at: usize) -> usize
     requires { OverPixels table.now p × (at + 15 ≤ length file.old) }
-    ensures { Wrote (treeAt table.now 1 p) at file.old file.new result }
+    ensures { Wrote (tree_at table.now 1 p) at file.old file.new result }
 {
     let nw = pixel_type(table, p, 0);
     let ne = pixel_type(table, p, 1);
@@ -63,8 +63,8 @@ fn write_pixels(table: &[u32], p: usize, file: &mut [u8], at: usize) -> usize
 // Writes the block of fork p, its sons' in the order NW, NE, SW, SE, and gives the place after it. A son that is a
 // leaf, or a fork over four pixels, is written here, without a call; each call hands on the one reference to the table.
 fn write_fork(table: &&[u32], level: u32, p: usize, file: &mut [u8], at: usize) -> usize
-    requires { Writable table.now.now level p at (length file.old) × (isFork table.now.now p ≡ true) }
-    ensures { Wrote (treeAt table.now.now level p) at file.old file.new result }
+    requires { Writable table.now.now level p at (length file.old) × (is_fork table.now.now p ≡ true) }
+    ensures { Wrote (tree_at table.now.now level p) at file.old file.new result }
 {
     put_record(file, at, quad::FORK as u8);
     let mut next = at + 3;
@@ -90,7 +90,7 @@ fn write_fork(table: &&[u32], level: u32, p: usize, file: &mut [u8], at: usize) 
 // Writes the block of node p and gives the place after it.
 fn write_block(table: &[u32], level: u32, p: usize, file: &mut [u8], at: usize) -> usize
     requires { Writable table.now level p at (length file.old) }
-    ensures { Wrote (treeAt table.now level p) at file.old file.new result }
+    ensures { Wrote (tree_at table.now level p) at file.old file.new result }
 {
     let kind = table_node::word_at(table, p, 5);
     if kind == quad::FORK {

@@ -17,8 +17,8 @@ use borrow.Author.Tests.{lt-ltb, le-ltb}
 use Rattle.ground.specs.Ground.{whole}
 use Rattle.ground.proofs.NumberLaws.{Finite}
 
-pow-back : (i j : ℕ) → 2 ^ i ≤ 2 ^ j → i ≤ j
-pow-back i j h = let l : i < suc j = lt_of_not-le (λ (g : suc j ≤ i). not-le_of_lt (pow-lt g) h) in omega arith
+pow_back : (i j : ℕ) → 2 ^ i ≤ 2 ^ j → i ≤ j
+pow_back i j h = let l : i < suc j = lt_of_not-le (λ (g : suc j ≤ i). not-le_of_lt (pow-lt g) h) in omega arith
 
 -- what is said of a number that an f64 holds
 parts : (m : ℕ) (e : ℤ) → T (eqb (suc m % 2) 1 && ltb (suc m) (2 ^ 53) && leb (down e) (2 ^ 1074) && ltb (suc m * up e) (2 ^ 1024 * down e))
@@ -46,7 +46,7 @@ unrounded s (suc m) (pos k) t =
     (rw (pow-add 2 k 1074, ← mul_assoc (suc m) (2 ^ k) (2 ^ 1074), mul-one (suc m * 2 ^ k), mul-one (suc m * 2 ^ k * 2 ^ 1074)) refl)
 unrounded s (suc m) (negsuc k) t =
     let h = parts m (negsuc k) t in
-    let l = pow-back (suc k) 1074 h.2 in
+    let l = pow_back (suc k) 1074 h.2 in
     let j = 1074 - suc k in
     round_exact binary64 s (suc m * 1 * 1) (2 ^ suc k * 1) (suc m) j (mul-pos (pow_pos (suc k)) (lit< tt)) h.1
     (lt_of_lt_of_le (shl_lt 53 j h.1) (pow_mono {i = 53 + j} {j = 2098} (omega arith)))
@@ -59,30 +59,30 @@ even m t o h = omega arith
 shift : (n b : ℕ) → n * 2 ^ suc b ≡ n * 2 ^ b * 2
 shift n b = ap (λ (k : ℕ). n * k) (pow-suc 2 b) ∙ sym (mul_assoc n (2 ^ b) 2)
 
-one-writing : (m n a b : ℕ) → m % 2 ≡ 1 → n % 2 ≡ 1 → m * 2 ^ a ≡ n * 2 ^ b → (m ≡ n) × (a ≡ b)
-one-writing m n zero zero o p h = (omega arith, refl)
-one-writing m n zero (suc b) o p h = absurd (even m (n * 2 ^ b) o (omega (arith, shift n b)))
-one-writing m n (suc a) zero o p h = absurd (even n (m * 2 ^ a) p (omega (arith, shift m a)))
-one-writing m n (suc a) (suc b) o p h =
-    let r = one-writing m n a b o p (omega (arith, h, shift m a, shift n b)) in (r.0, ap suc r.1)
+one_writing : (m n a b : ℕ) → m % 2 ≡ 1 → n % 2 ≡ 1 → m * 2 ^ a ≡ n * 2 ^ b → (m ≡ n) × (a ≡ b)
+one_writing m n zero zero o p h = (omega arith, refl)
+one_writing m n zero (suc b) o p h = absurd (even m (n * 2 ^ b) o (omega (arith, shift n b)))
+one_writing m n (suc a) zero o p h = absurd (even n (m * 2 ^ a) p (omega (arith, shift m a)))
+one_writing m n (suc a) (suc b) o p h =
+    let r = one_writing m n a b o p (omega (arith, h, shift m a, shift n b)) in (r.0, ap suc r.1)
 
 -- of a number that an f64 holds: m is odd, or 0 with the exponent 0
 is_odd : (s : Bool) (m : ℕ) (e : ℤ) → T (fits binary64 (fin s (suc m) e)) → suc m % 2 ≡ 1
 unfolding fits
 is_odd s m e t = (parts m e t).0
 
-is-flat : (s : Bool) (e : ℤ) → T (fits binary64 (fin s 0 e)) → e ≡ pos 0
+is_flat : (s : Bool) (e : ℤ) → T (fits binary64 (fin s 0 e)) → e ≡ pos 0
 unfolding fits
-is-flat s (pos zero) t = refl
-is-flat s (pos (suc k)) t = absurd (let q = eqb→eq (2 ^ suc k * 1) 1 t in omega (arith, q, pow-suc 2 k, pow_pos k))
-is-flat s (negsuc k) t = absurd (let q = eqb→eq (1 * 2 ^ suc k) 1 t in omega (arith, q, pow-suc 2 k, pow_pos k))
+is_flat s (pos zero) t = refl
+is_flat s (pos (suc k)) t = absurd (let q = eqb→eq (2 ^ suc k * 1) 1 t in omega (arith, q, pow-suc 2 k, pow_pos k))
+is_flat s (negsuc k) t = absurd (let q = eqb→eq (1 * 2 ^ suc k) 1 t in omega (arith, q, pow-suc 2 k, pow_pos k))
 
 -- two that are one number are one
 one_number : (n : ℕ) (d : ℤ) (m : ℕ) (e : ℤ) → n % 2 ≡ 1 → m % 2 ≡ 1 → n * up d * down e ≡ m * up e * down d → (n ≡ m) × (d ≡ e)
-one_number n (pos k) m (pos j) o p h = let r = one-writing n m k j o p (omega (arith, h)) in (r.0, ap pos r.1)
+one_number n (pos k) m (pos j) o p h = let r = one_writing n m k j o p (omega (arith, h)) in (r.0, ap pos r.1)
 one_number n (pos k) m (negsuc j) o p h = absurd (even m (n * 2 ^ k * 2 ^ j) p (omega (arith, h, shift (n * 2 ^ k) j)))
 one_number n (negsuc k) m (pos j) o p h = absurd (even n (m * 2 ^ j * 2 ^ k) o (omega (arith, h, shift (m * 2 ^ j) k)))
-one_number n (negsuc k) m (negsuc j) o p h = let r = one-writing n m (suc j) (suc k) o p (omega (arith, h)) in (r.0, ap negsuc (omega (arith, r.1)))
+one_number n (negsuc k) m (negsuc j) o p h = let r = one_writing n m (suc j) (suc k) o p (omega (arith, h)) in (r.0, ap negsuc (omega (arith, r.1)))
 
 some : (n : ℕ) (d e : ℤ) (z : ℕ) → z ≡ 0 → suc n * up d * down e ≡ z → ⊥
 some n d e z h k = omega (arith, h, k, mul-pos (mul-pos (zero-lt-suc n) (up_pos d)) (down_pos e))
@@ -93,7 +93,7 @@ same (inf t) s m e f k v = absurd v
 same (fin t n d) s m e f k v = go n m f k (rw (mul-one (down e), mul-one (m * up e)) at v.1)
   where
     go : (n m : ℕ) → T (fits binary64 (fin t n d)) → T (fits binary64 (fin s m e)) → n * up d * down e ≡ m * up e * down d → fin t n d ≡ fin s m e
-    go zero zero f k h = λ i. fin (v.0 i) 0 ((is-flat t d f ∙ sym (is-flat s e k)) i)
+    go zero zero f k h = λ i. fin (v.0 i) 0 ((is_flat t d f ∙ sym (is_flat s e k)) i)
     go zero (suc m) f k h = absurd (some m e d (0 * up d * down e) (rw (zero-mul (up d)) (zero-mul (down e))) (sym h))
     go (suc n) zero f k h = absurd (some n d e (0 * up e * down d) (rw (zero-mul (up e)) (zero-mul (down d))) h)
     go (suc n) (suc m) f k h = let r = one_number (suc n) d (suc m) e (is_odd t n d f) (is_odd s m e k) h in λ i. fin (v.0 i) (r.0 i) (r.1 i)
@@ -102,47 +102,47 @@ same (fin t n d) s m e f k v = go n m f k (rw (mul-one (down e), mul-one (m * up
 rounded : (s : Bool) (m : ℕ) (e : ℤ) → T (fits binary64 (fin s m e)) → round binary64 s (m * up e * 1) (down e * 1) ≡ fin s m e
 rounded s m e f = same (round binary64 s (m * up e * 1) (down e * 1)) s m e (round-fits binary64 s (m * up e * 1) (down e * 1)) f (unrounded s m e f)
 
-minus-zero-added : (s : Bool) (a z c : ℕ) → z ≡ 0 → sum binary64 s a true z c ≡ round binary64 s a c
+minus_zero_added : (s : Bool) (a z c : ℕ) → z ≡ 0 → sum binary64 s a true z c ≡ round binary64 s a c
 unfolding sum
-minus-zero-added true a z c e = rw (e, add-zero a)
-minus-zero-added false a z c e = rw (e, le-ltb a 0 (omega arith), sub-zero a)
+minus_zero_added true a z c e = rw (e, add-zero a)
+minus_zero_added false a z c e = rw (e, le-ltb a 0 (omega arith), sub-zero a)
 
-zero-added : (s : Bool) (a z c : ℕ) → z ≡ 0 → (s ≡ true → a ≡ 0 → ⊥) → sum binary64 s a false z c ≡ round binary64 s a c
+zero_added : (s : Bool) (a z c : ℕ) → z ≡ 0 → (s ≡ true → a ≡ 0 → ⊥) → sum binary64 s a false z c ≡ round binary64 s a c
 unfolding sum
-zero-added false a z c e k = rw (e, add-zero a)
-zero-added true zero z c e k = absurd (k refl refl)
-zero-added true (suc a) z c e k = rw (e, le-ltb (suc a) 0 (omega arith), lt-ltb 0 (suc a) (omega arith), sub-zero (suc a))
+zero_added false a z c e k = rw (e, add-zero a)
+zero_added true zero z c e k = absurd (k refl refl)
+zero_added true (suc a) z c e k = rw (e, le-ltb (suc a) 0 (omega arith), lt-ltb 0 (suc a) (omega arith), sub-zero (suc a))
 
 pub less_zero : (x : Float) → Finite x → T (fits binary64 x) → add binary64 x (fin true 0 (pos 0)) ≡ x
 unfolding add
 less_zero nan k f = absurd k
 less_zero (inf s) k f = absurd k
-less_zero (fin s m e) k f = minus-zero-added s (m * up e * 1) (0 * 1 * down e) (down e * 1) (zero-mul (down e)) ∙ rounded s m e f
+less_zero (fin s m e) k f = minus_zero_added s (m * up e * 1) (0 * 1 * down e) (down e * 1) (zero-mul (down e)) ∙ rounded s m e f
 
-pub more-zero : (x : Float) → Finite x → T (fits binary64 x) → (x ≡ fin true 0 (pos 0) → ⊥) → add binary64 x (fin false 0 (pos 0)) ≡ x
+pub more_zero : (x : Float) → Finite x → T (fits binary64 x) → (x ≡ fin true 0 (pos 0) → ⊥) → add binary64 x (fin false 0 (pos 0)) ≡ x
 unfolding add
-more-zero nan k f z = absurd k
-more-zero (inf s) k f z = absurd k
-more-zero (fin s m e) k f z =
-    zero-added s (m * up e * 1) (0 * 1 * down e) (down e * 1) (zero-mul (down e)) (not-zero m f z) ∙ rounded s m e f
+more_zero nan k f z = absurd k
+more_zero (inf s) k f z = absurd k
+more_zero (fin s m e) k f z =
+    zero_added s (m * up e * 1) (0 * 1 * down e) (down e * 1) (zero-mul (down e)) (not_zero m f z) ∙ rounded s m e f
   where
-    not-zero : (m : ℕ) → T (fits binary64 (fin s m e)) → (fin s m e ≡ fin true 0 (pos 0) → ⊥) → s ≡ true → m * up e * 1 ≡ 0 → ⊥
-    not-zero zero f z h q = z (λ i. fin (h i) 0 (is-flat s e f i))
-    not-zero (suc m) f z h q = omega (arith, q, mul-pos (zero-lt-suc m) (up_pos e))
+    not_zero : (m : ℕ) → T (fits binary64 (fin s m e)) → (fin s m e ≡ fin true 0 (pos 0) → ⊥) → s ≡ true → m * up e * 1 ≡ 0 → ⊥
+    not_zero zero f z h q = z (λ i. fin (h i) 0 (is_flat s e f i))
+    not_zero (suc m) f z h q = omega (arith, q, mul-pos (zero-lt-suc m) (up_pos e))
 
 -- zeros
-pub zero-round : (s : Bool) (d : ℕ) → 0 < d → round binary64 s 0 d ≡ fin s 0 (pos 0)
+pub zero_round : (s : Bool) (d : ℕ) → 0 < d → round binary64 s 0 d ≡ fin s 0 (pos 0)
 unfolding round units odd size climb span
-zero-round s d p = round_same binary64 s 0 d 0 1 p (lit< tt) (sym (zero-mul d))
+zero_round s d p = round_same binary64 s 0 d 0 1 p (lit< tt) (sym (zero-mul d))
 
-pub whole-zero : whole 0 ≡ fin false 0 (pos 0)
+pub whole_zero : whole 0 ≡ fin false 0 (pos 0)
 unfolding of_int round units odd size climb span
-whole-zero = refl
+whole_zero = refl
 
-pub minus-zero : neg (whole 0) ≡ fin true 0 (pos 0)
+pub minus_zero : neg (whole 0) ≡ fin true 0 (pos 0)
 unfolding neg of_int round units odd size climb span
-minus-zero = refl
+minus_zero = refl
 
-pub zeros-added : add binary64 (fin true 0 (pos 0)) (fin false 0 (pos 0)) ≡ whole 0
+pub zeros_added : add binary64 (fin true 0 (pos 0)) (fin false 0 (pos 0)) ≡ whole 0
 unfolding add sum of_int round units odd size climb span
-zeros-added = refl
+zeros_added = refl

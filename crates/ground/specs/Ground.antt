@@ -8,7 +8,7 @@ use Rattle.answer.specs.declared.Outcome.{Outcome}
 use Rattle.answer.specs.declared.Outcome.TheVariants.{Answered, OutOfRange}
 use Rattle.answer.specs.Numbers.{and_then, unless, room, answers}
 use Rattle.table.specs.Rules.{asked_of}
-use Rattle.table.specs.Nodes.{centreAcross, centreDown}
+use Rattle.table.specs.Nodes.{centre_across, centre_down}
 use Rattle.ground.specs.declared.Ground.{Ground}
 
 -- a whole number as a float
@@ -48,21 +48,21 @@ unfoldable pub offset : ℕ → Float
 offset h = Ieee.div binary64 (Ieee.sub binary64 (whole h) unit) two
 
 -- that offset in ground units: ((h - 1) / 2) · step
-unfoldable pub reachOf : Ground → ℕ → Float
-reachOf g h = Ieee.mul binary64 (offset h) g.step
+unfoldable pub reach_of : Ground → ℕ → Float
+reach_of g h = Ieee.mul binary64 (offset h) g.step
 
 -- where the centre (h, k) lies: east + ((h - 1) / 2) · step, north - ((k - 1) / 2) · step
-unfoldable pub eastOf : Ground → ℕ → Float
-eastOf g h = Ieee.add binary64 g.east (reachOf g h)
+unfoldable pub east_of : Ground → ℕ → Float
+east_of g h = Ieee.add binary64 g.east (reach_of g h)
 
-unfoldable pub northOf : Ground → ℕ → Float
-northOf g k = Ieee.sub binary64 g.north (reachOf g k)
+unfoldable pub north_of : Ground → ℕ → Float
+north_of g k = Ieee.sub binary64 g.north (reach_of g k)
 
 -- the call: refusals 1, 2, 3, 4, 5, 6, 11, 9; `numbers` is the length of the slice that is lent
-unfoldable pub centreOf : ℕ → List ℕ → ℕ → Ground → ℕ → Outcome
-centreOf n T p g numbers = and_then (asked_of n T p) (and_then (range_of g) (and_then (room 2 numbers) (Answered 0)))
+unfoldable pub centre_of : ℕ → List ℕ → ℕ → Ground → ℕ → Outcome
+centre_of n T p g numbers = and_then (asked_of n T p) (and_then (range_of g) (and_then (room 2 numbers) (Answered 0)))
 
 -- the slice as the call leaves it: east first, and the rest as it was
-unfoldable pub centreAfter : ℕ → List ℕ → ℕ → Ground → List Float → List Float
-centreAfter n T p g old =
-    cond (answers (centreOf n T p g (length old))) (overlay (eastOf g (centreAcross n T p) ∷ northOf g (centreDown n T p) ∷ []) old) old
+unfoldable pub centre_after : ℕ → List ℕ → ℕ → Ground → List Float → List Float
+centre_after n T p g old =
+    cond (answers (centre_of n T p g (length old))) (overlay (east_of g (centre_across n T p) ∷ north_of g (centre_down n T p) ∷ []) old) old

@@ -2,7 +2,7 @@
 
 // A ground place: the east and north coordinates of the origin, which is the centre of the top left pixel, and a
 // pixel's side.
-#[derive(Drop)]
+#[derive(Clone, Copy)]
 pub struct Ground {
     pub east: f64,
     pub north: f64,
@@ -10,7 +10,7 @@ pub struct Ground {
 }
 
 // A centre (h, k), in half pixels.
-#[derive(Drop)]
+#[derive(Clone, Copy)]
 pub struct Middle {
     pub h: u32,
     pub k: u32,

@@ -1,9 +1,9 @@
 // A node's centre on the ground: the ranges are tested, then each operation is rounded once (`sheet_centre`).
 ghost use Rattle.std.specs.Prelude.{◌≡◌, ◌^◌, ◌≤◌, ◌<◌};
-ghost use Rattle.quad.specs.Numbers.{topLevel};
+ghost use Rattle.quad.specs.Numbers.{top_level};
 ghost use Rattle.table.specs.Rules.{Asked};
-ghost use Rattle.ground_centre.specs.HalfPixels.{halfPixels, middle_of};
-ghost use Rattle.ground.specs.Ground.{within, range_of, reachOf, eastOf, northOf};
+ghost use Rattle.ground_centre.specs.HalfPixels.{half_pixels, middle_of};
+ghost use Rattle.ground.specs.Ground.{within, range_of, reach_of, east_of, north_of};
 ghost use Rattle.ground.specs.Call.{Centres};
 
 use answer::Outcome;
@@ -11,8 +11,8 @@ use ground::{Ground, Middle};
 
 // The middle of a block along one axis, in half pixels: that of the block with this index among those of its level.
 fn half_pixels(index: u32, level: u32) -> u32
-    requires { (level ≤ topLevel) × (index < 2 ^ topLevel) }
-    ensures { result ≡ halfPixels index level }
+    requires { (level ≤ top_level) × (index < 2 ^ top_level) }
+    ensures { result ≡ half_pixels index level }
 {
     (2 * index + 1) << level
 }
@@ -54,21 +54,21 @@ fn range(g: Ground) -> Outcome
 // How far from the origin, in ground units, a place h half pixels from the sheet's edge lies: the origin is one half
 // pixel from it.
 fn reach(g: Ground, h: u32) -> f64
-    ensures { result ≡ reachOf g h }
+    ensures { result ≡ reach_of g h }
 {
     ((h as f64 - 1.0) / 2.0) * g.step
 }
 
 // How far east the centre h half pixels across lies.
 fn east_of(g: Ground, h: u32) -> f64
-    ensures { result ≡ eastOf g h }
+    ensures { result ≡ east_of g h }
 {
     g.east + reach(g, h)
 }
 
 // How far north the centre k half pixels down lies.
 fn north_of(g: Ground, k: u32) -> f64
-    ensures { result ≡ northOf g k }
+    ensures { result ≡ north_of g k }
 {
     g.north - reach(g, k)
 }

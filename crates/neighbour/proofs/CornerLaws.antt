@@ -12,187 +12,187 @@ use lib.Dec.{eqb}
 use lib.ListN.{length}
 use lib.Pow.{pow_pos}
 use borrow.Author.Tests.{lt-ltb, eqb-true}
-use Rattle.base.proofs.AllLaws.{all-at}
+use Rattle.base.proofs.AllLaws.{all_at}
 use Rattle.base.proofs.BoolLaws.{by_bool}
 use Rattle.quad.specs.Block.{column, row, Quadrants}
-use Rattle.quad.specs.Direction.{adjOf, diagonal}
-use Rattle.table.specs.Table.{nodes, son, isFork}
+use Rattle.quad.specs.Direction.{adj_of, diagonal}
+use Rattle.table.specs.Table.{nodes, son, is_fork}
 use Rattle.table.specs.Rules.{Accepted}
-use Rattle.table.specs.Nodes.{pathTo, holder, levelOf}
-use Rattle.table.proofs.AcceptedLaws.{depth_le, depth-son, fork-deep}
-use Rattle.table.proofs.HolderLaws.{held, own-quadrants, own-depth}
-use Rattle.neighbour.specs.Neighbour.{neighbourFound, leafBeyond}
+use Rattle.table.specs.Nodes.{path_to, holder, level_of}
+use Rattle.table.proofs.AcceptedLaws.{depth_le, depth_son, fork_deep}
+use Rattle.table.proofs.HolderLaws.{held, own_quadrants, own_depth}
+use Rattle.neighbour.specs.Neighbour.{neighbour_found, leaf_beyond}
 use Rattle.neighbour.specs.declared.Found.{Found}
 use Rattle.neighbour.specs.declared.Found.TheVariants.{At, Off}
-use Rattle.neighbour.specs.Search.{onwardOf, mirrorOf, Where, off, block, inner, moved, stepTo, cornerDown, cornerUnder, cornerAt, Cornered}
-use Rattle.neighbour.proofs.SearchLaws.{MovedTo, moved_to, steers, heldBy, beside-moved}
+use Rattle.neighbour.specs.Search.{onward_of, mirror_of, Where, off, block, inner, moved, step_to, corner_down, corner_under, corner_at, Cornered}
+use Rattle.neighbour.proofs.SearchLaws.{MovedTo, moved_to, steers, held_by, beside_moved}
 
 -- the path of the block at corner C of the block at the end of π, k levels down
 corners : ℕ → ℕ → List ℕ → List ℕ
 corners C zero π = π
 corners C (suc k) π = C ∷ corners C k π
 
-corners-length : (C k : ℕ) (π : List ℕ) → length (corners C k π) ≡ k + length π
+corners_length : (C k : ℕ) (π : List ℕ) → length (corners C k π) ≡ k + length π
 unfolding corners
-corners-length C zero π = omega arith
-corners-length C (suc k) π = omega (arith, corners-length C k π)
+corners_length C zero π = omega arith
+corners_length C (suc k) π = omega (arith, corners_length C k π)
 
-corners-quadrants : (C k : ℕ) (π : List ℕ) → C < 4 → Quadrants π → Quadrants (corners C k π)
+corners_quadrants : (C k : ℕ) (π : List ℕ) → C < 4 → Quadrants π → Quadrants (corners C k π)
 unfolding corners Quadrants
-corners-quadrants C zero π h q = q
-corners-quadrants C (suc k) π h q = (h, corners-quadrants C k π h q)
+corners_quadrants C zero π h q = q
+corners_quadrants C (suc k) π h q = (h, corners_quadrants C k π h q)
 
 -- its column: the block's, in pixels, and to the east end of it if C is eastern
-bit-down : (b x w : ℕ) → b < 2 → 0 < w → b + 2 * (x * w + b * (w - 1)) ≡ x * (2 * w) + b * (2 * w - 1)
-bit-down zero x w h pos = omega (arith, mul_left_comm x 2 w)
-bit-down (suc zero) x w h pos = omega (arith, mul_left_comm x 2 w)
-bit-down (suc (suc b)) x w h pos = absurd (omega arith)
+bit_down : (b x w : ℕ) → b < 2 → 0 < w → b + 2 * (x * w + b * (w - 1)) ≡ x * (2 * w) + b * (2 * w - 1)
+bit_down zero x w h pos = omega (arith, mul_left_comm x 2 w)
+bit_down (suc zero) x w h pos = omega (arith, mul_left_comm x 2 w)
+bit_down (suc (suc b)) x w h pos = absurd (omega arith)
 
-corners-column : (C k : ℕ) (π : List ℕ) → C < 4 → column (corners C k π) ≡ column π * 2 ^ k + C % 2 * (2 ^ k - 1)
+corners_column : (C k : ℕ) (π : List ℕ) → C < 4 → column (corners C k π) ≡ column π * 2 ^ k + C % 2 * (2 ^ k - 1)
 unfolding corners column
-corners-column C zero π h = omega arith
-corners-column C (suc k) π h = rw (corners-column C k π h, pow-succ' 2 k) (bit-down (C % 2) (column π) (2 ^ k) (omega arith) (pow_pos k))
+corners_column C zero π h = omega arith
+corners_column C (suc k) π h = rw (corners_column C k π h, pow-succ' 2 k) (bit_down (C % 2) (column π) (2 ^ k) (omega arith) (pow_pos k))
 
-corners-row : (C k : ℕ) (π : List ℕ) → C < 4 → row (corners C k π) ≡ row π * 2 ^ k + C / 2 * (2 ^ k - 1)
+corners_row : (C k : ℕ) (π : List ℕ) → C < 4 → row (corners C k π) ≡ row π * 2 ^ k + C / 2 * (2 ^ k - 1)
 unfolding corners row
-corners-row C zero π h = omega arith
-corners-row C (suc k) π h = rw (corners-row C k π h, pow-succ' 2 k) (bit-down (C / 2) (row π) (2 ^ k) (omega arith) (pow_pos k))
+corners_row C zero π h = omega arith
+corners_row C (suc k) π h = rw (corners_row C k π h, pow-succ' 2 k) (bit_down (C / 2) (row π) (2 ^ k) (omega arith) (pow_pos k))
 
 -- a block's corner k levels down
 deepen : ℕ → ℕ → Where → Where
 deepen c zero w = w
 deepen c (suc k) w = inner c (deepen c k w)
 
-deepen-off : (c k : ℕ) → deepen c k off ≡ off
+deepen_off : (c k : ℕ) → deepen c k off ≡ off
 unfolding deepen inner
-deepen-off c zero = refl
-deepen-off c (suc k) = rw (deepen-off c k)
+deepen_off c zero = refl
+deepen_off c (suc k) = rw (deepen_off c k)
 
-deepen-block : (c k : ℕ) (ρ : List ℕ) → deepen c k (block ρ) ≡ block (corners c k ρ)
+deepen_block : (c k : ℕ) (ρ : List ℕ) → deepen c k (block ρ) ≡ block (corners c k ρ)
 unfolding deepen inner corners
-deepen-block c zero ρ = refl
-deepen-block c (suc k) ρ = rw (deepen-block c k ρ)
+deepen_block c zero ρ = refl
+deepen_block c (suc k) ρ = rw (deepen_block c k ρ)
 
 -- the moved corner is the mirrored corner of the moved block
-corners-moved : (D C k : ℕ) (π : List ℕ) → onwardOf D C ≡ D → moved D (corners C k π) ≡ deepen (mirrorOf D C) k (moved D π)
+corners_moved : (D C k : ℕ) (π : List ℕ) → onward_of D C ≡ D → moved D (corners C k π) ≡ deepen (mirror_of D C) k (moved D π)
 unfolding corners deepen moved
-corners-moved D C zero π on = refl
-corners-moved D C (suc k) π on = rw (on, corners-moved D C k π on)
+corners_moved D C zero π on = refl
+corners_moved D C (suc k) π on = rw (on, corners_moved D C k π on)
 
 module _ (T : List ℕ) where
-  corners-holder : (c k : ℕ) (ρ : List ℕ) → holder T (corners c k ρ) ≡ cornerDown T c k (holder T ρ)
-  unfolding corners holder cornerDown
-  corners-holder c zero ρ = refl
-  corners-holder c (suc k) ρ = rw (corners-holder c k ρ)
+  corners_holder : (c k : ℕ) (ρ : List ℕ) → holder T (corners c k ρ) ≡ corner_down T c k (holder T ρ)
+  unfolding corners holder corner_down
+  corners_holder c zero ρ = refl
+  corners_holder c (suc k) ρ = rw (corners_holder c k ρ)
 
   -- the first step, and then the others
-  down-first : (q k p : ℕ) → cornerDown T q (suc k) p ≡ cornerDown T q k (stepTo T q p)
-  unfolding cornerDown
-  down-first q zero p = refl
-  down-first q (suc k) p = rw (← down-first q k p)
+  down_first : (q k p : ℕ) → corner_down T q (suc k) p ≡ corner_down T q k (step_to T q p)
+  unfolding corner_down
+  down_first q zero p = refl
+  down_first q (suc k) p = rw (← down_first q k p)
 
   -- a leaf stays
-  pub down-still : (q k p : ℕ) → isFork T p ≡ false → cornerDown T q k p ≡ p
-  unfolding cornerDown
-  down-still q zero p f = refl
-  down-still q (suc k) p f = rw (down-still q k p f, f)
+  pub down_still : (q k p : ℕ) → is_fork T p ≡ false → corner_down T q k p ≡ p
+  unfolding corner_down
+  down_still q zero p f = refl
+  down_still q (suc k) p f = rw (down_still q k p f, f)
 
 -- the loop of the descent: a fork's corner is its son's, one level below it; a leaf's is itself
 module _ (n : ℕ) (T : List ℕ) (acc : Accepted n T) (q p : ℕ) where
-  pub level-down : p < nodes T → q < 4 → isFork T p ≡ true → levelOf n T p ≡ suc (levelOf n T (son T p q))
-  level-down lt q4 f = omega (arith, fork-deep n T acc p lt f, depth-son n T acc p q lt f q4)
+  pub level_down : p < nodes T → q < 4 → is_fork T p ≡ true → level_of n T p ≡ suc (level_of n T (son T p q))
+  level_down lt q4 f = omega (arith, fork_deep n T acc p lt f, depth_son n T acc p q lt f q4)
 
-  pub corner-fork : p < nodes T → q < 4 → isFork T p ≡ true → cornerUnder n T q (son T p q) ≡ cornerUnder n T q p
-  unfolding cornerUnder
-  corner-fork lt q4 f = rw (level-down lt q4 f, down-first T q (levelOf n T (son T p q)) p, f)
+  pub corner_fork : p < nodes T → q < 4 → is_fork T p ≡ true → corner_under n T q (son T p q) ≡ corner_under n T q p
+  unfolding corner_under
+  corner_fork lt q4 f = rw (level_down lt q4 f, down_first T q (level_of n T (son T p q)) p, f)
 
-  pub corner-leaf : (m its : ℕ) → isFork T p ≡ false → its ≡ levelOf n T p → cornerUnder n T q p ≡ m → At p its ≡ At m (levelOf n T m)
-  unfolding cornerUnder
-  corner-leaf m its f e u =
-      let is : p ≡ m = sym (down-still T q (levelOf n T p) p f) ∙ u in
+  pub corner_leaf : (m its : ℕ) → is_fork T p ≡ false → its ≡ level_of n T p → corner_under n T q p ≡ m → At p its ≡ At m (level_of n T m)
+  unfolding corner_under
+  corner_leaf m its f e u =
+      let is : p ≡ m = sym (down_still T q (level_of n T p) p f) ∙ u in
       rw (e, is)
 
 -- a corner that a side has at one end, and a corner in its own diagonal, go on in that direction
-pub side-on : (D C : ℕ) → D < 4 → adjOf D C ≡ true → onwardOf D C ≡ D
-unfolding onwardOf
-side-on D C lt e = rw (onwardOf, lt-ltb D 4 lt, e)
+pub side_on : (D C : ℕ) → D < 4 → adj_of D C ≡ true → onward_of D C ≡ D
+unfolding onward_of
+side_on D C lt e = rw (onward_of, lt-ltb D 4 lt, e)
 
-pub diagonal-on : (C : ℕ) → C < 4 → onwardOf (diagonal C) C ≡ diagonal C
-unfolding onwardOf
-diagonal-on C lt = eqb-true _ _ (all-at (λ (C : ℕ). eqb (onwardOf (diagonal C) C) (diagonal C)) 4 refl C lt)
+pub diagonal_on : (C : ℕ) → C < 4 → onward_of (diagonal C) C ≡ diagonal C
+unfolding onward_of
+diagonal_on C lt = eqb-true _ _ (all_at (λ (C : ℕ). eqb (onward_of (diagonal C) C) (diagonal C)) 4 refl C lt)
 
 module _ (n : ℕ) (T : List ℕ) (p D C : ℕ) (z : Cornered n T p D C) where
   acc : Accepted n T
   acc = z.accepted
 
-  path : Quadrants (pathTo T n p)
-  path = own-quadrants n T z.accepted p z.node
+  path : Quadrants (path_to T n p)
+  path = own_quadrants n T z.accepted p z.node
 
-  landed : MovedTo D (pathTo T n p) (moved D (pathTo T n p))
-  landed = moved_to D (pathTo T n p) (omega (arith, z.way)) path
+  landed : MovedTo D (path_to T n p) (moved D (path_to T n p))
+  landed = moved_to D (path_to T n p) (omega (arith, z.way)) path
 
   -- the neighbour, and the pixel beyond the corner, by the moves
-  found-moved : neighbourFound n T p D ≡ heldBy n T (moved D (pathTo T n p))
-  unfolding neighbourFound
-  found-moved = beside-moved n T D (pathTo T n p) (omega (arith, z.way)) path
+  found_moved : neighbour_found n T p D ≡ held_by n T (moved D (path_to T n p))
+  unfolding neighbour_found
+  found_moved = beside_moved n T D (path_to T n p) (omega (arith, z.way)) path
 
-  beyond-moved : leafBeyond n T p C D ≡ heldBy n T (deepen (mirrorOf D C) (levelOf n T p) (moved D (pathTo T n p)))
-  beyond-moved =
-      let π = pathTo T n p in
-      let k : ℕ = levelOf n T p in
+  beyond_moved : leaf_beyond n T p C D ≡ held_by n T (deepen (mirror_of D C) (level_of n T p) (moved D (path_to T n p)))
+  beyond_moved =
+      let π = path_to T n p in
+      let k : ℕ = level_of n T p in
       let κ = corners C k π in
-      let size : length κ ≡ n = omega (arith, corners-length C k π, own-depth n T acc p z.node, depth_le T n p) in
-      let b = beside-moved n T D κ (omega (arith, z.way)) (corners-quadrants C k π z.corner path) in
-      rw (size, corners-column C k π z.corner, corners-row C k π z.corner, corners-moved D C k π z.on) at b
+      let size : length κ ≡ n = omega (arith, corners_length C k π, own_depth n T acc p z.node, depth_le T n p) in
+      let b = beside_moved n T D κ (omega (arith, z.way)) (corners_quadrants C k π z.corner path) in
+      rw (size, corners_column C k π z.corner, corners_row C k π z.corner, corners_moved D C k π z.on) at b
 
   -- a neighbour of p's own size has p's levels below it, and a larger one is a leaf
-  as-deep : (ρ : List ℕ) → Quadrants ρ → length ρ ≡ length (pathTo T n p)
-      → cornerUnder n T (mirrorOf D C) (holder T ρ) ≡ cornerDown T (mirrorOf D C) (levelOf n T p) (holder T ρ)
-  unfolding cornerUnder
-  as-deep ρ h s =
-      let c : ℕ = mirrorOf D C in
+  as_deep : (ρ : List ℕ) → Quadrants ρ → length ρ ≡ length (path_to T n p)
+      → corner_under n T (mirror_of D C) (holder T ρ) ≡ corner_down T (mirror_of D C) (level_of n T p) (holder T ρ)
+  unfolding corner_under
+  as_deep ρ h s =
+      let c : ℕ = mirror_of D C in
       ⊎_elim
-      (λ (f : isFork T (holder T ρ) ≡ true).
-      let e : levelOf n T (holder T ρ) ≡ levelOf n T p = omega (arith, (held n T acc ρ h).full f, own-depth n T acc p z.node) in
+      (λ (f : is_fork T (holder T ρ) ≡ true).
+      let e : level_of n T (holder T ρ) ≡ level_of n T p = omega (arith, (held n T acc ρ h).full f, own_depth n T acc p z.node) in
       rw e)
-      (λ (f : isFork T (holder T ρ) ≡ false). down-still T c (levelOf n T (holder T ρ)) (holder T ρ) f ∙ sym (down-still T c (levelOf n T p) (holder T ρ) f))
-      (by_bool (isFork T (holder T ρ)))
+      (λ (f : is_fork T (holder T ρ) ≡ false). down_still T c (level_of n T (holder T ρ)) (holder T ρ) f ∙ sym (down_still T c (level_of n T p) (holder T ρ) f))
+      (by_bool (is_fork T (holder T ρ)))
 
   -- what the corner calls owe, from what the search found
-  down-at : (w : Where) → MovedTo D (pathTo T n p) w → (m l : ℕ) → heldBy n T w ≡ At m l
-      → cornerAt n T (mirrorOf D C) m ≡ heldBy n T (deepen (mirrorOf D C) (levelOf n T p) w)
-  unfolding MovedTo heldBy
-  down-at off d m l e = absurd (let z : ◌≡◌ {A = ℕ} 0 1 = cc in omega arith)
-  down-at (block ρ) d m l e =
-      let c : ℕ = mirrorOf D C in
-      let k : ℕ = levelOf n T p in
+  down_at : (w : Where) → MovedTo D (path_to T n p) w → (m l : ℕ) → held_by n T w ≡ At m l
+      → corner_at n T (mirror_of D C) m ≡ held_by n T (deepen (mirror_of D C) (level_of n T p) w)
+  unfolding MovedTo held_by
+  down_at off d m l e = absurd (let z : ◌≡◌ {A = ℕ} 0 1 = cc in omega arith)
+  down_at (block ρ) d m l e =
+      let c : ℕ = mirror_of D C in
+      let k : ℕ = level_of n T p in
       let em : holder T ρ ≡ m = cc in
-      rw (deepen-block c k ρ, heldBy, corners-holder T c k ρ, ← em) (ap (λ (m : ℕ). At m (levelOf n T m)) (as-deep ρ d.quadrants d.size))
+      rw (deepen_block c k ρ, held_by, corners_holder T c k ρ, ← em) (ap (λ (m : ℕ). At m (level_of n T m)) (as_deep ρ d.quadrants d.size))
 
-  pub beyond-at : (m l q : ℕ) (r : Found) → neighbourFound n T p D ≡ At m l → q ≡ mirrorOf D C → r ≡ cornerAt n T q m → r ≡ leafBeyond n T p C D
-  beyond-at m l q r e eq er = er ∙ rw eq (down-at (moved D (pathTo T n p)) landed m l (sym found-moved ∙ e) ∙ sym beyond-moved)
+  pub beyond_at : (m l q : ℕ) (r : Found) → neighbour_found n T p D ≡ At m l → q ≡ mirror_of D C → r ≡ corner_at n T q m → r ≡ leaf_beyond n T p C D
+  beyond_at m l q r e eq er = er ∙ rw eq (down_at (moved D (path_to T n p)) landed m l (sym found_moved ∙ e) ∙ sym beyond_moved)
 
-  off_at : (w : Where) → heldBy n T w ≡ Off → Off ≡ heldBy n T (deepen (mirrorOf D C) (levelOf n T p) w)
-  unfolding heldBy
-  off_at off e = rw (deepen-off (mirrorOf D C) (levelOf n T p))
+  off_at : (w : Where) → held_by n T w ≡ Off → Off ≡ held_by n T (deepen (mirror_of D C) (level_of n T p) w)
+  unfolding held_by
+  off_at off e = rw (deepen_off (mirror_of D C) (level_of n T p))
   off_at (block ρ) e = absurd (let z : ◌≡◌ {A = ℕ} 0 1 = cc in omega arith)
 
-  pub beyond-off : neighbourFound n T p D ≡ Off → Off ≡ leafBeyond n T p C D
-  beyond-off e = off_at (moved D (pathTo T n p)) (sym found-moved ∙ e) ∙ sym beyond-moved
+  pub beyond_off : neighbour_found n T p D ≡ Off → Off ≡ leaf_beyond n T p C D
+  beyond_off e = off_at (moved D (path_to T n p)) (sym found_moved ∙ e) ∙ sym beyond_moved
 
-  pub mirror-small : mirrorOf D C < 4
-  mirror-small = (steers D C (omega (arith, z.way)) z.corner).small
+  pub mirror_small : mirror_of D C < 4
+  mirror_small = (steers D C (omega (arith, z.way)) z.corner).small
 
   -- where the neighbour is a leaf, it is the leaf beyond the corner too
-  leaf-at : (w : Where) (m l : ℕ) → isFork T m ≡ false → heldBy n T w ≡ At m l → heldBy n T (deepen (mirrorOf D C) (levelOf n T p) w) ≡ At m l
-  unfolding heldBy
-  leaf-at off m l f e = absurd (let z : ◌≡◌ {A = ℕ} 0 1 = cc in omega arith)
-  leaf-at (block ρ) m l f e =
-      let c : ℕ = mirrorOf D C in
-      let k : ℕ = levelOf n T p in
+  leaf_at_lem : (w : Where) (m l : ℕ) → is_fork T m ≡ false → held_by n T w ≡ At m l → held_by n T (deepen (mirror_of D C) (level_of n T p) w) ≡ At m l
+  unfolding held_by
+  leaf_at_lem off m l f e = absurd (let z : ◌≡◌ {A = ℕ} 0 1 = cc in omega arith)
+  leaf_at_lem (block ρ) m l f e =
+      let c : ℕ = mirror_of D C in
+      let k : ℕ = level_of n T p in
       let em : holder T ρ ≡ m = cc in
-      let still : cornerDown T c k (holder T ρ) ≡ holder T ρ = down-still T c k (holder T ρ) (rw em f) in
-      rw (deepen-block c k ρ, heldBy, corners-holder T c k ρ, still) e
+      let still : corner_down T c k (holder T ρ) ≡ holder T ρ = down_still T c k (holder T ρ) (rw em f) in
+      rw (deepen_block c k ρ, held_by, corners_holder T c k ρ, still) e
 
-  pub beyond-leaf-neighbour : (m l : ℕ) → isFork T m ≡ false → neighbourFound n T p D ≡ At m l → leafBeyond n T p C D ≡ At m l
-  beyond-leaf-neighbour m l f e = beyond-moved ∙ leaf-at (moved D (pathTo T n p)) m l f (sym found-moved ∙ e)
+  pub beyond_leaf_neighbour : (m l : ℕ) → is_fork T m ≡ false → neighbour_found n T p D ≡ At m l → leaf_beyond n T p C D ≡ At m l
+  beyond_leaf_neighbour m l f e = beyond_moved ∙ leaf_at_lem (moved D (path_to T n p)) m l f (sym found_moved ∙ e)

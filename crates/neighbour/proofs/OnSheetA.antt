@@ -5,32 +5,32 @@ use Prim.Native.Nat.{ℕ, ◌<◌}
 use native.Mathlib.Omega.{arith}
 use Rattle.answer.specs.declared.Outcome.{Outcome}
 use Rattle.answer.specs.declared.Outcome.TheVariants.{Answered, BadDirection}
-use Rattle.answer.specs.Numbers.{number_of, withLevel, nodeIn}
+use Rattle.answer.specs.Numbers.{number_of, with_level, node_in}
 use Rattle.quad.specs.Numbers.{black}
-use Rattle.quad.specs.Block.{pathOf, column, row}
-use Rattle.quad.specs.Direction.{eastStep, southStep}
-use Rattle.quad.proofs.TreeLaws.{by-quadrant}
-use Rattle.table.specs.Table.{father, type}
-use Rattle.table.specs.Rules.{depthTo, all_of, typeOk, fatherOk, onceOk, sonOk, wordOk, sonsOk, depthOk, sonAlike, mixedOk, faultAt, faultFrom, faultsOf, lengthOk, sizesOf, checkOf, asked_of}
-use Rattle.table.specs.Nodes.{firstQuadrant, sonType, pathTo, holder}
-use Rattle.table.specs.SheetA.{tableA}
-use Rattle.neighbour.specs.Neighbour.{beside, neighbourFound, neighbourOf, cornerLeafOf, diagonalLeafOf}
+use Rattle.quad.specs.Block.{path_of, column, row}
+use Rattle.quad.specs.Direction.{east_step, south_step}
+use Rattle.quad.proofs.TreeLaws.{by_quadrant}
+use Rattle.table.specs.Table.{father, node_type}
+use Rattle.table.specs.Rules.{depth_to, all_of, type_ok, father_ok, once_ok, son_ok, word_ok, sons_ok, depth_ok, son_alike, mixed_ok, fault_at, fault_from, faults_of, length_ok, sizes_of, check_of, asked_of}
+use Rattle.table.specs.Nodes.{first_quadrant, son_type, path_to, holder}
+use Rattle.table.specs.SheetA.{table_a}
+use Rattle.neighbour.specs.Neighbour.{beside, neighbour_found, neighbour_of, corner_leaf_of, diagonal_leaf_of}
 
 -- what the calls owe on document 01's sheet A
 pub record OnSheetA : Type 0 where
-  pub east : neighbourOf 2 tableA 1 1 ≡ Answered (withLevel 2 1)
-  pub south : neighbourOf 2 tableA 6 2 ≡ Answered (withLevel 8 1)
-  pub upper : cornerLeafOf 2 tableA 1 1 1 ≡ Answered (withLevel 3 0)
-  pub lower : cornerLeafOf 2 tableA 1 1 3 ≡ Answered (withLevel 5 0)
-  pub apart : (cornerLeafOf 2 tableA 1 1 0 ≡ BadDirection 0) × (cornerLeafOf 2 tableA 1 1 2 ≡ BadDirection 2)
-  pub beyond : diagonalLeafOf 2 tableA 1 3 ≡ Answered (withLevel 8 1)
-  pub across : diagonalLeafOf 2 tableA 5 1 ≡ Answered (withLevel 4 0)
-  pub larger : diagonalLeafOf 2 tableA 5 2 ≡ Answered (withLevel 7 1)
-  pub under : (father tableA 6 ≡ 2) × (type tableA 6 ≡ black)
+  pub east : neighbour_of 2 table_a 1 1 ≡ Answered (with_level 2 1)
+  pub south : neighbour_of 2 table_a 6 2 ≡ Answered (with_level 8 1)
+  pub upper : corner_leaf_of 2 table_a 1 1 1 ≡ Answered (with_level 3 0)
+  pub lower : corner_leaf_of 2 table_a 1 1 3 ≡ Answered (with_level 5 0)
+  pub apart : (corner_leaf_of 2 table_a 1 1 0 ≡ BadDirection 0) × (corner_leaf_of 2 table_a 1 1 2 ≡ BadDirection 2)
+  pub beyond : diagonal_leaf_of 2 table_a 1 3 ≡ Answered (with_level 8 1)
+  pub across : diagonal_leaf_of 2 table_a 5 1 ≡ Answered (with_level 4 0)
+  pub larger : diagonal_leaf_of 2 table_a 5 2 ≡ Answered (with_level 7 1)
+  pub under : (father table_a 6 ≡ 2) × (node_type table_a 6 ≡ black)
 
-pub on-sheet-a : OnSheetA
-unfolding beside neighbourFound neighbourOf cornerLeafOf diagonalLeafOf firstQuadrant sonType pathTo holder depthTo all_of typeOk fatherOk onceOk sonOk wordOk sonsOk depthOk sonAlike mixedOk faultAt faultFrom faultsOf lengthOk sizesOf checkOf asked_of eastStep southStep pathOf column row
-on-sheet-a = record {
+pub on_sheet_a : OnSheetA
+unfolding beside neighbour_found neighbour_of corner_leaf_of diagonal_leaf_of first_quadrant son_type path_to holder depth_to all_of type_ok father_ok once_ok son_ok word_ok sons_ok depth_ok son_alike mixed_ok fault_at fault_from faults_of length_ok sizes_of check_of asked_of east_step south_step path_of column row
+on_sheet_a = record {
   east = refl;
   south = refl;
   upper = refl;
@@ -43,10 +43,10 @@ on-sheet-a = record {
 }
 
 -- two ponds: what lies under a grey neighbour need not touch
-pub two-ponds : (C v : ℕ) → C < 4 → cornerLeafOf 2 tableA 1 1 C ≡ Answered v → nodeIn v ≡ 6 → ⊥
-two-ponds C v lt e six =
-    let a = on-sheet-a in
-    by-quadrant (λ (C : ℕ). cornerLeafOf 2 tableA 1 1 C ≡ Answered v → ⊥)
+pub two_ponds : (C v : ℕ) → C < 4 → corner_leaf_of 2 table_a 1 1 C ≡ Answered v → node_in v ≡ 6 → ⊥
+two_ponds C v lt e six =
+    let a = on_sheet_a in
+    by_quadrant (λ (C : ℕ). corner_leaf_of 2 table_a 1 1 C ≡ Answered v → ⊥)
     (λ e. omega (arith, other a.apart.0 e))
     (λ e. omega (arith, other a.upper e))
     (λ e. omega (arith, other a.apart.1 e))

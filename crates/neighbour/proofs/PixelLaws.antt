@@ -6,12 +6,12 @@ use Prim.Native.Nat.{ℕ, ◌+◌, ◌-◌, ◌*◌, ◌/◌, ◌^◌, ◌≤◌
 use native.Mathlib.Nat.{mul_assoc, add-mul, mul-le-mul_right, le_of_mul-le-mul_right, div-mul-le_self, div-lt_iff_lt-mul, div-eq_of_lt-le}
 use native.Mathlib.Omega.{arith}
 use lib.Pow.{pow_pos, pow-lt}
-use Rattle.base.proofs.BoolLaws.{lt-or-ge}
-use Rattle.base.proofs.PowLaws.{pow-product}
+use Rattle.base.proofs.BoolLaws.{lt_or_ge}
+use Rattle.base.proofs.PowLaws.{pow_product}
 use Rattle.quad.specs.Block.{column, row}
 use Rattle.table.specs.Table.{nodes}
-use Rattle.table.specs.Rules.{depthTo}
-use Rattle.table.specs.Nodes.{pathTo, side_of}
+use Rattle.table.specs.Rules.{depth_to}
+use Rattle.table.specs.Nodes.{path_to, side_of}
 use Rattle.table.proofs.AcceptedLaws.{depth_le}
 use Rattle.neighbour.specs.Containing.{Contains, Covers}
 
@@ -36,36 +36,36 @@ module _ (k s X x : ℕ) (some : 0 < k) (wide : 0 < s) where
       div-eq_of_lt-le {k = X} k low (omega arith)
 
 module _ (n : ℕ) (T : List ℕ) (m d x y : ℕ) (fits : d ≤ n) where
-  wide-side : depthTo T n m ≤ d → side_of n T m ≡ 2 ^ (d - depthTo T n m) * 2 ^ (n - d)
-  wide-side le = pow-product (d - depthTo T n m) (n - d) (n - depthTo T n m) (omega arith)
+  wide_side : depth_to T n m ≤ d → side_of n T m ≡ 2 ^ (d - depth_to T n m) * 2 ^ (n - d)
+  wide_side le = pow_product (d - depth_to T n m) (n - d) (n - depth_to T n m) (omega arith)
 
-  pub contains-covers : Contains n T m d x y → Covers n T m d x y
-  contains-covers c =
+  pub contains_covers : Contains n T m d x y → Covers n T m d x y
+  contains_covers c =
       let i = c.inside in
-      let k : ℕ = d - depthTo T n m in
-      let w = wide-side i.large in
-      let a = cover (2 ^ k) (2 ^ (n - d)) (column (pathTo T n m)) x (pow_pos k) (pow_pos (n - d)) i.across in
-      let b = cover (2 ^ k) (2 ^ (n - d)) (row (pathTo T n m)) y (pow_pos k) (pow_pos (n - d)) i.down in
+      let k : ℕ = d - depth_to T n m in
+      let w = wide_side i.large in
+      let a = cover (2 ^ k) (2 ^ (n - d)) (column (path_to T n m)) x (pow_pos k) (pow_pos (n - d)) i.across in
+      let b = cover (2 ^ k) (2 ^ (n - d)) (row (path_to T n m)) y (pow_pos k) (pow_pos (n - d)) i.down in
       record { west = rw w a.0; east = rw w a.1; north = rw w b.0; south = rw w b.1 }
 
-  pub covers-contains : m < nodes T → Covers n T m d x y → Contains n T m d x y
-  covers-contains lt c =
+  pub covers_contains : m < nodes T → Covers n T m d x y → Contains n T m d x y
+  covers_contains lt c =
       let s : ℕ = 2 ^ (n - d) in
       let one : (x + 1) * s ≡ x * s + 1 * s = add-mul x 1 s in
       let w = c.west in
       let e = c.east in
-      let le : depthTo T n m ≤ d =
+      let le : depth_to T n m ≤ d =
       ⊎_elim
-      (λ (l : n - depthTo T n m < n - d). absurd (omega (arith, pow-lt {i = n - depthTo T n m} {j = n - d} l)))
-      (λ (g : n - d ≤ n - depthTo T n m). omega (arith, depth_le T n m))
-      (lt-or-ge (n - depthTo T n m) (n - d)) in
-      let k : ℕ = d - depthTo T n m in
-      let v = wide-side le in
+      (λ (l : n - depth_to T n m < n - d). absurd (omega (arith, pow-lt {i = n - depth_to T n m} {j = n - d} l)))
+      (λ (g : n - d ≤ n - depth_to T n m). omega (arith, depth_le T n m))
+      (lt_or_ge (n - depth_to T n m) (n - d)) in
+      let k : ℕ = d - depth_to T n m in
+      let v = wide_side le in
       record {
         node = lt;
         inside = record {
           large = le;
-          across = uncover (2 ^ k) s (column (pathTo T n m)) x (pow_pos k) (pow_pos (n - d)) (rw v at w) (rw v at e);
-          down = uncover (2 ^ k) s (row (pathTo T n m)) y (pow_pos k) (pow_pos (n - d)) (rw v at c.north) (rw v at c.south);
+          across = uncover (2 ^ k) s (column (path_to T n m)) x (pow_pos k) (pow_pos (n - d)) (rw v at w) (rw v at e);
+          down = uncover (2 ^ k) s (row (path_to T n m)) y (pow_pos k) (pow_pos (n - d)) (rw v at c.north) (rw v at c.south);
         };
       }

@@ -2,10 +2,10 @@
 -- for word: what the theorems prove of the node that the calls' definitions name by `holder`.
 use Rattle.std.specs.Prelude.{List, [], ◌∷◌, ◌≡◌, ℕ, ◌+◌, ◌-◌, ◌*◌, ◌/◌, ◌^◌, ◌≤◌, ◌<◌, get_or}
 use Rattle.quad.specs.Block.{column, row}
-use Rattle.quad.specs.Direction.{eastStep, southStep}
+use Rattle.quad.specs.Direction.{east_step, south_step}
 use Rattle.table.specs.Table.{nodes}
-use Rattle.table.specs.Rules.{depthTo}
-use Rattle.table.specs.Nodes.{pathTo, side_of, left_of, top_of}
+use Rattle.table.specs.Rules.{depth_to}
+use Rattle.table.specs.Nodes.{path_to, side_of, left_of, top_of}
 
 -- the block (x, y) of depth d lies in the block (x', y') of depth d', which is as large, or larger: 2 ^ (d - d') blocks
 -- of depth d lie along its side
@@ -17,7 +17,7 @@ pub record Inside (d x y d' x' y' : ℕ) : Type 0 where
 -- the block (x, y) of depth d lies in the block of node m
 pub record Contains (n : ℕ) (T : List ℕ) (m d x y : ℕ) : Type 0 where
   pub node : m < nodes T
-  pub inside : Inside d x y (depthTo T n m) (column (pathTo T n m)) (row (pathTo T n m))
+  pub inside : Inside d x y (depth_to T n m) (column (path_to T n m)) (row (path_to T n m))
 
 -- containing, said in pixels: the block (x, y) of depth d is 2 ^ (n - d) pixels wide, and does not reach beyond the
 -- four sides of m's block
@@ -39,7 +39,7 @@ opposite D = get_or (2 ∷ 3 ∷ 0 ∷ 1 ∷ 7 ∷ 6 ∷ 5 ∷ 4 ∷ []) D D
 -- the pixel (x, y) is one of p's, and the pixel just beyond it in direction D is one of m's: for a side D, the two
 -- share a length of that side
 pub record Touches (n : ℕ) (T : List ℕ) (p m D x y : ℕ) : Type 0 where
-  pub east : 0 < x + eastStep D
-  pub south : 0 < y + southStep D
+  pub east : 0 < x + east_step D
+  pub south : 0 < y + south_step D
   pub here : Contains n T p n x y
-  pub beyond : Contains n T m n (x + eastStep D - 1) (y + southStep D - 1)
+  pub beyond : Contains n T m n (x + east_step D - 1) (y + south_step D - 1)

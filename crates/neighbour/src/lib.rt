@@ -1,7 +1,7 @@
 // Neighbours and corner leaves, as the papers' geometry names them.
 
 // What a search ends on: a node and its level, or no block of the sheet.
-#[derive(Drop)]
+#[derive(Clone, Copy)]
 pub enum Found {
     At { node: usize, level: u32 },
     Off,
@@ -9,7 +9,7 @@ pub enum Found {
 
 // Where a climb stands: an ancestor and its level, the direction in which the block lies from there, and the moves back
 // down to it, a quadrant each: in base four, the next one lowest.
-#[derive(Drop)]
+#[derive(Clone, Copy)]
 pub struct Climb {
     pub node: usize,
     pub level: u32,

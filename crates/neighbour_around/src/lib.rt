@@ -1,15 +1,15 @@
 // The eight neighbours of a son from those of its father.
 ghost use Rattle.std.specs.Prelude.{◌≡◌, ◌<◌, ◌≤◌, eqb, replicate};
-ghost use Rattle.quad.specs.Numbers.{forkType};
+ghost use Rattle.quad.specs.Numbers.{fork_type};
 ghost use Rattle.table.specs.Table.{nodes};
 ghost use Rattle.table.specs.Rules.{one};
-ghost use Rattle.neighbour_around.specs.Surround.{part_of, InNodes, sonSurround};
+ghost use Rattle.neighbour_around.specs.Surround.{part_of, InNodes, son_surround};
 
 use table_node::word_at;
 
 // 1 for a fork's type, else 0.
 pub fn fork_one(kind: usize) -> usize
-    ensures { (result ≡ one (eqb kind forkType)) × (result ≤ 1) }
+    ensures { (result ≡ one (eqb kind fork_type)) × (result ≤ 1) }
 {
     if kind == quad::FORK {
         return 1;
@@ -36,7 +36,7 @@ fn quarter(table: &[u32], w: u32, quadrant: usize) -> u32
 pub fn of_son(table: &[u32], p: usize, quadrant: usize, around: &[u32; 8], own: &mut [u32; 8])
     requires { (p < nodes table.now) × (quadrant < 4) × InNodes table.now around.now
         × (own.old ≡ replicate 8 0) }
-    ensures { own.new ≡ sonSurround table.now p quadrant around.now }
+    ensures { own.new ≡ son_surround table.now p quadrant around.now }
 {
     let side = 3 - 2 * (quadrant % 2);
     let end = 2 * (quadrant / 2);

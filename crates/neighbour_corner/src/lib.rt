@@ -3,9 +3,9 @@
 ghost use Rattle.std.specs.Prelude.{◌≡◌, ◌<◌};
 ghost use Rattle.table.specs.Table.{nodes};
 ghost use Rattle.table.specs.Rules.{Accepted};
-ghost use Rattle.table.specs.Nodes.{levelOf};
-ghost use Rattle.neighbour.specs.Search.{cornerAt, Cornered};
-ghost use Rattle.neighbour.specs.Neighbour.{leafBeyond};
+ghost use Rattle.table.specs.Nodes.{level_of};
+ghost use Rattle.neighbour.specs.Search.{corner_at, Cornered};
+ghost use Rattle.neighbour.specs.Neighbour.{leaf_beyond};
 ghost use Rattle.neighbour.specs.Calls.{CornerLeaves, DiagonalLeaves};
 
 use answer::Outcome;
@@ -16,9 +16,9 @@ use table_node::{level_of, word_at};
 // The leaf at a corner of a node's block, and its level: down by that quadrant as far as there are forks, a son link
 // and a level at a time.
 fn corner_of(n: u32, table: &[u32], node: usize, level: u32, quadrant: usize) -> Found
-    requires { Accepted n table.now × (node < nodes table.now) × (level ≡ levelOf n table.now node)
+    requires { Accepted n table.now × (node < nodes table.now) × (level ≡ level_of n table.now node)
         × (quadrant < 4) }
-    ensures { result ≡ cornerAt n table.now quadrant node }
+    ensures { result ≡ corner_at n table.now quadrant node }
 {
     let mut p = node;
     let mut its = level;
@@ -36,7 +36,7 @@ fn corner_of(n: u32, table: &[u32], node: usize, level: u32, quadrant: usize) ->
 // side, or in that diagonal. From the neighbour down by the mirrored corner.
 fn leaf_beyond(n: u32, table: &[u32], p: usize, direction: usize, corner: usize) -> Found
     requires { Cornered n table.now p direction corner }
-    ensures { result ≡ leafBeyond n table.now p corner direction }
+    ensures { result ≡ leaf_beyond n table.now p corner direction }
 {
     let level = level_of(n, table, p);
     let found = find(n, table, p, level, direction);

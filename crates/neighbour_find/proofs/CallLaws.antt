@@ -11,18 +11,18 @@ use Rattle.answer.specs.Numbers.{and_then, unless}
 
 -- a direction, side or corner above the last
 module _ (last D : ℕ) (next : Outcome) where
-  pub bad-above : last < D → BadDirection D ≡ and_then (unless (ltb last D) (BadDirection D)) next
-  bad-above h = rw (lt-ltb last D h)
+  pub bad_above : last < D → BadDirection D ≡ and_then (unless (ltb last D) (BadDirection D)) next
+  bad_above h = rw (lt-ltb last D h)
 
-  pub good-within : (r : Outcome) → D ≤ last → r ≡ next → r ≡ and_then (unless (ltb last D) (BadDirection D)) next
-  good-within r h e = rw (le-ltb last D h) e
+  pub good_within : (r : Outcome) → D ≤ last → r ≡ next → r ≡ and_then (unless (ltb last D) (BadDirection D)) next
+  good_within r h e = rw (le-ltb last D h) e
 
 -- a corner that a call says is not on its side
 module _ (u b : Bool) (C : ℕ) (next : Outcome) (e : u ≡ b) where
-  pub bad-apart : not u ≡ true → BadDirection C ≡ and_then (unless (not b) (BadDirection C)) next
-  bad-apart h = rw (off u b e h)
+  pub bad_apart : not u ≡ true → BadDirection C ≡ and_then (unless (not b) (BadDirection C)) next
+  bad_apart h = rw (off u b e h)
 
-  pub good-joined : (r : Outcome) → not u ≡ false → r ≡ next → r ≡ and_then (unless (not b) (BadDirection C)) next
-  good-joined r h f = rw (on u b e h) f
+  pub good_joined : (r : Outcome) → not u ≡ false → r ≡ next → r ≡ and_then (unless (not b) (BadDirection C)) next
+  good_joined r h f = rw (on u b e h) f
 
-pub ruleset bounds = (bad-above, good-within, bad-apart, good-joined)
+pub ruleset bounds = (bad_above, good_within, bad_apart, good_joined)

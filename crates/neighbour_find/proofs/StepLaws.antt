@@ -2,16 +2,16 @@
 use mathlib.Core.Path.{◌≡◌, ap}
 use Prim.Native.Nat.{ℕ, ◌≤◌}
 use Rattle.answer.specs.declared.Outcome.TheVariants.{Answered}
-use Rattle.answer.specs.Numbers.{withLevel}
+use Rattle.answer.specs.Numbers.{with_level}
 use Rattle.quad.specs.Numbers.{none}
 use Rattle.neighbour.specs.declared.Found.{Found}
 use Rattle.neighbour.specs.declared.Found.TheVariants.{At}
-use Rattle.neighbour.specs.Neighbour.{outcomeOf}
+use Rattle.neighbour.specs.Neighbour.{outcome_of}
 use Rattle.neighbour.specs.Search.{Small}
 
-pub outcome-at : (found : Found) (m l v : ℕ) → found ≡ At m l → v ≡ withLevel m l → Answered v ≡ outcomeOf found
-outcome-at found m l v e h = rw e (ap Answered h)
+pub outcome_at : (found : Found) (m l v : ℕ) → found ≡ At m l → v ≡ with_level m l → Answered v ≡ outcome_of found
+outcome_at found m l v e h = rw e (ap Answered h)
 
-pub small_at : (found : Found) (m l : ℕ) → Small found → found ≡ At m l → withLevel m l ≤ none
+pub small_at : (found : Found) (m l : ℕ) → Small found → found ≡ At m l → with_level m l ≤ none
 unfolding Small
 small_at found m l h e = (rw e at h).0

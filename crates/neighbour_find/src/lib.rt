@@ -1,12 +1,12 @@
 // A node's neighbour in any of eight directions, by one climb and one descent (`sheet_neighbour`).
 ghost use Rattle.std.specs.Prelude.{◌≡◌, ◌<◌};
-ghost use Rattle.quad.specs.Direction.{commonSideOf};
+ghost use Rattle.quad.specs.Direction.{common_side_of};
 ghost use Rattle.table.specs.Table.{nodes};
 ghost use Rattle.table.specs.Rules.{Accepted};
-ghost use Rattle.table.specs.Nodes.{levelOf};
-ghost use Rattle.neighbour.specs.Search.{stay, onwardOf, mirrorOf, foundIn, Sought, Climbed, Ended, Descends, backFrom};
+ghost use Rattle.table.specs.Nodes.{level_of};
+ghost use Rattle.neighbour.specs.Search.{stay, onward_of, mirror_of, found_in, Sought, Climbed, Ended, Descends, back_from};
 ghost use Rattle.neighbour.specs.Search.{Small};
-ghost use Rattle.neighbour.specs.Neighbour.{neighbourFound, outcomeOf};
+ghost use Rattle.neighbour.specs.Neighbour.{neighbour_found, outcome_of};
 ghost use Rattle.neighbour.specs.Calls.{Neighbours};
 
 use answer::Outcome;
@@ -18,8 +18,8 @@ const STAY: usize = 8;
 
 // The side that two quadrants share. Asked only where document 000's table defines it.
 fn shared_side(quadrant: usize, corner: usize) -> usize
-    requires { (quadrant < 4) × (corner < 4) × (commonSideOf quadrant corner < 4) }
-    ensures { result ≡ commonSideOf quadrant corner }
+    requires { (quadrant < 4) × (corner < 4) × (common_side_of quadrant corner < 4) }
+    ensures { result ≡ common_side_of quadrant corner }
 {
     quad::common_side(quadrant, corner)
 }
@@ -27,7 +27,7 @@ fn shared_side(quadrant: usize, corner: usize) -> usize
 // In which direction from a quadrant's father the block that lies in that direction of the quadrant has its own father.
 fn onward(direction: usize, quadrant: usize) -> usize
     requires { (direction < stay) × (quadrant < 4) }
-    ensures { result ≡ onwardOf direction quadrant }
+    ensures { result ≡ onward_of direction quadrant }
 {
     if direction < 4 {
         if quad::adj(direction, quadrant) {
@@ -48,7 +48,7 @@ fn onward(direction: usize, quadrant: usize) -> usize
 // Which quadrant of that father it is.
 pub fn mirror(direction: usize, quadrant: usize) -> usize
     requires { (direction < stay) × (quadrant < 4) }
-    ensures { result ≡ mirrorOf direction quadrant }
+    ensures { result ≡ mirror_of direction quadrant }
 {
     if direction < 4 {
         return quad::reflect(direction, quadrant);
@@ -93,7 +93,7 @@ fn ascend(n: u32, table: &[u32], p: usize, level: u32, direction: usize) -> Clim
 // lies.
 fn descend(n: u32, table: &[u32], from: Climb, level: u32) -> Found
     requires { Descends n table.now from level }
-    ensures { result ≡ foundIn n table.now level (backFrom n table.now from level) }
+    ensures { result ≡ found_in n table.now level (back_from n table.now from level) }
 {
     let mut node = from.node;
     let mut its = from.level;
@@ -111,9 +111,9 @@ fn descend(n: u32, table: &[u32], from: Climb, level: u32) -> Found
 
 // The neighbour of p and the neighbour's level, from p and p's level.
 pub fn find(n: u32, table: &[u32], p: usize, level: u32, direction: usize) -> Found
-    requires { Accepted n table.now × (p < nodes table.now) × (level ≡ levelOf n table.now p)
+    requires { Accepted n table.now × (p < nodes table.now) × (level ≡ level_of n table.now p)
         × (direction < stay) }
-    ensures { result ≡ neighbourFound n table.now p direction }
+    ensures { result ≡ neighbour_found n table.now p direction }
 {
     let top = ascend(n, table, p, level, direction);
     if top.direction != STAY {
@@ -125,7 +125,7 @@ pub fn find(n: u32, table: &[u32], p: usize, level: u32, direction: usize) -> Fo
 // The outcome of a search: the node with its level beside it, or code 20.
 pub fn outcome(found: Found) -> Outcome
     requires { Small found }
-    ensures { result ≡ outcomeOf found }
+    ensures { result ≡ outcome_of found }
 {
     let Found::At { node, level } = found else {
         return Outcome::NoBlock;

@@ -6,20 +6,20 @@ use Rattle.answer.specs.declared.Outcome.{Outcome}
 use Rattle.answer.specs.declared.Outcome.TheVariants.{Answered}
 use Rattle.answer.specs.Numbers.{and_then, room, answers}
 use Rattle.quad.specs.Numbers.{black}
-use Rattle.table.specs.Table.{nodes, type}
-use Rattle.table.specs.Rules.{one, eachNodeOf}
+use Rattle.table.specs.Table.{nodes, node_type}
+use Rattle.table.specs.Rules.{one, each_node_of}
 use Rattle.ponds.specs.declared.Pond.{Pond}
 use Rattle.ponds.specs.Entries.{entries, words_of}
 use Rattle.ponds.specs.Numbered.{Numbered}
 
 -- how many leaves are black: there are never more ponds
-unfoldable pub blackLeaves : List ℕ → ℕ
-blackLeaves T = sum (λ p. one (eqb (type T p) black)) (nodes T)
+unfoldable pub black_leaves : List ℕ → ℕ
+black_leaves T = sum (λ p. one (eqb (node_type T p) black)) (nodes T)
 
 -- the tests: 1, 2 (table first), 3, 4, 5, and 9 where the register is shorter than it need be; `words` is the length of
 -- the numbers
-unfoldable pub pondsTest : ℕ → List ℕ → ℕ → ℕ → ℕ → Outcome
-pondsTest n T words need have = and_then (eachNodeOf n T words) (room need have)
+unfoldable pub ponds_test : ℕ → List ℕ → ℕ → ℕ → ℕ → Outcome
+ponds_test n T words need have = and_then (each_node_of n T words) (room need have)
 
 -- what an answer leaves: the numbers, and one entry for each pond, written so; what lies beyond the last pond's stays
 pub record Answers {A : Type 0} (n : ℕ) (T : List ℕ) (written : List Pond → List A) (before : List A) (count : ℕ) (numbers : List ℕ) (after : List A) : Type 0 where
@@ -29,9 +29,9 @@ pub record Answers {A : Type 0} (n : ℕ) (T : List ℕ) (written : List Pond �
 -- for any numbers and register that are lent, an entry taking `wide` elements of it: a refusal leaves both as they
 -- were, and the value of an answer is the number of ponds
 pub record Finds {A : Type 0} (n : ℕ) (T : List ℕ) (written : List Pond → List A) (wide : ℕ) (numbers : List ℕ) (reg : List A) (o : Outcome) (numbers' : List ℕ) (reg' : List A) : Type 0 where
-  pub refused : answers (pondsTest n T (length numbers) (wide * blackLeaves T) (length reg)) ≡ false
-      → (o ≡ pondsTest n T (length numbers) (wide * blackLeaves T) (length reg)) × (numbers' ≡ numbers) × (reg' ≡ reg)
-  pub answered : answers (pondsTest n T (length numbers) (wide * blackLeaves T) (length reg)) ≡ true
+  pub refused : answers (ponds_test n T (length numbers) (wide * black_leaves T) (length reg)) ≡ false
+      → (o ≡ ponds_test n T (length numbers) (wide * black_leaves T) (length reg)) × (numbers' ≡ numbers) × (reg' ≡ reg)
+  pub answered : answers (ponds_test n T (length numbers) (wide * black_leaves T) (length reg)) ≡ true
       → (count : ℕ) × (o ≡ Answered count) × Answers n T written reg count numbers' reg'
 
 -- the call on words, five for each entry: level, table, the numbers and the register before, the outcome, the numbers

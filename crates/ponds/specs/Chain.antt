@@ -2,13 +2,13 @@
 -- length of side with the next. It is said by geometry, of pixels beside each other; a corner does not join.
 use Rattle.std.specs.Prelude.{List, ◌≡◌, ℕ, ◌<◌}
 use Rattle.quad.specs.Numbers.{black}
-use Rattle.table.specs.Table.{nodes, type}
+use Rattle.table.specs.Table.{nodes, node_type}
 use Rattle.neighbour.specs.Containing.{Touches}
 
 -- p is a black leaf of the table
 pub record Water (T : List ℕ) (p : ℕ) : Type 0 where
   pub node : p < nodes T
-  pub wet : type T p ≡ black
+  pub wet : node_type T p ≡ black
 
 -- p and q share a length of side: a pixel (x, y) of p lies beside one of q, in the direction of a side
 pub record Shares (n : ℕ) (T : List ℕ) (p q : ℕ) : Type 0 where

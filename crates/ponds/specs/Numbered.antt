@@ -2,7 +2,7 @@
 -- rows.
 use Rattle.std.specs.Prelude.{List, ◌≡◌, ℕ, ◌^◌, ◌≤◌, ◌<◌, length, get_or}
 use Rattle.quad.specs.Numbers.{black}
-use Rattle.table.specs.Table.{nodes, type}
+use Rattle.table.specs.Table.{nodes, node_type}
 use Rattle.ponds.specs.Chain.{Water, Chain}
 use Rattle.ponds.specs.Entries.{number_at}
 
@@ -11,7 +11,7 @@ use Rattle.ponds.specs.Entries.{number_at}
 -- count
 pub record Numbered (n : ℕ) (T numbers : List ℕ) (count : ℕ) : Type 0 where
   pub each : length numbers ≡ nodes T
-  pub dry : (p : ℕ) → p < nodes T → (type T p ≡ black → ⊥) → get_or numbers p 0 ≡ 0
+  pub dry : (p : ℕ) → p < nodes T → (node_type T p ≡ black → ⊥) → get_or numbers p 0 ≡ 0
   pub some : (p : ℕ) → Water T p → 0 < get_or numbers p 0
   pub few : (p : ℕ) → Water T p → get_or numbers p 0 ≤ count
   pub one : (p q : ℕ) → Chain n T p q → get_or numbers p 0 ≡ get_or numbers q 0

@@ -1,7 +1,7 @@
 // Ponds: when water is one, their order by rows, and their entries in the register. What the call gives.
 
 // What a pond covers: how many pixels, its first and last row, its first and last column.
-#[derive(Drop)]
+#[derive(Clone, Copy)]
 pub struct Pond {
     pub pixels: u32,
     pub top: u32,

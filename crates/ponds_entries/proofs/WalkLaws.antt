@@ -44,8 +44,8 @@ Upto n = (i : ℕ) × (i ≤ n)
 abbrev pub Nearer : (n : ℕ) → Upto n → Upto n → Type 0
 Nearer n j i = n - j.0 < n - i.0
 
-pub nearer-wf : (n : ℕ) → WellFounded (Nearer n)
-nearer-wf n = InvImage.wf (λ (i : Upto n). n - i.0) lt-wf_rel.wf
+pub nearer_wf : (n : ℕ) → WellFounded (Nearer n)
+nearer_wf n = InvImage.wf (λ (i : Upto n). n - i.0) lt-wf_rel.wf
 
 -- ---- a function's locals
 -- the local at l holds v

@@ -4,7 +4,7 @@ ghost use Rattle.base.specs.Tab.{overlay};
 ghost use Rattle.table.specs.Rules.{Asked};
 ghost use Rattle.table.specs.Blocks.{block_of};
 ghost use Rattle.ponds.specs.Entries.{entries};
-ghost use Rattle.ponds_entry.specs.Gathered.{emptyPond, grownOf, Fitting, Numbers};
+ghost use Rattle.ponds_entry.specs.Gathered.{empty_pond, grown_of, Fitting, Numbers};
 
 use ponds::Pond;
 
@@ -19,7 +19,7 @@ fn number_at(numbers: &[u32], p: usize) -> usize
 // The entry with node p's block more.
 fn grown_at(n: u32, table: &[u32], p: usize, e: Pond) -> Pond
     requires { Asked n table.now p × Fitting e (block_of n table.now p) }
-    ensures { result ≡ grownOf e (block_of n table.now p) }
+    ensures { result ≡ grown_of e (block_of n table.now p) }
 {
     ponds_entry::grown(e, table_node::block_of(n, table, p))
 }
@@ -35,9 +35,9 @@ fn put(reg: &mut [Pond], i: usize, e: Pond)
 // Entry i with node p's block more.
 fn grow(n: u32, table: &[u32], p: usize, reg: &mut [Pond], i: usize)
     requires { (i < length reg.old)
-        × (Asked n table.now p × Fitting (get_or reg.old i emptyPond) (block_of n table.now p)) }
+        × (Asked n table.now p × Fitting (get_or reg.old i empty_pond) (block_of n table.now p)) }
     ensures { reg.new ≡ set reg.old i
-        (grownOf (get_or reg.old i emptyPond) (block_of n table.now p)) }
+        (grown_of (get_or reg.old i empty_pond) (block_of n table.now p)) }
 {
     reg[i] = grown_at(n, table, p, reg[i]);
 }

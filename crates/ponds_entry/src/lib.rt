@@ -1,15 +1,15 @@
 // An entry of the register, by value and in words.
 ghost use Rattle.std.specs.Prelude.{◌≡◌, length, ◌+◌, ◌*◌, ◌≤◌, ◌<◌, min, max};
-ghost use Rattle.ponds_entry.specs.Gathered.{emptyPond, grownOf, Fitting};
-ghost use Rattle.ponds_entry.specs.Words.{pondAt, put_at};
-ghost use Rattle.ponds_entry.specs.Under.{blockFrom, quarterOf, Parted};
+ghost use Rattle.ponds_entry.specs.Gathered.{empty_pond, grown_of, Fitting};
+ghost use Rattle.ponds_entry.specs.Words.{pond_at, put_at};
+ghost use Rattle.ponds_entry.specs.Under.{block_from, quarter_of, Parted};
 
 use ponds::Pond;
 use table::Block;
 
 // The entry of a pond that has no pixel yet.
 pub fn empty() -> Pond
-    ensures { result ≡ emptyPond }
+    ensures { result ≡ empty_pond }
 {
     let none = quad::NONE as u32;
     Pond {
@@ -43,7 +43,7 @@ pub fn higher(a: u32, b: u32) -> u32
 // The entry with one block more.
 pub fn grown(e: Pond, b: Block) -> Pond
     requires { Fitting e b }
-    ensures { result ≡ grownOf e b }
+    ensures { result ≡ grown_of e b }
 {
     let side = quad::side(b.level);
     let top = b.row * side;
@@ -60,7 +60,7 @@ pub fn grown(e: Pond, b: Block) -> Pond
 // Entry i of the register.
 pub fn entry_at(reg: &[u32], i: usize) -> Pond
     requires { 5 * i + 5 ≤ length reg.now }
-    ensures { result ≡ pondAt reg.now i }
+    ensures { result ≡ pond_at reg.now i }
 {
     let at = 5 * i;
     Pond {
@@ -87,8 +87,8 @@ pub fn put_entry(reg: &mut [u32], i: usize, e: Pond)
 
 // Adds a block to entry i of the register.
 pub fn grow_at(reg: &mut [u32], i: usize, b: Block)
-    requires { (5 * i + 5 ≤ length reg.old) × Fitting (pondAt reg.old i) b }
-    ensures { reg.new ≡ put_at reg.old i (grownOf (pondAt reg.old i) b) }
+    requires { (5 * i + 5 ≤ length reg.old) × Fitting (pond_at reg.old i) b }
+    ensures { reg.new ≡ put_at reg.old i (grown_of (pond_at reg.old i) b) }
 {
     let e = grown(entry_at(reg, i), b);
     put_entry(reg, i, e);
@@ -96,8 +96,8 @@ pub fn grow_at(reg: &mut [u32], i: usize, b: Block)
 
 // Quadrant q of the block of that column, row and level.
 pub fn part(column: u32, row: u32, level: u32, q: usize) -> Block
-    requires { Parted (blockFrom column row level) × (q < 4) }
-    ensures { result ≡ quarterOf (blockFrom column row level) q }
+    requires { Parted (block_from column row level) × (q < 4) }
+    ensures { result ≡ quarter_of (block_from column row level) q }
 {
     Block {
         column: 2 * column + (q % 2) as u32,

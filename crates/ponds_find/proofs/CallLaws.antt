@@ -15,19 +15,19 @@ use Rattle.base.proofs.BoolLaws.{by_bool, on, off}
 use Rattle.answer.specs.declared.Outcome.{Outcome}
 use Rattle.answer.specs.declared.Outcome.TheVariants.{Answered, NoRoom}
 use Rattle.answer.specs.Numbers.{answers, value_of, room}
-use Rattle.answer.proofs.OutcomeLaws.{both-answer, answers-unless}
-use Rattle.quad.specs.Numbers.{black, forkType}
-use Rattle.table.specs.Table.{nodes, type}
-use Rattle.table.specs.Rules.{eachNodeOf, Accepted}
-use Rattle.table.proofs.CheckLaws.{each-node-of}
+use Rattle.answer.proofs.OutcomeLaws.{both_answer, answers_unless}
+use Rattle.quad.specs.Numbers.{black, fork_type}
+use Rattle.table.specs.Table.{nodes, node_type}
+use Rattle.table.specs.Rules.{each_node_of, Accepted}
+use Rattle.table.proofs.CheckLaws.{each_node_of_lem}
 use Rattle.ponds.specs.declared.Pond.{Pond}
 use Rattle.ponds.specs.Entries.{entries}
 use Rattle.ponds_entry.specs.Gathered.{Numbers}
 use Rattle.ponds.specs.Numbered.{Numbered}
-use Rattle.ponds.specs.Calls.{blackLeaves, pondsTest, Finds}
+use Rattle.ponds.specs.Calls.{black_leaves, ponds_test, Finds}
 use Rattle.ponds_find.specs.Finding.{Counts, Finding}
-use Rattle.ponds.proofs.OneNumbering.{one-numbering}
-use Rattle.ponds.proofs.FewPonds.{few-ponds}
+use Rattle.ponds.proofs.OneNumbering.{one_numbering}
+use Rattle.ponds.proofs.FewPonds.{few_ponds}
 
 -- what the register's pass asks of the numbers
 numbers_of : (n : ℕ) (T numbers : List ℕ) (count : ℕ) → Accepted n T → Numbered n T numbers count → Numbers n T numbers count
@@ -36,37 +36,37 @@ numbers_of n T numbers count acc h = record {
   words = h.each;
   few = λ p lt.
       ⊎_elim
-      (λ (e : eqb (type T p) black ≡ true). h.few p (record { node = lt; wet = eqb-true (type T p) black e }))
-      (λ (e : eqb (type T p) black ≡ false). omega (arith, h.dry p lt (eqb-false (type T p) black e)))
-      (by_bool (eqb (type T p) black));
-  forks = λ p lt f. h.dry p lt (λ e. omega (arith, eqb-true (type T p) forkType f));
+      (λ (e : eqb (node_type T p) black ≡ true). h.few p (record { node = lt; wet = eqb-true (node_type T p) black e }))
+      (λ (e : eqb (node_type T p) black ≡ false). omega (arith, h.dry p lt (eqb-false (node_type T p) black e)))
+      (by_bool (eqb (node_type T p) black));
+  forks = λ p lt f. h.dry p lt (λ e. omega (arith, eqb-true (node_type T p) fork_type f));
 }
 
 -- the tests are passed exactly where the sheet is accepted, the numbers are as many as its nodes, and the register has
 -- room
-pub passed : (n : ℕ) (T : List ℕ) (words need have : ℕ) → answers (pondsTest n T words need have) ≡ true
+pub passed : (n : ℕ) (T : List ℕ) (words need have : ℕ) → answers (ponds_test n T words need have) ≡ true
     → Accepted n T × (words ≡ nodes T) × (need ≤ have)
-unfolding pondsTest
+unfolding ponds_test
 passed n T words need have e =
-    let h = both-answer (eachNodeOf n T words) (room need have) e in
-    let a = each-node-of n T words h.0 in
-    (a.0, a.1, ltb-false _ _ (answers-unless _ (NoRoom need) refl h.1))
+    let h = both_answer (each_node_of n T words) (room need have) e in
+    let a = each_node_of_lem n T words h.0 in
+    (a.0, a.1, ltb-false _ _ (answers_unless _ (NoRoom need) refl h.1))
 
 -- the tests and the numbering
 module _ (n : ℕ) (T : List ℕ) (wide have : ℕ) (numbers : List ℕ) (s : Outcome) (u : Bool)
-    (e : s ≡ pondsTest n T (length numbers) (wide * blackLeaves T) have) (a : u ≡ answers s) where
-  pub not-numbered : not u ≡ true → Finding n T wide have numbers s numbers
-  not-numbered h = record {
+    (e : s ≡ ponds_test n T (length numbers) (wide * black_leaves T) have) (a : u ≡ answers s) where
+  pub not_numbered : not u ≡ true → Finding n T wide have numbers s numbers
+  not_numbered h = record {
     refused = λ bad. (e, refl);
     answered = λ good. absurd (false≢true (sym (off u (answers s) a h) ∙ ap answers e ∙ good));
   }
 
-  pub passed-call : not u ≡ false → Accepted n T × (length numbers ≡ nodes T) × (wide * blackLeaves T ≤ have)
-  passed-call h = passed n T (length numbers) (wide * blackLeaves T) have (ap answers (sym e) ∙ on u (answers s) a h)
+  pub passed_call : not u ≡ false → Accepted n T × (length numbers ≡ nodes T) × (wide * black_leaves T ≤ have)
+  passed_call h = passed n T (length numbers) (wide * black_leaves T) have (ap answers (sym e) ∙ on u (answers s) a h)
 
   pub numbered : not u ≡ false → (count : ℕ) (numbers' : List ℕ) → Numbered n T numbers' count → Finding n T wide have numbers (Answered count) numbers'
   numbered h count numbers' m =
-      let p = passed-call h in
+      let p = passed_call h in
       record {
         refused = λ bad. absurd (false≢true (sym bad ∙ ap answers (sym e) ∙ on u (answers s) a h));
         answered = λ good. (
@@ -75,7 +75,7 @@ module _ (n : ℕ) (T : List ℕ) (wide have : ℕ) (numbers : List ℕ) (s : Ou
           record {
             numbered = m;
             filling = numbers_of n T numbers' count p.0 m;
-            room = le_trans (mul-le-mul_left wide (few-ponds n T numbers' count m)) p.2;
+            room = le_trans (mul-le-mul_left wide (few_ponds n T numbers' count m)) p.2;
           },
         );
       }
@@ -84,7 +84,7 @@ module _ (n : ℕ) (T : List ℕ) (wide have : ℕ) (numbers : List ℕ) (s : Ou
 module _ {A : Type 0} (n : ℕ) (T : List ℕ) (written : List Pond → List A) (wide : ℕ) (numbers : List ℕ) (reg : List A) (o : Outcome) (numbers' : List ℕ)
     (f : Finding n T wide (length reg) numbers o numbers') (u : Bool) (a : u ≡ answers o) where
   abbrev test : Outcome
-  test = pondsTest n T (length numbers) (wide * blackLeaves T) (length reg)
+  test = ponds_test n T (length numbers) (wide * black_leaves T) (length reg)
 
   pub found_none : not u ≡ true → Finds n T written wide numbers reg o numbers' reg
   found_none h = record {
@@ -106,8 +106,8 @@ module _ {A : Type 0} (n : ℕ) (T : List ℕ) (written : List Pond → List A) 
       counts : Counts n T wide (length reg) numbers' count
       counts = rw (c ∙ ap value_of is) (f.answered tested).2
 
-      pub found-ready : Numbers n T numbers' count × (wide * count ≤ length reg)
-      found-ready = (counts.filling, counts.room)
+      pub found_ready : Numbers n T numbers' count × (wide * count ≤ length reg)
+      found_ready = (counts.filling, counts.room)
 
       pub found_all : (reg' : List A) → reg' ≡ overlay (written (entries n T numbers' count)) reg → Finds n T written wide numbers reg o numbers' reg'
       found_all reg' r = record {
@@ -116,16 +116,16 @@ module _ {A : Type 0} (n : ℕ) (T : List ℕ) (written : List Pond → List A) 
       }
 
 -- no second outcome
-pub one-finding : {A : Type 0} (n : ℕ) (T : List ℕ) (written : List Pond → List A) (wide : ℕ) (numbers : List ℕ) (reg : List A) (o o' : Outcome)
+pub one_finding : {A : Type 0} (n : ℕ) (T : List ℕ) (written : List Pond → List A) (wide : ℕ) (numbers : List ℕ) (reg : List A) (o o' : Outcome)
     (a a' : List ℕ) (b b' : List A) → Finds n T written wide numbers reg o a b → Finds n T written wide numbers reg o' a' b' → (o ≡ o') × (a ≡ a') × (b ≡ b')
-one-finding n T written wide numbers reg o o' a a' b b' f g =
-    let test = pondsTest n T (length numbers) (wide * blackLeaves T) (length reg) in
+one_finding n T written wide numbers reg o o' a a' b b' f g =
+    let test = ponds_test n T (length numbers) (wide * black_leaves T) (length reg) in
     ⊎_elim
     (λ (good : answers test ≡ true).
     let x = f.answered good in
     let y = g.answered good in
-    let acc = (passed n T (length numbers) (wide * blackLeaves T) (length reg) good).0 in
-    let same = one-numbering n T acc a a' x.0 y.0 x.2.numbered y.2.numbered in (
+    let acc = (passed n T (length numbers) (wide * black_leaves T) (length reg) good).0 in
+    let same = one_numbering n T acc a a' x.0 y.0 x.2.numbered y.2.numbered in (
       x.1 ∙ ap Answered same.1 ∙ sym y.1,
       same.0,
       x.2.register ∙ ap (λ (m : List ℕ). overlay (written (entries n T m x.0)) reg) same.0

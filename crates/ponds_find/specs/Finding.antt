@@ -4,14 +4,14 @@ use Rattle.std.specs.Prelude.{true, false, List, ◌≡◌, ℕ, ◌-◌, ◌*�
 use Rattle.answer.specs.declared.Outcome.{Outcome}
 use Rattle.answer.specs.declared.Outcome.TheVariants.{Answered}
 use Rattle.answer.specs.Numbers.{answers}
-use Rattle.quad.specs.Numbers.{topLevel}
+use Rattle.quad.specs.Numbers.{top_level}
 use Rattle.ponds_entry.specs.Gathered.{Numbers}
 use Rattle.ponds.specs.Numbered.{Numbered}
-use Rattle.ponds.specs.Calls.{blackLeaves, pondsTest}
+use Rattle.ponds.specs.Calls.{black_leaves, ponds_test}
 
 -- the most black leaves that a sheet can have: three under each fork that stands just above the pixels
-abbrev pub mostBlack : ℕ
-mostBlack = 3 * 4 ^ (topLevel - 1)
+abbrev pub most_black : ℕ
+most_black = 3 * 4 ^ (top_level - 1)
 
 -- the numbers of an answer are the ponds', such as a register is filled from, and it has room for them
 pub record Counts (n : ℕ) (T : List ℕ) (wide have : ℕ) (numbers : List ℕ) (count : ℕ) : Type 0 where
@@ -20,7 +20,7 @@ pub record Counts (n : ℕ) (T : List ℕ) (wide have : ℕ) (numbers : List ℕ
   pub room : wide * count ≤ have
 
 pub record Finding (n : ℕ) (T : List ℕ) (wide have : ℕ) (numbers : List ℕ) (o : Outcome) (numbers' : List ℕ) : Type 0 where
-  pub refused : answers (pondsTest n T (length numbers) (wide * blackLeaves T) have) ≡ false
-      → (o ≡ pondsTest n T (length numbers) (wide * blackLeaves T) have) × (numbers' ≡ numbers)
-  pub answered : answers (pondsTest n T (length numbers) (wide * blackLeaves T) have) ≡ true
+  pub refused : answers (ponds_test n T (length numbers) (wide * black_leaves T) have) ≡ false
+      → (o ≡ ponds_test n T (length numbers) (wide * black_leaves T) have) × (numbers' ≡ numbers)
+  pub answered : answers (ponds_test n T (length numbers) (wide * black_leaves T) have) ≡ true
       → (count : ℕ) × (o ≡ Answered count) × Counts n T wide have numbers' count

@@ -1,12 +1,12 @@
 // The ponds of a sheet: their numbers, and the register in words (`sheet_ponds`) or in structs.
 ghost use Rattle.std.specs.Prelude.{◌≡◌, false, ◌*◌, ◌<◌, ◌≤◌, eqb, length};
 ghost use Rattle.answer.specs.Numbers.{room, value_of};
-ghost use Rattle.quad.specs.Numbers.{black, maxWords};
-ghost use Rattle.table.specs.Table.{nodes, type, isFork};
+ghost use Rattle.quad.specs.Numbers.{black, max_words};
+ghost use Rattle.table.specs.Table.{nodes, node_type, is_fork};
 ghost use Rattle.table.specs.Rules.{one, Accepted};
 ghost use Rattle.ponds.specs.Numbered.{Numbered};
-ghost use Rattle.ponds.specs.Calls.{blackLeaves, pondsTest, FindsInWords, FindsInEntries};
-ghost use Rattle.ponds_find.specs.Finding.{mostBlack, Finding};
+ghost use Rattle.ponds.specs.Calls.{black_leaves, ponds_test, FindsInWords, FindsInEntries};
+ghost use Rattle.ponds_find.specs.Finding.{most_black, Finding};
 
 use answer::Outcome;
 use ponds::Pond;
@@ -17,7 +17,7 @@ const MOST_BLACK: usize = 3 * (1 << 2 * (quad::TOP_LEVEL - 1));
 
 // The numbers of a sheet that is one leaf: a black one is a pond. Gives how many there are.
 fn one_leaf(n: u32, table: &[u32], words: &mut [u32]) -> u32
-    requires { Accepted n table.now × (length words.old ≡ nodes table.now) × (isFork table.now 0 ≡ false) }
+    requires { Accepted n table.now × (length words.old ≡ nodes table.now) × (is_fork table.now 0 ≡ false) }
     ensures { Numbered n table.now words.new result }
 {
     let count = one_if_black(table, 0) as u32;
@@ -40,7 +40,7 @@ fn number(n: u32, table: &[u32], words: &mut [u32]) -> u32
 // 1 for a black leaf, else 0.
 fn one_if_black(table: &[u32], p: usize) -> usize
     requires { p < nodes table.now }
-    ensures { result ≡ one (eqb (type table.now p) black) }
+    ensures { result ≡ one (eqb (node_type table.now p) black) }
 {
     if word_at(table, p, 5) == quad::BLACK {
         return 1;
@@ -50,8 +50,8 @@ fn one_if_black(table: &[u32], p: usize) -> usize
 
 // How many leaves are black.
 fn black_leaves(table: &[u32]) -> usize
-    requires { length table.now ≤ maxWords }
-    ensures { result ≡ blackLeaves table.now }
+    requires { length table.now ≤ max_words }
+    ensures { result ≡ black_leaves table.now }
 {
     let all = table_node::node_count(table);
     let mut count = 0;
@@ -66,8 +66,8 @@ fn black_leaves(table: &[u32]) -> usize
 // Whether a register of `have` elements has room for `wide` of them for each black leaf. These are counted only where
 // it is too short for as many as a sheet can have.
 fn room_for(table: &[u32], wide: usize, have: usize) -> Outcome
-    requires { (length table.now ≤ maxWords) × (blackLeaves table.now ≤ mostBlack) × (wide ≤ 5) }
-    ensures { result ≡ room (wide * blackLeaves table.now) have }
+    requires { (length table.now ≤ max_words) × (black_leaves table.now ≤ most_black) × (wide ≤ 5) }
+    ensures { result ≡ room (wide * black_leaves table.now) have }
 {
     if wide * MOST_BLACK <= have {
         return Outcome::Answered { value: 0 };
@@ -85,7 +85,7 @@ fn room_for(table: &[u32], wide: usize, have: usize) -> Outcome
 // `wide` of them for each black leaf.
 fn test(n: u32, table: &[u32], words: usize, wide: usize, have: usize) -> Outcome
     requires { wide ≤ 5 }
-    ensures { result ≡ pondsTest n table.now words (wide * blackLeaves table.now) have }
+    ensures { result ≡ ponds_test n table.now words (wide * black_leaves table.now) have }
 {
     let tested = table_check::each_node(n, table, words);
     if !answer::answered(tested) {

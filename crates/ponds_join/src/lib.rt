@@ -1,7 +1,7 @@
 // Two sets joined, and a leaf labelled by what it touches.
 ghost use Rattle.std.specs.Prelude.{◌≡◌, ◌≤◌};
 ghost use Rattle.ponds_sets.specs.Walk.{Facing, Meets, Nexts};
-ghost use Rattle.ponds_sets.specs.Touch.{firstNonzero, blackOf, Touching, LabelsAs, oneIfNonzero, differOf};
+ghost use Rattle.ponds_sets.specs.Touch.{first_nonzero, black_of, Touching, LabelsAs, one_if_nonzero, differ_of};
 ghost use Rattle.ponds_sets.specs.Sets.{Asking, Led, Shorter, Joining, Joined};
 
 // From this number on a word is a leader's.
@@ -52,7 +52,7 @@ fn join(words: &mut [u32], p: u32, q: u32)
 
 // The first of two numbers that is not 0.
 pub fn first_nonzero(a: u32, b: u32) -> u32
-    ensures { result ≡ firstNonzero a b }
+    ensures { result ≡ first_nonzero a b }
 {
     if a == 0 {
         return b;
@@ -62,7 +62,7 @@ pub fn first_nonzero(a: u32, b: u32) -> u32
 
 // A number for a black leaf's type, else 0.
 fn black_of(kind: usize, a: u32) -> u32
-    ensures { result ≡ blackOf kind a }
+    ensures { result ≡ black_of kind a }
 {
     if kind == quad::BLACK {
         return a;
@@ -72,7 +72,7 @@ fn black_of(kind: usize, a: u32) -> u32
 
 // 1 for a number that is not 0, else 0.
 fn one_if_nonzero(a: u32) -> usize
-    ensures { (result ≡ oneIfNonzero a) × (result ≤ 1) }
+    ensures { (result ≡ one_if_nonzero a) × (result ≤ 1) }
 {
     if a == 0 {
         return 0;
@@ -82,7 +82,7 @@ fn one_if_nonzero(a: u32) -> usize
 
 // 1 for two labels that differ, else 0.
 pub fn apart(a: u32, b: u32) -> usize
-    ensures { (result ≡ differOf a b) × (result ≤ 1) }
+    ensures { (result ≡ differ_of a b) × (result ≤ 1) }
 {
     if a == b {
         return 0;

@@ -8,56 +8,56 @@ use native.Mathlib.Omega.{arith}
 use lib.ListN.{length, get_or, set, length-set, replicate}
 use lib.Seq.{get_or-set_same, get_or-set_other}
 use borrow.Author.Tests.{eqb-true}
-use Rattle.quad.specs.Numbers.{black, forkType}
+use Rattle.quad.specs.Numbers.{black, fork_type}
 use Rattle.quad.specs.Block.{column, row}
-use Rattle.quad.specs.Direction.{eastStep, southStep}
-use Rattle.quad.proofs.TreeLaws.{by-quadrant}
-use Rattle.table.specs.Table.{nodes, type, isFork}
-use Rattle.table.specs.Nodes.{pathTo, left_of, top_of, levelOf}
+use Rattle.quad.specs.Direction.{east_step, south_step}
+use Rattle.quad.proofs.TreeLaws.{by_quadrant}
+use Rattle.table.specs.Table.{nodes, node_type, is_fork}
+use Rattle.table.specs.Nodes.{path_to, left_of, top_of, level_of}
 use Rattle.table.specs.Rules.{Accepted}
-use Rattle.table.proofs.AcceptedLaws.{root-at}
-use Rattle.neighbour.proofs.SideLaws.{on-sheet}
+use Rattle.table.proofs.AcceptedLaws.{root_at}
+use Rattle.neighbour.proofs.SideLaws.{on_sheet}
 use Rattle.ponds.specs.Chain.{Water, Chain, end, link}
 use Rattle.ponds.specs.Words.{word_of}
-use Rattle.ponds.proofs.ChainLaws.{chain-start}
-use Rattle.ponds.proofs.NodeLaws.{last-or-before}
+use Rattle.ponds.proofs.ChainLaws.{chain_start}
+use Rattle.ponds.proofs.NodeLaws.{last_or_before}
 use Rattle.ponds_sets.specs.Sets.{leading, Placed, Begins, Bare, Dark, as_before, none, marked}
 use Rattle.ponds_sets.specs.Lines.{Has, across}
 use Rattle.ponds_sets.specs.Walk.{Coming, Gone, Goes}
 use Rattle.ponds_sets.specs.Labelled.{Labelled, Cleared}
-use Rattle.ponds_sets.proofs.PlaceLaws.{has-contains, contains-has, has-moved, own-pixel}
+use Rattle.ponds_sets.proofs.PlaceLaws.{has_contains, contains_has, has_moved, own_pixel}
 
 pub clear_none : (W : List ℕ) → Cleared W W 0
 clear_none W = record { long = refl; zero = λ i l. absurd (omega (arith, l)) }
 
-pub clear-more : {W W' : List ℕ} {p : ℕ} → Cleared W W' p → p < length W' → Cleared W (set W' p 0) (p + 1)
-clear-more {W} {W'} {p} c l = record {
+pub clear_more : {W W' : List ℕ} {p : ℕ} → Cleared W W' p → p < length W' → Cleared W (set W' p 0) (p + 1)
+clear_more {W} {W'} {p} c l = record {
   long = length-set W' p 0 ∙ c.long;
-  zero = λ i h. last-or-before i p h (λ e. rw e (get_or-set_same W' p 0 0 l)) (λ b. get_or-set_other W' p i 0 0 (λ e. omega (arith, e, b)) ∙ c.zero i b);
+  zero = λ i h. last_or_before i p h (λ e. rw e (get_or-set_same W' p 0 0 l)) (λ b. get_or-set_other W' p i 0 0 (λ e. omega (arith, e, b)) ∙ c.zero i b);
 }
 
-pub clear-all : {W W' : List ℕ} {p : ℕ} → Cleared W W' p → length W' ≤ p → Cleared W W' (length W)
-clear-all c l = record { long = c.long; zero = λ i h. c.zero i (omega (arith, h, c.long, l)) }
+pub clear_all : {W W' : List ℕ} {p : ℕ} → Cleared W W' p → length W' ≤ p → Cleared W W' (length W)
+clear_all c l = record { long = c.long; zero = λ i h. c.zero i (omega (arith, h, c.long, l)) }
 
 -- the root's path is empty
-root-path : (T : List ℕ) (n : ℕ) → pathTo T n 0 ≡ []
-unfolding pathTo
-root-path T zero = refl
-root-path T (suc n) = refl
+root_path : (T : List ℕ) (n : ℕ) → path_to T n 0 ≡ []
+unfolding path_to
+root_path T zero = refl
+root_path T (suc n) = refl
 
-getD-zeros : (k i : ℕ) → ◌≡◌ {A = ℕ} (get_or (replicate k 0) i 0) 0
-getD-zeros zero i = refl
-getD-zeros (suc k) zero = refl
-getD-zeros (suc k) (suc i) = getD-zeros k i
+get_d_zeros : (k i : ℕ) → ◌≡◌ {A = ℕ} (get_or (replicate k 0) i 0) 0
+get_d_zeros zero i = refl
+get_d_zeros (suc k) zero = refl
+get_d_zeros (suc k) (suc i) = get_d_zeros k i
 
 -- a word that was 0, and is no black leaf's
-dark-cases : {A : Type 0} {n : ℕ} {T W W' : List ℕ} {i : ℕ} → Dark n T W W' i → word_of W i ≡ 0 → (word_of W' i ≡ 0 → A)
-    → (isFork T i ≡ true → word_of W' i ≡ leading → Bare n T W' (left_of n T i) (top_of n T i) (levelOf n T i) → A) → A
-dark-cases (as_before e) z a b = a (e ∙ z)
-dark-cases (none e) z a b = a e
-dark-cases (marked k e h) z a b = b k e h
+dark_cases : {A : Type 0} {n : ℕ} {T W W' : List ℕ} {i : ℕ} → Dark n T W W' i → word_of W i ≡ 0 → (word_of W' i ≡ 0 → A)
+    → (is_fork T i ≡ true → word_of W' i ≡ leading → Bare n T W' (left_of n T i) (top_of n T i) (level_of n T i) → A) → A
+dark_cases (as_before e) z a b = a (e ∙ z)
+dark_cases (none e) z a b = a e
+dark_cases (marked k e h) z a b = b k e h
 
-module _ {n : ℕ} {T W₀ W : List ℕ} (acc : Accepted n T) (long : length W₀ ≡ nodes T) (f : isFork T 0 ≡ true) (c : Cleared W₀ W (length W₀)) where
+module _ {n : ℕ} {T W₀ W : List ℕ} (acc : Accepted n T) (long : length W₀ ≡ nodes T) (f : is_fork T 0 ≡ true) (c : Cleared W₀ W (length W₀)) where
   zeros : (i : ℕ) → i < nodes T → word_of W i ≡ 0
   zeros i l = c.zero i (omega (arith, l, long))
 
@@ -65,12 +65,12 @@ module _ {n : ℕ} {T W₀ W : List ℕ} (acc : Accepted n T) (long : length W�
   unplaced : {A : Type 0} (i : ℕ) → Placed T W i → A
   unplaced i h = absurd (h.some (zeros i h.water.node))
 
-  at-start : (left_of n T 0 ≡ 0) × (top_of n T 0 ≡ 0)
+  at_start : (left_of n T 0 ≡ 0) × (top_of n T 0 ≡ 0)
   unfolding column row
-  at-start = (rw (root-path T n) (omega arith), rw (root-path T n) (omega arith))
+  at_start = (rw (root_path T n) (omega arith), rw (root_path T n) (omega arith))
 
-  pub lead-coming : (L : List ℕ) → L ≡ replicate 256 0 → Coming T W L 0 0 0 n
-  lead-coming L e = record {
+  pub lead_coming : (L : List ℕ) → L ≡ replicate 256 0 → Coming T W L 0 0 0 n
+  lead_coming L e = record {
     n = n;
     lead = λ i. i;
     sets = record {
@@ -85,52 +85,52 @@ module _ {n : ℕ} {T W₀ W : List ℕ} (acc : Accepted n T) (long : length W�
       first = λ i h. unplaced i h;
     };
     long = rw e;
-    at = root-at acc;
-    left = at-start.0;
-    top = at-start.1;
+    at = root_at acc;
+    left = at_start.0;
+    top = at_start.1;
     met = λ i h. unplaced i h;
     lines = record {
-      north = λ u a b. record { off = λ z. rw e (getD-zeros 256 u); on = λ z. absurd (omega (arith, z)) };
-      west = λ u a b. record { off = λ z. rw e (getD-zeros 256 (across + u)); on = λ z. absurd (omega (arith, z)) };
+      north = λ u a b. record { off = λ z. rw e (get_d_zeros 256 u); on = λ z. absurd (omega (arith, z)) };
+      west = λ u a b. record { off = λ z. rw e (get_d_zeros 256 (across + u)); on = λ z. absurd (omega (arith, z)) };
     };
     free = λ i w b. zeros i w.node;
   }
 
   -- every node begins on the sheet
-  begins-all : (i : ℕ) → Water T i → Begins n T i 0 0 n
-  begins-all i w =
-      let o = on-sheet n T acc i n (left_of n T i) (top_of n T i) (has-contains (own-pixel i w.node)) in
+  begins_all : (i : ℕ) → Water T i → Begins n T i 0 0 n
+  begins_all i w =
+      let o = on_sheet n T acc i n (left_of n T i) (top_of n T i) (has_contains (own_pixel i w.node)) in
       record { west = omega arith; east = omega (arith, o.0); north = omega arith; south = omega (arith, o.1) }
 
   module _ (W' L' : List ℕ) (r : ℕ) (L : List ℕ) (g : Gone n T W (λ i. i) L 0 0 n W' L' r) where
     all : (i : ℕ) → Water T i → Placed T W' i
-    all i w = g.placed i w (begins-all i w)
+    all i w = g.placed i w (begins_all i w)
 
     -- two leaves that share a length of side
-    touching : (D : ℕ) → D < 4 → (p q x y : ℕ) → Water T p → Water T q → 0 < x + eastStep D → 0 < y + southStep D → Has n T p x y
-        → Has n T q (x + eastStep D - 1) (y + southStep D - 1) → g.lead' p ≡ g.lead' q
-    unfolding eastStep southStep
+    touching : (D : ℕ) → D < 4 → (p q x y : ℕ) → Water T p → Water T q → 0 < x + east_step D → 0 < y + south_step D → Has n T p x y
+        → Has n T q (x + east_step D - 1) (y + south_step D - 1) → g.lead' p ≡ g.lead' q
+    unfolding east_step south_step
     touching =
-        by-quadrant
-        (λ (D : ℕ). (p q x y : ℕ) → Water T p → Water T q → 0 < x + eastStep D → 0 < y + southStep D → Has n T p x y
-        → Has n T q (x + eastStep D - 1) (y + southStep D - 1) → g.lead' p ≡ g.lead' q)
-        (λ p q x y wp wq ex ey hp hq. sym ((g.met p (all p wp) x y hp).north (omega (arith, ey)) q wq (has-moved (omega arith) (omega arith) hq)).1)
-        (λ p q x y wp wq ex ey hp hq. ((g.met q (all q wq) (x + 1) y (has-moved (omega arith) (omega arith) hq)).west (omega arith) p wp (has-moved (omega arith) refl hp)).1)
-        (λ p q x y wp wq ex ey hp hq. ((g.met q (all q wq) x (y + 1) (has-moved (omega arith) (omega arith) hq)).north (omega arith) p wp (has-moved refl (omega arith) hp)).1)
-        (λ p q x y wp wq ex ey hp hq. sym ((g.met p (all p wp) x y hp).west (omega (arith, ex)) q wq (has-moved (omega arith) (omega arith) hq)).1)
+        by_quadrant
+        (λ (D : ℕ). (p q x y : ℕ) → Water T p → Water T q → 0 < x + east_step D → 0 < y + south_step D → Has n T p x y
+        → Has n T q (x + east_step D - 1) (y + south_step D - 1) → g.lead' p ≡ g.lead' q)
+        (λ p q x y wp wq ex ey hp hq. sym ((g.met p (all p wp) x y hp).north (omega (arith, ey)) q wq (has_moved (omega arith) (omega arith) hq)).1)
+        (λ p q x y wp wq ex ey hp hq. ((g.met q (all q wq) (x + 1) y (has_moved (omega arith) (omega arith) hq)).west (omega arith) p wp (has_moved (omega arith) refl hp)).1)
+        (λ p q x y wp wq ex ey hp hq. ((g.met q (all q wq) x (y + 1) (has_moved (omega arith) (omega arith) hq)).north (omega arith) p wp (has_moved refl (omega arith) hp)).1)
+        (λ p q x y wp wq ex ey hp hq. sym ((g.met p (all p wp) x y hp).west (omega (arith, ex)) q wq (has_moved (omega arith) (omega arith) hq)).1)
 
     one : (p q : ℕ) → Chain n T p q → g.lead' p ≡ g.lead' q
     one p q (end w) = refl
     one p q (link {q = k} w s d) =
-        touching s.side s.straight p k s.x s.y w (chain-start n T k q d) s.touch.east s.touch.south (contains-has s.touch.here) (contains-has s.touch.beyond)
+        touching s.side s.straight p k s.x s.y w (chain_start n T k q d) s.touch.east s.touch.south (contains_has s.touch.here) (contains_has s.touch.beyond)
         ∙ one k q d
 
-    dark : {A : Type 0} (i : ℕ) → i < nodes T → (type T i ≡ black → ⊥) → (word_of W' i ≡ 0 → A)
-        → (isFork T i ≡ true → word_of W' i ≡ leading → Bare n T W' (left_of n T i) (top_of n T i) (levelOf n T i) → A) → A
-    dark i l nb a b = dark-cases (g.further.dark i nb) (zeros i l) a b
+    dark : {A : Type 0} (i : ℕ) → i < nodes T → (node_type T i ≡ black → ⊥) → (word_of W' i ≡ 0 → A)
+        → (is_fork T i ≡ true → word_of W' i ≡ leading → Bare n T W' (left_of n T i) (top_of n T i) (level_of n T i) → A) → A
+    dark i l nb a b = dark_cases (g.further.dark i nb) (zeros i l) a b
 
-    pub all-labelled : Labelled n T W'
-    all-labelled = record {
+    pub all_labelled : Labelled n T W'
+    all_labelled = record {
       lead = g.lead';
       sets = g.further.sets;
       all = all;
@@ -138,11 +138,11 @@ module _ {n : ℕ} {T W₀ W : List ℕ} (acc : Accepted n T) (long : length W�
       dry = λ i l nb. dark i l nb (λ e. inl e) (λ k e h. inr e);
       one = one;
       marks = λ i l k e.
-          dark i l (λ b. omega (arith, b, eqb-true (type T i) forkType k)) (λ o. absurd (omega (arith, o, e))) (λ k' e' h. h);
+          dark i l (λ b. omega (arith, b, eqb-true (node_type T i) fork_type k)) (λ o. absurd (omega (arith, o, e))) (λ k' e' h. h);
     }
 
 -- in the code's own values
-pub lead-labelled : {n : ℕ} {T W₀ W L : List ℕ} → Accepted n T → length W₀ ≡ nodes T → isFork T 0 ≡ true → Cleared W₀ W (length W₀) → L ≡ replicate 256 0
+pub lead_labelled : {n : ℕ} {T W₀ W L : List ℕ} → Accepted n T → length W₀ ≡ nodes T → is_fork T 0 ≡ true → Cleared W₀ W (length W₀) → L ≡ replicate 256 0
     → (W' L' : List ℕ) (r : ℕ) → Goes T W L 0 0 0 n W' L' r → Labelled n T W'
-unfolding lead-coming
-lead-labelled {L = L} acc long f c e W' L' r g = all-labelled acc long f c W' L' r L (g (lead-coming acc long f c L e))
+unfolding lead_coming
+lead_labelled {L = L} acc long f c e W' L' r g = all_labelled acc long f c W' L' r L (g (lead_coming acc long f c L e))

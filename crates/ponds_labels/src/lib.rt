@@ -1,6 +1,6 @@
 // The walk that labels the black leaves.
 ghost use Rattle.std.specs.Prelude.{◌≡◌, true, length};
-ghost use Rattle.table.specs.Table.{nodes, isFork};
+ghost use Rattle.table.specs.Table.{nodes, is_fork};
 ghost use Rattle.table.specs.Rules.{Accepted};
 ghost use Rattle.ponds_sets.specs.Labelled.{Cleared, Labelled};
 ghost use Rattle.ponds_sets.specs.Walk.{Coming, Goes};
@@ -30,7 +30,7 @@ fn fork(
     x: usize,
     y: usize,
 ) -> u32
-    requires { Coming table.now words.old lines.old p x y level × (isFork table.now p ≡ true) }
+    requires { Coming table.now words.old lines.old p x y level × (is_fork table.now p ≡ true) }
     ensures { Goes table.now words.old lines.old p x y level
         words.new lines.new result }
 {
@@ -79,7 +79,7 @@ fn clear(words: &mut [u32])
 // Labels the black leaves of a sheet whose root is a fork: a leader's word is its place, any other's leads to an
 // earlier leaf of its set, and a fork above level 1 is marked where no leader lies under it.
 pub fn lead(n: u32, table: &[u32], words: &mut [u32])
-    requires { Accepted n table.now × (length words.old ≡ nodes table.now) × (isFork table.now 0 ≡ true) }
+    requires { Accepted n table.now × (length words.old ≡ nodes table.now) × (is_fork table.now 0 ≡ true) }
     ensures { Labelled n table.now words.new }
 {
     clear(words);

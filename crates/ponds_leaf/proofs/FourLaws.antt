@@ -7,93 +7,93 @@ use native.Mathlib.Omega.{arith}
 use lib.ListN.{length, get_or, set, length-set}
 use lib.Seq.{get_or-set_same, get_or-set_other}
 use borrow.Author.Tests.{eq-eqb}
-use Rattle.quad.specs.Numbers.{forkType}
-use Rattle.table.specs.Table.{son, type, isFork}
-use Rattle.table.proofs.AcceptedLaws.{fork-above, son-at}
+use Rattle.quad.specs.Numbers.{fork_type}
+use Rattle.table.specs.Table.{son, node_type, is_fork}
+use Rattle.table.proofs.AcceptedLaws.{fork_above, son_at}
 use Rattle.ponds.proofs.NodeLaws.{same_or_not}
 use Rattle.ponds_sets.specs.Lines.{across}
-use Rattle.ponds_sets.specs.Touch.{firstNonzero, oneIfOwn, Touching, LabelsAs}
+use Rattle.ponds_sets.specs.Touch.{first_nonzero, one_if_own, Touching, LabelsAs}
 use Rattle.ponds_sets.specs.Walk.{LinesFilled, written, Coming, Goes, ToLeaf, PastLeaf}
-use Rattle.ponds_sets.proofs.TouchLaws.{nonzero-second}
-use Rattle.ponds_sides.proofs.LeafLaws.{leaf-touching, leaf_touched, pixel-past, filled-one}
-use Rattle.ponds_leaf.proofs.ForkLaws.{room, Firsts, firsts-none, first-other, son-leaf, firsts-leaf, firsts-still}
+use Rattle.ponds_sets.proofs.TouchLaws.{nonzero_second}
+use Rattle.ponds_sides.proofs.LeafLaws.{leaf_touching, leaf_touched, pixel_past, filled_one}
+use Rattle.ponds_leaf.proofs.ForkLaws.{room, Firsts, firsts_none, first_other, son_leaf, firsts_leaf, firsts_still}
 
 -- a fork of four pixels
-module _ (T W L : List ℕ) (p x y : ℕ) (f : isFork T p ≡ true) (c₀ c₁ c₂ c₃ : ℕ) (e₀ : c₀ ≡ son T p 0) (e₁ : c₁ ≡ son T p 1) (e₂ : c₂ ≡ son T p 2) (e₃ : c₃ ≡ son T p 3) where
+module _ (T W L : List ℕ) (p x y : ℕ) (f : is_fork T p ≡ true) (c₀ c₁ c₂ c₃ : ℕ) (e₀ : c₀ ≡ son T p 0) (e₁ : c₁ ≡ son T p 1) (e₂ : c₂ ≡ son T p 2) (e₃ : c₃ ≡ son T p 3) where
   abbrev Some : ℕ → List ℕ → List ℕ → ℕ → Type 0
   Some q W' L' r = Firsts T W L p x y 1 1 0 q W' L' r
 
   -- the sons of a fork of level 1 are leaves
-  pub pixel-leaf : Coming T W L p x y 1 → (q : ℕ) → q < 4 → (c k : ℕ) → c ≡ son T p q → k ≡ type T c → k ≡ forkType → ⊥
-  pixel-leaf z q q4 c k ec ek e =
-      let d = son-at z.at f q q4 in
-      omega (arith, fork-above d (eq-eqb (type T (son T p q)) forkType (ap (type T) (sym ec) ∙ sym ek ∙ e)))
+  pub pixel_leaf : Coming T W L p x y 1 → (q : ℕ) → q < 4 → (c k : ℕ) → c ≡ son T p q → k ≡ node_type T c → k ≡ fork_type → ⊥
+  pixel_leaf z q q4 c k ec ek e =
+      let d = son_at z.at f q q4 in
+      omega (arith, fork_above d (eq-eqb (node_type T (son T p q)) fork_type (ap (node_type T) (sym ec) ∙ sym ek ∙ e)))
 
-  module _ (z : Coming T W L p x y 1) (k₀ k₁ k₂ k₃ : ℕ) (t₀ : k₀ ≡ type T c₀) (t₁ : k₁ ≡ type T c₁) (t₂ : k₂ ≡ type T c₂) (t₃ : k₃ ≡ type T c₃) where
-    pub four-none : Some 0 W L 0
-    four-none = firsts-none T W L p x y 1 f 1 0 refl refl
+  module _ (z : Coming T W L p x y 1) (k₀ k₁ k₂ k₃ : ℕ) (t₀ : k₀ ≡ node_type T c₀) (t₁ : k₁ ≡ node_type T c₁) (t₂ : k₂ ≡ node_type T c₂) (t₃ : k₃ ≡ node_type T c₃) where
+    pub four_none : Some 0 W L 0
+    four_none = firsts_none T W L p x y 1 f 1 0 refl refl
 
-    pub four-first : ToLeaf W L k₀ c₀ 1 x y
-    four-first =
-        son-leaf T W L p x y 1 f 1 0 refl refl 0 (omega arith) W L 0 four-none c₀ x y e₀ (omega arith) (omega arith) k₀ 1 t₀ (pixel-leaf z 0 (omega arith) c₀ k₀ e₀ t₀) refl z
+    pub four_first : ToLeaf W L k₀ c₀ 1 x y
+    four_first =
+        son_leaf T W L p x y 1 f 1 0 refl refl 0 (omega arith) W L 0 four_none c₀ x y e₀ (omega arith) (omega arith) k₀ 1 t₀ (pixel_leaf z 0 (omega arith) c₀ k₀ e₀ t₀) refl z
 
     module _ (W₁ L₁ : List ℕ) (a : ℕ) (g₀ : PastLeaf W L k₀ c₀ 1 x y W₁ L₁ a) where
-      four-one : Some 1 W₁ L₁ (firstNonzero 0 a)
-      four-one =
-          firsts-leaf T W L p x y 1 f 1 0 refl refl 0 (omega arith) W L 0 four-none c₀ x y e₀ (omega arith) (omega arith) k₀ 1 t₀
-          (pixel-leaf z 0 (omega arith) c₀ k₀ e₀ t₀) refl W₁ L₁ a g₀ _ refl
+      four_one : Some 1 W₁ L₁ (first_nonzero 0 a)
+      four_one =
+          firsts_leaf T W L p x y 1 f 1 0 refl refl 0 (omega arith) W L 0 four_none c₀ x y e₀ (omega arith) (omega arith) k₀ 1 t₀
+          (pixel_leaf z 0 (omega arith) c₀ k₀ e₀ t₀) refl W₁ L₁ a g₀ _ refl
 
-      pub four-second : ToLeaf W₁ L₁ k₁ c₁ 1 (x + 1) y
-      four-second =
-          son-leaf T W L p x y 1 f 1 0 refl refl 1 (omega arith) W₁ L₁ (firstNonzero 0 a) four-one c₁ (x + 1) y e₁ (omega arith) (omega arith) k₁ 1 t₁
-          (pixel-leaf z 1 (omega arith) c₁ k₁ e₁ t₁) refl z
+      pub four_second : ToLeaf W₁ L₁ k₁ c₁ 1 (x + 1) y
+      four_second =
+          son_leaf T W L p x y 1 f 1 0 refl refl 1 (omega arith) W₁ L₁ (first_nonzero 0 a) four_one c₁ (x + 1) y e₁ (omega arith) (omega arith) k₁ 1 t₁
+          (pixel_leaf z 1 (omega arith) c₁ k₁ e₁ t₁) refl z
 
       module _ (W₂ L₂ : List ℕ) (b : ℕ) (g₁ : PastLeaf W₁ L₁ k₁ c₁ 1 (x + 1) y W₂ L₂ b) where
-        four-two : Some 2 W₂ L₂ (firstNonzero (firstNonzero 0 a) b)
-        four-two =
-            firsts-leaf T W L p x y 1 f 1 0 refl refl 1 (omega arith) W₁ L₁ (firstNonzero 0 a) four-one c₁ (x + 1) y e₁ (omega arith) (omega arith) k₁ 1 t₁
-            (pixel-leaf z 1 (omega arith) c₁ k₁ e₁ t₁) refl W₂ L₂ b g₁ _ refl
+        four_two : Some 2 W₂ L₂ (first_nonzero (first_nonzero 0 a) b)
+        four_two =
+            firsts_leaf T W L p x y 1 f 1 0 refl refl 1 (omega arith) W₁ L₁ (first_nonzero 0 a) four_one c₁ (x + 1) y e₁ (omega arith) (omega arith) k₁ 1 t₁
+            (pixel_leaf z 1 (omega arith) c₁ k₁ e₁ t₁) refl W₂ L₂ b g₁ _ refl
 
-        pub four-third : ToLeaf W₂ L₂ k₂ c₂ 1 x (y + 1)
-        four-third =
-            son-leaf T W L p x y 1 f 1 0 refl refl 2 (omega arith) W₂ L₂ (firstNonzero (firstNonzero 0 a) b) four-two c₂ x (y + 1) e₂ (omega arith) (omega arith) k₂ 1 t₂
-            (pixel-leaf z 2 (omega arith) c₂ k₂ e₂ t₂) refl z
+        pub four_third : ToLeaf W₂ L₂ k₂ c₂ 1 x (y + 1)
+        four_third =
+            son_leaf T W L p x y 1 f 1 0 refl refl 2 (omega arith) W₂ L₂ (first_nonzero (first_nonzero 0 a) b) four_two c₂ x (y + 1) e₂ (omega arith) (omega arith) k₂ 1 t₂
+            (pixel_leaf z 2 (omega arith) c₂ k₂ e₂ t₂) refl z
 
         module _ (W₃ L₃ : List ℕ) (c : ℕ) (g₂ : PastLeaf W₂ L₂ k₂ c₂ 1 x (y + 1) W₃ L₃ c) where
-          four-three : Some 3 W₃ L₃ (firstNonzero (firstNonzero (firstNonzero 0 a) b) c)
-          four-three =
-              firsts-leaf T W L p x y 1 f 1 0 refl refl 2 (omega arith) W₂ L₂ (firstNonzero (firstNonzero 0 a) b) four-two c₂ x (y + 1) e₂ (omega arith) (omega arith) k₂ 1 t₂
-              (pixel-leaf z 2 (omega arith) c₂ k₂ e₂ t₂) refl W₃ L₃ c g₂ _ refl
+          four_three : Some 3 W₃ L₃ (first_nonzero (first_nonzero (first_nonzero 0 a) b) c)
+          four_three =
+              firsts_leaf T W L p x y 1 f 1 0 refl refl 2 (omega arith) W₂ L₂ (first_nonzero (first_nonzero 0 a) b) four_two c₂ x (y + 1) e₂ (omega arith) (omega arith) k₂ 1 t₂
+              (pixel_leaf z 2 (omega arith) c₂ k₂ e₂ t₂) refl W₃ L₃ c g₂ _ refl
 
-          pub four-fourth : ToLeaf W₃ L₃ k₃ c₃ 1 (x + 1) (y + 1)
-          four-fourth =
-              son-leaf T W L p x y 1 f 1 0 refl refl 3 (omega arith) W₃ L₃ (firstNonzero (firstNonzero (firstNonzero 0 a) b) c) four-three c₃ (x + 1) (y + 1) e₃ (omega arith) (omega arith)
-              k₃ 1 t₃ (pixel-leaf z 3 (omega arith) c₃ k₃ e₃ t₃) refl z
+          pub four_fourth : ToLeaf W₃ L₃ k₃ c₃ 1 (x + 1) (y + 1)
+          four_fourth =
+              son_leaf T W L p x y 1 f 1 0 refl refl 3 (omega arith) W₃ L₃ (first_nonzero (first_nonzero (first_nonzero 0 a) b) c) four_three c₃ (x + 1) (y + 1) e₃ (omega arith) (omega arith)
+              k₃ 1 t₃ (pixel_leaf z 3 (omega arith) c₃ k₃ e₃ t₃) refl z
 
           module _ (W₄ L₄ : List ℕ) (d : ℕ) (g₃ : PastLeaf W₃ L₃ k₃ c₃ 1 (x + 1) (y + 1) W₄ L₄ d) where
-            four-all : Some 4 W₄ L₄ (firstNonzero (firstNonzero (firstNonzero (firstNonzero 0 a) b) c) d)
-            four-all =
-                firsts-leaf T W L p x y 1 f 1 0 refl refl 3 (omega arith) W₃ L₃ (firstNonzero (firstNonzero (firstNonzero 0 a) b) c) four-three c₃ (x + 1) (y + 1) e₃ (omega arith) (omega arith)
-                k₃ 1 t₃ (pixel-leaf z 3 (omega arith) c₃ k₃ e₃ t₃) refl W₄ L₄ d g₃ _ refl
+            four_all : Some 4 W₄ L₄ (first_nonzero (first_nonzero (first_nonzero (first_nonzero 0 a) b) c) d)
+            four_all =
+                firsts_leaf T W L p x y 1 f 1 0 refl refl 3 (omega arith) W₃ L₃ (first_nonzero (first_nonzero (first_nonzero 0 a) b) c) four_three c₃ (x + 1) (y + 1) e₃ (omega arith) (omega arith)
+                k₃ 1 t₃ (pixel_leaf z 3 (omega arith) c₃ k₃ e₃ t₃) refl W₄ L₄ d g₃ _ refl
 
-            pub four-gone : (r : ℕ) → r ≡ a + b + c + d → Goes T W L p x y 1 W₄ L₄ r
-            four-gone r er =
-                firsts-still T W L p x y 1 f 1 0 refl refl W₄ L₄ r
+            pub four_gone : (r : ℕ) → r ≡ a + b + c + d → Goes T W L p x y 1 W₄ L₄ r
+            four_gone r er =
+                firsts_still T W L p x y 1 f 1 0 refl refl W₄ L₄ r
                 (λ k.
-                first-other r
+                first_other r
                 (λ o.
-                nonzero-second _ d (nonzero-second _ c (nonzero-second _ b (nonzero-second 0 a refl ∙ omega (arith, er, o)) ∙ omega (arith, er, o)) ∙ omega (arith, er, o)) ∙ omega (arith, er, o))
-                (four-all k))
+                nonzero_second _ d (nonzero_second _ c (nonzero_second _ b (nonzero_second 0 a refl ∙ omega (arith, er, o)) ∙ omega (arith, er, o)) ∙ omega (arith, er, o)) ∙ omega (arith, er, o))
+                (four_all k))
 
 -- a pixel that has its label, the lines telling of it
 abbrev after : List ℕ → ℕ → ℕ → ℕ → List ℕ
 after L x y v = set (set L x v) (across + y) v
 
-pixel-touched : {W L : List ℕ} {kind p x y : ℕ} → length L ≡ 2 * across → x < across → y < across → (north west place : ℕ) → north ≡ get_or L x 0
+pixel_touched : {W L : List ℕ} {kind p x y : ℕ} → length L ≡ 2 * across → x < across → y < across → (north west place : ℕ) → north ≡ get_or L x 0
     → west ≡ get_or L (across + y) 0 → place ≡ across * y + x → (W' : List ℕ) (label : ℕ) → LabelsAs W kind p north west place W' label
-    → PastLeaf W L kind p 1 x y W' (after L x y label) (oneIfOwn label p)
-pixel-touched {L = L} {p = p} {x = x} {y = y} long lx ly north west place en ew ep W' label t z =
-    pixel-past W' label (after L x y label) (oneIfOwn label p) (filled-one L label x y long lx ly) refl z (leaf_touched z north west place en ew ep W' label t)
+    → PastLeaf W L kind p 1 x y W' (after L x y label) (one_if_own label p)
+pixel_touched {L = L} {p = p} {x = x} {y = y} long lx ly north west place en ew ep W' label t z =
+    pixel_past W' label (after L x y label) (one_if_own label p) (filled_one L label x y long lx ly) refl z (leaf_touched z north west place en ew ep W' label t)
 
 -- the lines as they are written in the end
 module _ (L : List ℕ) (x y b c d : ℕ) (long : length L ≡ 2 * across) (lx : x + 1 < across) (ly : y + 1 < across) where
@@ -115,58 +115,58 @@ module _ (L : List ℕ) (x y b c d : ℕ) (long : length L ≡ 2 * across) (lx :
   size-C : length C ≡ 256
   size-C = length-set B (across + y) b ∙ size-B
 
-  written-long : length (written L x y b c d) ≡ length L
-  written-long = length-set C (across + y + 1) d ∙ size-C ∙ sym long
+  written_long : length (written L x y b c d) ≡ length L
+  written_long = length-set C (across + y + 1) d ∙ size-C ∙ sym long
 
   -- what the last two writes leave, and the first two
   late : (i : ℕ) → (i ≡ across + y → ⊥) → (i ≡ across + y + 1 → ⊥) → get_or (written L x y b c d) i 0 ≡ get_or B i 0
   late i s t = get_or-set_other C (across + y + 1) i d 0 t ∙ get_or-set_other B (across + y) i b 0 s
 
-  written-west : get_or (written L x y b c d) x 0 ≡ c
-  written-west =
+  written_west : get_or (written L x y b c d) x 0 ≡ c
+  written_west =
       late x (λ e. omega (arith, e, lx)) (λ e. omega (arith, e, lx)) ∙ get_or-set_other A (x + 1) x d 0 (λ e. omega (arith, e)) ∙ get_or-set_same L x c 0 (omega (arith, lx, long))
 
-  written-east : get_or (written L x y b c d) (x + 1) 0 ≡ d
-  written-east =
+  written_east : get_or (written L x y b c d) (x + 1) 0 ≡ d
+  written_east =
       late (x + 1) (λ e. omega (arith, e, lx)) (λ e. omega (arith, e, lx)) ∙ get_or-set_same A (x + 1) d 0 (omega (arith, lx, size-A))
 
-  written-north : get_or (written L x y b c d) (across + y) 0 ≡ b
-  written-north =
+  written_north : get_or (written L x y b c d) (across + y) 0 ≡ b
+  written_north =
       get_or-set_other C (across + y + 1) (across + y) d 0 (λ e. omega (arith, e)) ∙ get_or-set_same B (across + y) b 0 (omega (arith, ly, size-B))
 
-  written-south : get_or (written L x y b c d) (across + y + 1) 0 ≡ d
-  written-south = get_or-set_same C (across + y + 1) d 0 (omega (arith, ly, size-C))
+  written_south : get_or (written L x y b c d) (across + y + 1) 0 ≡ d
+  written_south = get_or-set_same C (across + y + 1) d 0 (omega (arith, ly, size-C))
 
-  written-rest : (i : ℕ) → (i ≡ x → ⊥) → (i ≡ x + 1 → ⊥) → (i ≡ across + y → ⊥) → (i ≡ across + y + 1 → ⊥) → get_or (written L x y b c d) i 0 ≡ get_or L i 0
-  written-rest i s t u v = late i u v ∙ get_or-set_other A (x + 1) i d 0 t ∙ get_or-set_other L x i c 0 s
+  written_rest : (i : ℕ) → (i ≡ x → ⊥) → (i ≡ x + 1 → ⊥) → (i ≡ across + y → ⊥) → (i ≡ across + y + 1 → ⊥) → get_or (written L x y b c d) i 0 ≡ get_or L i 0
+  written_rest i s t u v = late i u v ∙ get_or-set_other A (x + 1) i d 0 t ∙ get_or-set_other L x i c 0 s
 
-module _ (T W L : List ℕ) (p x y : ℕ) (f : isFork T p ≡ true) (c₀ c₁ c₂ c₃ : ℕ) (e₀ : c₀ ≡ son T p 0) (e₁ : c₁ ≡ son T p 1) (e₂ : c₂ ≡ son T p 2)
-    (e₃ : c₃ ≡ son T p 3) (k₀ k₁ k₂ k₃ : ℕ) (t₀ : k₀ ≡ type T c₀) (t₁ : k₁ ≡ type T c₁) (t₂ : k₂ ≡ type T c₂) (t₃ : k₃ ≡ type T c₃) (place : ℕ)
+module _ (T W L : List ℕ) (p x y : ℕ) (f : is_fork T p ≡ true) (c₀ c₁ c₂ c₃ : ℕ) (e₀ : c₀ ≡ son T p 0) (e₁ : c₁ ≡ son T p 1) (e₂ : c₂ ≡ son T p 2)
+    (e₃ : c₃ ≡ son T p 3) (k₀ k₁ k₂ k₃ : ℕ) (t₀ : k₀ ≡ node_type T c₀) (t₁ : k₁ ≡ node_type T c₁) (t₂ : k₂ ≡ node_type T c₂) (t₃ : k₃ ≡ node_type T c₃) (place : ℕ)
     (ep : place ≡ across * y + x) (z : Coming T W L p x y 1) where
-  pub four-room : (x + 1 < across) × (y + 1 < across)
-  four-room = let k = room z f 1 0 refl refl in (omega (arith, k.0), omega (arith, k.1))
+  pub four_room : (x + 1 < across) × (y + 1 < across)
+  four_room = let k = room z f 1 0 refl refl in (omega (arith, k.0), omega (arith, k.1))
 
   lx : x + 1 < across
-  lx = four-room.0
+  lx = four_room.0
 
   ly : y + 1 < across
-  ly = four-room.1
+  ly = four_room.1
 
-  pub touching-first : Touching W k₀ c₀ (get_or L x 0) (get_or L (across + y) 0) place
-  touching-first = leaf-touching (four-first T W L p x y f c₀ c₁ c₂ c₃ e₀ e₁ e₂ e₃ z k₀ k₁ k₂ k₃ t₀ t₁ t₂ t₃) _ _ _ refl refl ep
+  pub touching_first : Touching W k₀ c₀ (get_or L x 0) (get_or L (across + y) 0) place
+  touching_first = leaf_touching (four_first T W L p x y f c₀ c₁ c₂ c₃ e₀ e₁ e₂ e₃ z k₀ k₁ k₂ k₃ t₀ t₁ t₂ t₃) _ _ _ refl refl ep
 
   module _ (W₁ : List ℕ) (a : ℕ) (h₀ : LabelsAs W k₀ c₀ (get_or L x 0) (get_or L (across + y) 0) place W₁ a) where
     abbrev L₁ : List ℕ
     L₁ = after L x y a
 
     F₁ : LinesFilled L a x y 1 L₁
-    F₁ = filled-one L a x y z.long (omega (arith, lx)) (omega (arith, ly))
+    F₁ = filled_one L a x y z.long (omega (arith, lx)) (omega (arith, ly))
 
     long₁ : length L₁ ≡ 2 * across
     long₁ = F₁.long ∙ z.long
 
-    g₀ : PastLeaf W L k₀ c₀ 1 x y W₁ L₁ (oneIfOwn a c₀)
-    g₀ = pixel-touched z.long (omega (arith, lx)) (omega (arith, ly)) _ _ place refl refl ep W₁ a h₀
+    g₀ : PastLeaf W L k₀ c₀ 1 x y W₁ L₁ (one_if_own a c₀)
+    g₀ = pixel_touched z.long (omega (arith, lx)) (omega (arith, ly)) _ _ place refl refl ep W₁ a h₀
 
     -- what the second pixel asks for is told by the lines after the first
     north₁ : get_or L (x + 1) 0 ≡ get_or L₁ (x + 1) 0
@@ -175,22 +175,22 @@ module _ (T W L : List ℕ) (p x y : ℕ) (f : isFork T p ≡ true) (c₀ c₁ c
     west₁ : a ≡ get_or L₁ (across + y) 0
     west₁ = sym (F₁.west y (omega arith) (omega arith))
 
-    pub touching-second : Touching W₁ k₁ c₁ (get_or L (x + 1) 0) a (place + 1)
-    touching-second =
-        leaf-touching (four-second T W L p x y f c₀ c₁ c₂ c₃ e₀ e₁ e₂ e₃ z k₀ k₁ k₂ k₃ t₀ t₁ t₂ t₃ W₁ L₁ (oneIfOwn a c₀) g₀) _ _ _ north₁ west₁ (omega (arith, ep))
+    pub touching_second : Touching W₁ k₁ c₁ (get_or L (x + 1) 0) a (place + 1)
+    touching_second =
+        leaf_touching (four_second T W L p x y f c₀ c₁ c₂ c₃ e₀ e₁ e₂ e₃ z k₀ k₁ k₂ k₃ t₀ t₁ t₂ t₃ W₁ L₁ (one_if_own a c₀) g₀) _ _ _ north₁ west₁ (omega (arith, ep))
 
     module _ (W₂ : List ℕ) (b : ℕ) (h₁ : LabelsAs W₁ k₁ c₁ (get_or L (x + 1) 0) a (place + 1) W₂ b) where
       abbrev L₂ : List ℕ
       L₂ = after L₁ (x + 1) y b
 
       F₂ : LinesFilled L₁ b (x + 1) y 1 L₂
-      F₂ = filled-one L₁ b (x + 1) y long₁ lx (omega (arith, ly))
+      F₂ = filled_one L₁ b (x + 1) y long₁ lx (omega (arith, ly))
 
       long₂ : length L₂ ≡ 2 * across
       long₂ = F₂.long ∙ long₁
 
-      g₁ : PastLeaf W₁ L₁ k₁ c₁ 1 (x + 1) y W₂ L₂ (oneIfOwn b c₁)
-      g₁ = pixel-touched long₁ lx (omega (arith, ly)) _ _ (place + 1) north₁ west₁ (omega (arith, ep)) W₂ b h₁
+      g₁ : PastLeaf W₁ L₁ k₁ c₁ 1 (x + 1) y W₂ L₂ (one_if_own b c₁)
+      g₁ = pixel_touched long₁ lx (omega (arith, ly)) _ _ (place + 1) north₁ west₁ (omega (arith, ep)) W₂ b h₁
 
       north₂ : a ≡ get_or L₂ x 0
       north₂ = sym (F₂.rest x (λ s t. omega (arith, s)) (λ s t. omega (arith, s, lx)) ∙ F₁.north x (omega arith) (omega arith))
@@ -203,9 +203,9 @@ module _ (T W L : List ℕ) (p x y : ℕ) (f : isFork T p ≡ true) (c₀ c₁ c
           (F₂.rest (across + (y + 1)) (λ s t. omega (arith, t, lx)) (λ s t. omega (arith, t))
           ∙ F₁.rest (across + (y + 1)) (λ s t. omega (arith, t, lx)) (λ s t. omega (arith, t)))
 
-      pub touching-third : Touching W₂ k₂ c₂ a (get_or L (across + y + 1) 0) (place + across)
-      touching-third =
-          leaf-touching (four-third T W L p x y f c₀ c₁ c₂ c₃ e₀ e₁ e₂ e₃ z k₀ k₁ k₂ k₃ t₀ t₁ t₂ t₃ W₁ L₁ (oneIfOwn a c₀) g₀ W₂ L₂ (oneIfOwn b c₁) g₁) _ _ _ north₂ west₂
+      pub touching_third : Touching W₂ k₂ c₂ a (get_or L (across + y + 1) 0) (place + across)
+      touching_third =
+          leaf_touching (four_third T W L p x y f c₀ c₁ c₂ c₃ e₀ e₁ e₂ e₃ z k₀ k₁ k₂ k₃ t₀ t₁ t₂ t₃ W₁ L₁ (one_if_own a c₀) g₀ W₂ L₂ (one_if_own b c₁) g₁) _ _ _ north₂ west₂
           (omega (arith, ep))
 
       module _ (W₃ : List ℕ) (c : ℕ) (h₂ : LabelsAs W₂ k₂ c₂ a (get_or L (across + y + 1) 0) (place + across) W₃ c) where
@@ -213,10 +213,10 @@ module _ (T W L : List ℕ) (p x y : ℕ) (f : isFork T p ≡ true) (c₀ c₁ c
         L₃ = after L₂ x (y + 1) c
 
         F₃ : LinesFilled L₂ c x (y + 1) 1 L₃
-        F₃ = filled-one L₂ c x (y + 1) long₂ (omega (arith, lx)) ly
+        F₃ = filled_one L₂ c x (y + 1) long₂ (omega (arith, lx)) ly
 
-        g₂ : PastLeaf W₂ L₂ k₂ c₂ 1 x (y + 1) W₃ L₃ (oneIfOwn c c₂)
-        g₂ = pixel-touched long₂ (omega (arith, lx)) ly _ _ (place + across) north₂ west₂ (omega (arith, ep)) W₃ c h₂
+        g₂ : PastLeaf W₂ L₂ k₂ c₂ 1 x (y + 1) W₃ L₃ (one_if_own c c₂)
+        g₂ = pixel_touched long₂ (omega (arith, lx)) ly _ _ (place + across) north₂ west₂ (omega (arith, ep)) W₃ c h₂
 
         north₃ : b ≡ get_or L₃ (x + 1) 0
         north₃ = sym (F₃.rest (x + 1) (λ s t. omega (arith, t)) (λ s t. omega (arith, s, lx)) ∙ F₂.north (x + 1) (omega arith) (omega arith))
@@ -224,44 +224,44 @@ module _ (T W L : List ℕ) (p x y : ℕ) (f : isFork T p ≡ true) (c₀ c₁ c
         west₃ : c ≡ get_or L₃ (across + (y + 1)) 0
         west₃ = sym (F₃.west (y + 1) (omega arith) (omega arith))
 
-        pub touching-fourth : Touching W₃ k₃ c₃ b c (place + across + 1)
-        touching-fourth =
-            leaf-touching
-            (four-fourth T W L p x y f c₀ c₁ c₂ c₃ e₀ e₁ e₂ e₃ z k₀ k₁ k₂ k₃ t₀ t₁ t₂ t₃ W₁ L₁ (oneIfOwn a c₀) g₀ W₂ L₂ (oneIfOwn b c₁) g₁ W₃ L₃ (oneIfOwn c c₂) g₂) _ _ _
+        pub touching_fourth : Touching W₃ k₃ c₃ b c (place + across + 1)
+        touching_fourth =
+            leaf_touching
+            (four_fourth T W L p x y f c₀ c₁ c₂ c₃ e₀ e₁ e₂ e₃ z k₀ k₁ k₂ k₃ t₀ t₁ t₂ t₃ W₁ L₁ (one_if_own a c₀) g₀ W₂ L₂ (one_if_own b c₁) g₁ W₃ L₃ (one_if_own c c₂) g₂) _ _ _
             north₃ west₃ (omega (arith, ep))
 
         module _ (W₄ : List ℕ) (d : ℕ) (h₃ : LabelsAs W₃ k₃ c₃ b c (place + across + 1) W₄ d) where
           -- the lines as they are written tell what they would tell after the fourth
           F₄ : LinesFilled L₃ d (x + 1) (y + 1) 1 (written L x y b c d)
           F₄ = record {
-            long = written-long L x y b c d z.long lx ly ∙ sym (F₃.long ∙ F₂.long ∙ F₁.long);
-            north = λ u s t. let e : u ≡ x + 1 = omega (arith, s, t) in rw e (written-east L x y b c d z.long lx ly);
-            west = λ v s t. let e : across + v ≡ across + y + 1 = omega (arith, s, t) in rw e (written-south L x y b c d z.long lx ly);
+            long = written_long L x y b c d z.long lx ly ∙ sym (F₃.long ∙ F₂.long ∙ F₁.long);
+            north = λ u s t. let e : u ≡ x + 1 = omega (arith, s, t) in rw e (written_east L x y b c d z.long lx ly);
+            west = λ v s t. let e : across + v ≡ across + y + 1 = omega (arith, s, t) in rw e (written_south L x y b c d z.long lx ly);
             rest = λ i s t.
                 same_or_not i x
-                (λ e. rw e (written-west L x y b c d z.long lx ly ∙ sym (F₃.north x (omega arith) (omega arith))))
+                (λ e. rw e (written_west L x y b c d z.long lx ly ∙ sym (F₃.north x (omega arith) (omega arith))))
                 (λ nx.
                 same_or_not i (across + y)
                 (λ e.
                 rw e
-                (written-north L x y b c d z.long lx ly
+                (written_north L x y b c d z.long lx ly
                 ∙ sym (F₃.rest (across + y) (λ u v. omega (arith, v, lx)) (λ u v. omega (arith, u)) ∙ F₂.west y (omega arith) (omega arith))))
                 (λ ny.
-                written-rest L x y b c d z.long lx ly i nx (λ e. s (omega (arith, e)) (omega (arith, e))) ny (λ e. t (omega (arith, e)) (omega (arith, e)))
+                written_rest L x y b c d z.long lx ly i nx (λ e. s (omega (arith, e)) (omega (arith, e))) ny (λ e. t (omega (arith, e)) (omega (arith, e)))
                 ∙ sym
                 (F₃.rest i (λ u v. nx (omega (arith, u, v))) (λ u v. t (omega (arith, u)) (omega (arith, v)))
                 ∙ F₂.rest i (λ u v. s u v) (λ u v. ny (omega (arith, u, v)))
                 ∙ F₁.rest i (λ u v. nx (omega (arith, u, v))) (λ u v. ny (omega (arith, u, v))))));
           }
 
-          g₃ : PastLeaf W₃ L₃ k₃ c₃ 1 (x + 1) (y + 1) W₄ (written L x y b c d) (oneIfOwn d c₃)
+          g₃ : PastLeaf W₃ L₃ k₃ c₃ 1 (x + 1) (y + 1) W₄ (written L x y b c d) (one_if_own d c₃)
           g₃ k =
-              pixel-past W₄ d (written L x y b c d) (oneIfOwn d c₃) F₄ refl k
+              pixel_past W₄ d (written L x y b c d) (one_if_own d c₃) F₄ refl k
               (leaf_touched k b c (place + across + 1) north₃ west₃ (omega (arith, ep)) W₄ d h₃)
 
-          pub pixels-gone : (L' : List ℕ) → L' ≡ written L x y b c d → (r : ℕ) → r ≡ oneIfOwn a c₀ + oneIfOwn b c₁ + oneIfOwn c c₂ + oneIfOwn d c₃
+          pub pixels_gone : (L' : List ℕ) → L' ≡ written L x y b c d → (r : ℕ) → r ≡ one_if_own a c₀ + one_if_own b c₁ + one_if_own c c₂ + one_if_own d c₃
               → Goes T W L p x y 1 W₄ L' r
-          pixels-gone L' el r er =
+          pixels_gone L' el r er =
               rw el
-              (four-gone T W L p x y f c₀ c₁ c₂ c₃ e₀ e₁ e₂ e₃ z k₀ k₁ k₂ k₃ t₀ t₁ t₂ t₃ W₁ L₁ (oneIfOwn a c₀) g₀ W₂ L₂ (oneIfOwn b c₁) g₁ W₃ L₃ (oneIfOwn c c₂) g₂ W₄
-              (written L x y b c d) (oneIfOwn d c₃) g₃ r er)
+              (four_gone T W L p x y f c₀ c₁ c₂ c₃ e₀ e₁ e₂ e₃ z k₀ k₁ k₂ k₃ t₀ t₁ t₂ t₃ W₁ L₁ (one_if_own a c₀) g₀ W₂ L₂ (one_if_own b c₁) g₁ W₃ L₃ (one_if_own c c₂) g₂ W₄
+              (written L x y b c d) (one_if_own d c₃) g₃ r er)

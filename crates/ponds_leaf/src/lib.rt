@@ -1,9 +1,9 @@
 // A leaf, or four pixels under a fork, labelled in the walk.
 ghost use Rattle.std.specs.Prelude.{◌≡◌, true, ◌+◌, ◌*◌, ◌≤◌, length};
 ghost use Rattle.ponds_sets.specs.Lines.{across};
-ghost use Rattle.table.specs.Table.{isFork};
+ghost use Rattle.table.specs.Table.{is_fork};
 ghost use Rattle.ponds_sets.specs.Walk.{written, ToLeaf, Reaching, TouchesAt, PastLeaf, Coming, Goes};
-ghost use Rattle.ponds_sets.specs.Touch.{oneIfOwn};
+ghost use Rattle.ponds_sets.specs.Touch.{one_if_own};
 
 use ponds_join::touch;
 use ponds_sides::{ACROSS, fill, fill_two, sides, two_sides};
@@ -11,7 +11,7 @@ use table_node::word_at;
 
 // 1 for a leaf that is its own label, else 0.
 fn one_if_own(label: u32, p: usize) -> u32
-    ensures { (result ≡ oneIfOwn label p) × (result ≤ 1) }
+    ensures { (result ≡ one_if_own label p) × (result ≤ 1) }
 {
     if label as usize == p {
         return 1;
@@ -88,7 +88,7 @@ fn fill_last(lines: &mut [u32; 256], ne: u32, sw: u32, se: u32, x: usize, y: usi
 
 // How many of four leaves are their own labels.
 fn own_of_four(a: u32, b: u32, c: u32, d: u32, nw: usize, ne: usize, sw: usize, se: usize) -> u32
-    ensures { result ≡ oneIfOwn a nw + oneIfOwn b ne + oneIfOwn c sw + oneIfOwn d se }
+    ensures { result ≡ one_if_own a nw + one_if_own b ne + one_if_own c sw + one_if_own d se }
 {
     one_if_own(a, nw) + one_if_own(b, ne) + one_if_own(c, sw) + one_if_own(d, se)
 }
@@ -103,7 +103,7 @@ pub fn pixels(
     x: usize,
     y: usize,
 ) -> u32
-    requires { Coming table.now words.old lines.old p x y 1 × (isFork table.now p ≡ true) }
+    requires { Coming table.now words.old lines.old p x y 1 × (is_fork table.now p ≡ true) }
     ensures { Goes table.now words.old lines.old p x y 1
         words.new lines.new result }
 {

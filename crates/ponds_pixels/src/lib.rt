@@ -1,10 +1,10 @@
 // A leaf, or the four pixels of a fork, entered into the register.
 ghost use Rattle.std.specs.Prelude.{◌≡◌, true, length, get_or, ◌+◌, ◌*◌, ◌≤◌, ◌<◌};
-ghost use Rattle.table.specs.Table.{nodes, son, isFork};
+ghost use Rattle.table.specs.Table.{nodes, son, is_fork};
 ghost use Rattle.ponds_entry.specs.Gathered.{Fitting};
-ghost use Rattle.ponds_entry.specs.Words.{pondAt, put_at, passedOf, Passing};
-ghost use Rattle.ponds_pixels.specs.Four.{presentOf, either_of, alikeOf, grownFour};
-ghost use Rattle.ponds_entry.specs.Under.{blockFrom, Entering, Entered, Theirs};
+ghost use Rattle.ponds_entry.specs.Words.{pond_at, put_at, passed_of, Passing};
+ghost use Rattle.ponds_pixels.specs.Four.{present_of, either_of, alike_of, grown_four};
+ghost use Rattle.ponds_entry.specs.Under.{block_from, Entering, Entered, Theirs};
 
 use ponds::Pond;
 use ponds_entry::{entry_at, grow_at, higher, lower, part, put_entry};
@@ -14,7 +14,7 @@ use table_node::word_at;
 // Adds a block to the entry of that number, if it is one.
 fn pass_number(reg: &mut [u32], number: u32, b: Block)
     requires { Passing b number reg.old }
-    ensures { reg.new ≡ passedOf b number reg.old }
+    ensures { reg.new ≡ passed_of b number reg.old }
 {
     if number == 0 {
         return;
@@ -25,7 +25,7 @@ fn pass_number(reg: &mut [u32], number: u32, b: Block)
 // Adds a block to the entry of its node's number, if that has one.
 pub fn pass(numbers: &[u32], reg: &mut [u32], p: usize, b: Block)
     requires { (p < length numbers.now) × Passing b (get_or numbers.now p 0) reg.old }
-    ensures { reg.new ≡ passedOf b (get_or numbers.now p 0) reg.old }
+    ensures { reg.new ≡ passed_of b (get_or numbers.now p 0) reg.old }
 {
     pass_number(reg, numbers[p], b);
 }
@@ -40,7 +40,7 @@ fn son_number(table: &[u32], numbers: &[u32], p: usize, q: usize) -> u32
 
 // 1 for a pixel that has a number, 0 for one that has none.
 fn present(number: u32) -> u32
-    ensures { (result ≡ presentOf number) × (result ≤ 1) }
+    ensures { (result ≡ present_of number) × (result ≤ 1) }
 {
     if number == 0 {
         return 0;
@@ -61,7 +61,7 @@ fn either(a: u32, b: u32) -> u32
 // Whether those of four pixels that have a number all have this one, which is their greatest: so many times it is their
 // sum.
 fn alike(number: u32, nw: u32, ne: u32, sw: u32, se: u32) -> bool
-    ensures { result ≡ alikeOf number nw ne sw se }
+    ensures { result ≡ alike_of number nw ne sw se }
 {
     let many = present(nw) + present(ne) + present(sw) + present(se);
     number as usize * many as usize == nw as usize + ne as usize + sw as usize + se as usize
@@ -69,8 +69,8 @@ fn alike(number: u32, nw: u32, ne: u32, sw: u32, se: u32) -> bool
 
 // The entry with those pixels more that have a number, of the four of a fork of level 1 whose column and row are given.
 fn grown_four(e: Pond, column: u32, row: u32, nw: u32, ne: u32, sw: u32, se: u32) -> Pond
-    requires { Fitting e (blockFrom column row 1) }
-    ensures { result ≡ grownFour e column row nw ne sw se }
+    requires { Fitting e (block_from column row 1) }
+    ensures { result ≡ grown_four e column row nw ne sw se }
 {
     Pond {
         pixels: e.pixels + (present(nw) + present(ne) + present(sw) + present(se)),
@@ -83,9 +83,9 @@ fn grown_four(e: Pond, column: u32, row: u32, nw: u32, ne: u32, sw: u32, se: u32
 
 // Adds them to entry i of the register.
 fn grow_four(reg: &mut [u32], i: usize, column: u32, row: u32, nw: u32, ne: u32, sw: u32, se: u32)
-    requires { (5 * i + 5 ≤ length reg.old) × Fitting (pondAt reg.old i) (blockFrom column row 1) }
+    requires { (5 * i + 5 ≤ length reg.old) × Fitting (pond_at reg.old i) (block_from column row 1) }
     ensures { reg.new ≡ put_at reg.old i
-        (grownFour (pondAt reg.old i) column row nw ne sw se) }
+        (grown_four (pond_at reg.old i) column row nw ne sw se) }
 {
     let e = grown_four(entry_at(reg, i), column, row, nw, ne, sw, se);
     put_entry(reg, i, e);
@@ -105,9 +105,9 @@ fn pass_four(
     sw: u32,
     se: u32,
 )
-    requires { Entering table.now numbers.now p (blockFrom column row 1) reg.old
-        × (isFork table.now p ≡ true) × Theirs table.now numbers.now p nw ne sw se }
-    ensures { Entered table.now numbers.now p (blockFrom column row 1) reg.old
+    requires { Entering table.now numbers.now p (block_from column row 1) reg.old
+        × (is_fork table.now p ≡ true) × Theirs table.now numbers.now p nw ne sw se }
+    ensures { Entered table.now numbers.now p (block_from column row 1) reg.old
         reg.new }
 {
     pass_number(reg, nw, part(column, row, 1, 0));
@@ -118,9 +118,9 @@ fn pass_four(
 
 // The four pixels under a fork are entered, and at once where all that have a number have the same one.
 pub fn pass_pixels(table: &[u32], numbers: &[u32], reg: &mut [u32], p: usize, column: u32, row: u32)
-    requires { Entering table.now numbers.now p (blockFrom column row 1) reg.old
-        × (isFork table.now p ≡ true) }
-    ensures { Entered table.now numbers.now p (blockFrom column row 1) reg.old
+    requires { Entering table.now numbers.now p (block_from column row 1) reg.old
+        × (is_fork table.now p ≡ true) }
+    ensures { Entered table.now numbers.now p (block_from column row 1) reg.old
         reg.new }
 {
     let nw = son_number(table, numbers, p, 0);

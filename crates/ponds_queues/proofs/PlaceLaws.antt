@@ -8,22 +8,22 @@ use native.Mathlib.Omega.{arith}
 use lib.Arith.{digits_lt}
 use lib.Pow.{pow_pos, pow_mono, high}
 use borrow.Author.Tests.{ne_eqb}
-use Rattle.base.proofs.PowLaws.{pow-product}
-use Rattle.quad.specs.Numbers.{black, forkType, topLevel}
-use Rattle.quad.specs.Block.{pathOf, column, row}
-use Rattle.table.specs.Table.{nodes, son, type, isFork}
-use Rattle.table.specs.Rules.{depthTo, Accepted, AtLevel}
-use Rattle.table.specs.Nodes.{pathTo, holder, levelOf, left_of, top_of}
-use Rattle.table.proofs.AcceptedLaws.{depth_le, level-is, son-at}
-use Rattle.table.proofs.HolderLaws.{within-leaf}
-use Rattle.table.proofs.BlockLaws.{column-below, row_below}
+use Rattle.base.proofs.PowLaws.{pow_product}
+use Rattle.quad.specs.Numbers.{black, fork_type, top_level}
+use Rattle.quad.specs.Block.{path_of, column, row}
+use Rattle.table.specs.Table.{nodes, son, node_type, is_fork}
+use Rattle.table.specs.Rules.{depth_to, Accepted, AtLevel}
+use Rattle.table.specs.Nodes.{path_to, holder, level_of, left_of, top_of}
+use Rattle.table.proofs.AcceptedLaws.{depth_le, level_is, son_at}
+use Rattle.table.proofs.HolderLaws.{within_leaf}
+use Rattle.table.proofs.BlockLaws.{column_below, row_below}
 use Rattle.ponds.specs.Chain.{Water}
-use Rattle.ponds.proofs.SonLaws.{son-left as left-of-son, son-top as top-of-son}
+use Rattle.ponds.proofs.SonLaws.{son_left as left-of-son, son_top as top-of-son}
 use Rattle.ponds_sets.specs.Sets.{place_of, Begins}
 
 -- a black node is a leaf
-pub water-leaf : (T : List ℕ) (p : ℕ) → type T p ≡ black → isFork T p ≡ false
-water-leaf T p e = ne_eqb (type T p) forkType (λ f. omega arith)
+pub water_leaf : (T : List ℕ) (p : ℕ) → node_type T p ≡ black → is_fork T p ≡ false
+water_leaf T p e = ne_eqb (node_type T p) fork_type (λ f. omega arith)
 
 -- stretches of h places: the next begins where one ends
 pub apart : (a b h : ℕ) → 0 < h → a < b → a * h + h ≤ b * h
@@ -38,59 +38,59 @@ within c k x le lt =
     ap (λ (j : ℕ). j / 2 ^ k) e ∙ high c k l
 
 module _ (n : ℕ) (T : List ℕ) (acc : Accepted n T) (i : ℕ) (lt : i < nodes T) where
-  wide : 2 ^ n ≡ 2 ^ depthTo T n i * 2 ^ levelOf n T i
-  wide = pow-product (depthTo T n i) (levelOf n T i) n (omega (arith, depth_le T n i))
+  wide : 2 ^ n ≡ 2 ^ depth_to T n i * 2 ^ level_of n T i
+  wide = pow_product (depth_to T n i) (level_of n T i) n (omega (arith, depth_le T n i))
 
-  pub left-on : left_of n T i < 2 ^ n
-  left-on = omega (arith, wide, digits_lt (column-below n T acc i lt) (pow_pos (levelOf n T i)))
+  pub left_on : left_of n T i < 2 ^ n
+  left_on = omega (arith, wide, digits_lt (column_below n T acc i lt) (pow_pos (level_of n T i)))
 
-  pub top-on : top_of n T i < 2 ^ n
-  top-on = omega (arith, wide, digits_lt (row_below n T acc i lt) (pow_pos (levelOf n T i)))
+  pub top_on : top_of n T i < 2 ^ n
+  top_on = omega (arith, wide, digits_lt (row_below n T acc i lt) (pow_pos (level_of n T i)))
 
-  most : 2 ^ n ≤ 2 ^ topLevel
-  most = pow_mono {i = n} {j = topLevel} acc.sized.level
+  most : 2 ^ n ≤ 2 ^ top_level
+  most = pow_mono {i = n} {j = top_level} acc.sized.level
 
-  pub left-top : left_of n T i < 2 ^ topLevel
-  left-top = omega (arith, left-on, most)
+  pub left_top : left_of n T i < 2 ^ top_level
+  left_top = omega (arith, left_on, most)
 
-  pub top-top : top_of n T i < 2 ^ topLevel
-  top-top = omega (arith, top-on, most)
+  pub top_top : top_of n T i < 2 ^ top_level
+  top_top = omega (arith, top_on, most)
 
 module _ {n : ℕ} {T : List ℕ} {p l : ℕ} (h : AtLevel n T p l) where
   -- where son q of a fork begins
-  module _ (f : isFork T p ≡ true) (q : ℕ) (q4 : q < 4) where
-    below : levelOf n T (son T p q) ≡ l - 1
-    below = sym (level-is (son-at h f q q4))
+  module _ (f : is_fork T p ≡ true) (q : ℕ) (q4 : q < 4) where
+    below : level_of n T (son T p q) ≡ l - 1
+    below = sym (level_is (son_at h f q q4))
 
-    pub son-left : left_of n T (son T p q) ≡ left_of n T p + q % 2 * 2 ^ (l - 1)
-    son-left = rw below (rw below at (left-of-son h.accepted h.node f q q4))
+    pub son_left : left_of n T (son T p q) ≡ left_of n T p + q % 2 * 2 ^ (l - 1)
+    son_left = rw below (rw below at (left-of-son h.accepted h.node f q q4))
 
-    pub son-top : top_of n T (son T p q) ≡ top_of n T p + q / 2 * 2 ^ (l - 1)
-    son-top = rw below (rw below at (top-of-son h.accepted h.node f q q4))
+    pub son_top : top_of n T (son T p q) ≡ top_of n T p + q / 2 * 2 ^ (l - 1)
+    son_top = rw below (rw below at (top-of-son h.accepted h.node f q q4))
 
   -- a leaf that begins in a leaf's block
-  pub leaf-only : isFork T p ≡ false → (i : ℕ) → i < nodes T → isFork T i ≡ false → Begins n T i (left_of n T p) (top_of n T p) l → i ≡ p
-  leaf-only f i lt g b =
+  pub leaf_only : is_fork T p ≡ false → (i : ℕ) → i < nodes T → is_fork T i ≡ false → Begins n T i (left_of n T p) (top_of n T p) l → i ≡ p
+  leaf_only f i lt g b =
       let acc = h.accepted in
-      let e = level-is h in
+      let e = level_is h in
       let x : ℕ = left_of n T i in
       let y : ℕ = top_of n T i in
-      let pos = pow_pos (levelOf n T i) in
-      let east : x < left_of n T p + 2 ^ levelOf n T p = rw e at b.east in
-      let south : y < top_of n T p + 2 ^ levelOf n T p = rw e at b.south in
-      let own : holder T (pathOf n x y) ≡ i =
-      within-leaf n T acc i n x y lt g (depth_le T n i)
-      (within (column (pathTo T n i)) (levelOf n T i) x (omega arith) (omega arith))
-      (within (row (pathTo T n i)) (levelOf n T i) y (omega arith) (omega arith)) in
-      let its : holder T (pathOf n x y) ≡ p =
-      within-leaf n T acc p n x y h.node f (depth_le T n p)
-      (within (column (pathTo T n p)) (levelOf n T p) x b.west east)
-      (within (row (pathTo T n p)) (levelOf n T p) y b.north south) in
+      let pos = pow_pos (level_of n T i) in
+      let east : x < left_of n T p + 2 ^ level_of n T p = rw e at b.east in
+      let south : y < top_of n T p + 2 ^ level_of n T p = rw e at b.south in
+      let own : holder T (path_of n x y) ≡ i =
+      within_leaf n T acc i n x y lt g (depth_le T n i)
+      (within (column (path_to T n i)) (level_of n T i) x (omega arith) (omega arith))
+      (within (row (path_to T n i)) (level_of n T i) y (omega arith) (omega arith)) in
+      let its : holder T (path_of n x y) ≡ p =
+      within_leaf n T acc p n x y h.node f (depth_le T n p)
+      (within (column (path_to T n p)) (level_of n T p) x b.west east)
+      (within (row (path_to T n p)) (level_of n T p) y b.north south) in
       sym own ∙ its
 
 -- a block begins in itself
-pub begins-own : {n : ℕ} {T : List ℕ} (p l : ℕ) → Begins n T p (left_of n T p) (top_of n T p) l
-begins-own p l = record {
+pub begins_own : {n : ℕ} {T : List ℕ} (p l : ℕ) → Begins n T p (left_of n T p) (top_of n T p) l
+begins_own p l = record {
   west = omega arith;
   east = omega (arith, pow_pos l);
   north = omega arith;
@@ -98,12 +98,12 @@ begins-own p l = record {
 }
 
 -- two leaves that begin at one place are one
-pub place-only : {n : ℕ} {T : List ℕ} {p q : ℕ} → Accepted n T → Water T p → Water T q → place_of n T p ≡ place_of n T q → p ≡ q
+pub place_only : {n : ℕ} {T : List ℕ} {p q : ℕ} → Accepted n T → Water T p → Water T q → place_of n T p ≡ place_of n T q → p ≡ q
 unfolding place_of
-place-only {n} {T} {p} {q} acc wp wq e =
-    let xp = left-top n T acc p wp.node in
-    let xq = left-top n T acc q wq.node in
-    let pos = pow_pos (levelOf n T q) in
-    let at : AtLevel n T q (levelOf n T q) = record { accepted = acc; node = wq.node; level = omega (arith, depth_le T n q) } in
-    leaf-only at (water-leaf T q wq.wet) p wp.node (water-leaf T p wp.wet)
+place_only {n} {T} {p} {q} acc wp wq e =
+    let xp = left_top n T acc p wp.node in
+    let xq = left_top n T acc q wq.node in
+    let pos = pow_pos (level_of n T q) in
+    let at : AtLevel n T q (level_of n T q) = record { accepted = acc; node = wq.node; level = omega (arith, depth_le T n q) } in
+    leaf_only at (water_leaf T q wq.wet) p wp.node (water_leaf T p wp.wet)
     (record { west = omega arith; east = omega arith; north = omega arith; south = omega arith })

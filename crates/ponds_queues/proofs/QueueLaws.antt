@@ -11,19 +11,19 @@ use lib.ListN.{length, set, length-set}
 use lib.Pow.{pow_pos}
 use lib.Seq.{get_or-set_same, get_or-set_other, set-get_or}
 use borrow.Author.Tests.{eqb-true, eqb-false, eq-eqb, lt-ltb, le-ltb}
-use Rattle.base.proofs.BoolLaws.{by_bool, lt-or-ge, or-true}
-use Rattle.quad.specs.Numbers.{black, forkType, topLevel}
-use Rattle.table.specs.Table.{nodes, type, isFork}
+use Rattle.base.proofs.BoolLaws.{by_bool, lt_or_ge, or_true}
+use Rattle.quad.specs.Numbers.{black, fork_type, top_level}
+use Rattle.table.specs.Table.{nodes, node_type, is_fork}
 use Rattle.table.specs.Rules.{Accepted, AtLevel}
 use Rattle.table.specs.Nodes.{left_of, top_of}
-use Rattle.table.proofs.AcceptedLaws.{level-is}
+use Rattle.table.proofs.AcceptedLaws.{level_is}
 use Rattle.ponds.specs.Chain.{Water}
 use Rattle.ponds.specs.Words.{word_of}
 use Rattle.ponds_sets.specs.Sets.{leading, Begins}
 use Rattle.ponds_sets.specs.Labelled.{Labelled}
-use Rattle.ponds_queues.specs.Queues.{row_of, Leads, linkedOf, head_of, Ahead, Queued, East, Passed, Room, Stood}
+use Rattle.ponds_queues.specs.Queues.{row_of, Leads, linked_of, head_of, Ahead, Queued, East, Passed, Room, Stood}
 use Rattle.ponds_queues.proofs.WordLaws.{same_or}
-use Rattle.ponds_queues.proofs.PlaceLaws.{water-leaf, top-top, leaf-only, begins-own}
+use Rattle.ponds_queues.proofs.PlaceLaws.{water_leaf, top_top, leaf_only, begins_own}
 
 pub either : (a b : Bool) → a || b ≡ true → (a ≡ true) ⊎ (b ≡ true)
 either true b e = inl refl
@@ -35,18 +35,18 @@ neither false b e = (refl, e)
 
 -- leaf p's word, and its row's entry, once it stands in its queue where it leads
 pub record Stands (W R : List ℕ) (p y : ℕ) (W' R' : List ℕ) : Type 0 where
-  pub words : W' ≡ set W p (linkedOf (word_of W p) (row_of R y))
+  pub words : W' ≡ set W p (linked_of (word_of W p) (row_of R y))
   pub rows : R' ≡ set R y (head_of (word_of W p) p (row_of R y))
 
 pub stands : {W R : List ℕ} {p y : ℕ} {W' : List ℕ} {r : ℕ} → Stood W p (row_of R y) W' r → Stands W R p y W' (set R y r)
 stands s = record { words = s.words; rows = rw s.head }
 
 -- a node's number is no leader's word, and no leader is the root
-pub words-few : {n : ℕ} {T : List ℕ} → Accepted n T → nodes T < leading
-words-few acc = omega (arith, acc.sized.few, acc.sized.whole)
+pub words_few : {n : ℕ} {T : List ℕ} → Accepted n T → nodes T < leading
+words_few acc = omega (arith, acc.sized.few, acc.sized.whole)
 
-pub water-some : {n : ℕ} {T F : List ℕ} → Labelled n T F → (p : ℕ) → Water T p → p ≡ 0 → ⊥
-water-some {T = T} r p w z = omega (arith, w.wet, ap (type T) z, eqb-true (type T 0) forkType r.sets.root)
+pub water_some : {n : ℕ} {T F : List ℕ} → Labelled n T F → (p : ℕ) → Water T p → p ≡ 0 → ⊥
+water_some {T = T} r p w z = omega (arith, w.wet, ap (node_type T) z, eqb-true (node_type T 0) fork_type r.sets.root)
 
 module _ {n : ℕ} {T F : List ℕ} {D : ℕ → Bool} {W R : List ℕ} (g : Queued n T F D W R) where
   -- leader p, with the leaders of its row east of it
@@ -64,17 +64,17 @@ module _ {n : ℕ} {T F : List ℕ} {D : ℕ → Bool} {W R : List ℕ} (g : Que
     also : ℕ → Bool
     also i = D i || eqb i p
 
-    old-too : (i : ℕ) → D i ≡ true → also i ≡ true
+    old_too : (i : ℕ) → D i ≡ true → also i ≡ true
     unfolding also
-    old-too i d = rw d
+    old_too i d = rw d
 
-    own-too : also p ≡ true
+    own_too : also p ≡ true
     unfolding also
-    own-too = rw (eq-eqb p p refl) (or-true (D p))
+    own_too = rw (eq-eqb p p refl) (or_true (D p))
 
-    old-or : (i : ℕ) → also i ≡ true → (D i ≡ true) ⊎ (i ≡ p)
+    old_or : (i : ℕ) → also i ≡ true → (D i ≡ true) ⊎ (i ≡ p)
     unfolding also
-    old-or i a = ⊎_elim (λ (d : D i ≡ true). inl d) (λ (e : eqb i p ≡ true). inr (eqb-true i p e)) (either (D i) (eqb i p) a)
+    old_or i a = ⊎_elim (λ (d : D i ≡ true). inl d) (λ (e : eqb i p ≡ true). inr (eqb-true i p e)) (either (D i) (eqb i p) a)
 
     is : word_of after p ≡ row_of R y
     unfolding after
@@ -89,34 +89,34 @@ module _ {n : ℕ} {T F : List ℕ} {D : ℕ → Bool} {W R : List ℕ} (g : Que
 
     row_is : row_of rows y ≡ p
     unfolding rows y
-    row_is = get_or-set_same R (top_of n T p) p 0 (omega (arith, g.tall, top-top n T r.sets.accepted p lp.water.node))
+    row_is = get_or-set_same R (top_of n T p) p 0 (omega (arith, g.tall, top_top n T r.sets.accepted p lp.water.node))
 
     row_same : (z : ℕ) → (z ≡ y → ⊥) → row_of rows z ≡ row_of R z
     unfolding rows
     row_same z h = get_or-set_other R y z p 0 h
 
     -- who stands ahead where p does not
-    ahead-too : {z x m : ℕ} → (top_of n T p ≡ z → x ≤ left_of n T p → ⊥) → Ahead n T D z x m → Ahead n T also z x m
-    ahead-too {z} {x} {m} off a = record {
-      none = λ e j b t l. ⊎_elim (λ (d : D j ≡ true). a.none e j d t l) (λ (q : j ≡ p). off (rw q at t) (rw q at l)) (old-or j b);
-      some = λ s. let k = a.some s in (old-too m k.0, k.1, k.2);
-      first = λ j b t l. ⊎_elim (λ (d : D j ≡ true). a.first j d t l) (λ (q : j ≡ p). absurd (off (rw q at t) (rw q at l))) (old-or j b);
+    ahead_too : {z x m : ℕ} → (top_of n T p ≡ z → x ≤ left_of n T p → ⊥) → Ahead n T D z x m → Ahead n T also z x m
+    ahead_too {z} {x} {m} off a = record {
+      none = λ e j b t l. ⊎_elim (λ (d : D j ≡ true). a.none e j d t l) (λ (q : j ≡ p). off (rw q at t) (rw q at l)) (old_or j b);
+      some = λ s. let k = a.some s in (old_too m k.0, k.1, k.2);
+      first = λ j b t l. ⊎_elim (λ (d : D j ≡ true). a.first j d t l) (λ (q : j ≡ p). absurd (off (rw q at t) (rw q at l))) (old_or j b);
     }
 
     -- p before those of its row
-    own-head : Ahead n T also y 0 p
+    own_head : Ahead n T also y 0 p
     unfolding y
-    own-head = record {
-      none = λ z. absurd (water-some r p lp.water z);
-      some = λ s. (own-too, refl, omega arith);
-      first = λ j b t l. ⊎_elim (λ (d : D j ≡ true). omega (arith, east j d t)) (λ (q : j ≡ p). rw q (omega arith)) (old-or j b);
+    own_head = record {
+      none = λ z. absurd (water_some r p lp.water z);
+      some = λ s. (own_too, refl, omega arith);
+      first = λ j b t l. ⊎_elim (λ (d : D j ≡ true). omega (arith, east j d t)) (λ (q : j ≡ p). rw q (omega arith)) (old_or j b);
     }
 
-    own-next : Ahead n T also y (left_of n T p + 1) (row_of R y)
+    own_next : Ahead n T also y (left_of n T p + 1) (row_of R y)
     unfolding y
-    own-next =
+    own_next =
         let a = g.heads (top_of n T p) in
-        ahead-too (λ t l. omega (arith, l)) (record {
+        ahead_too (λ t l. omega (arith, l)) (record {
           none = λ e j d t l. a.none e j d t (omega arith);
           some = λ s. let k = a.some s in (k.0, k.1, omega (arith, east (row_of R (top_of n T p)) k.0 k.1));
           first = λ j d t l. a.first j d t (omega arith);
@@ -135,33 +135,33 @@ module _ {n : ℕ} {T F : List ℕ} {D : ℕ → Bool} {W R : List ℕ} (g : Que
     one_more = record {
       size = long ∙ g.size;
       tall = high ∙ g.tall;
-      leads = λ i a. ⊎_elim (λ (d : D i ≡ true). g.leads i d) (λ (e : i ≡ p). rw e lp) (old-or i a);
+      leads = λ i a. ⊎_elim (λ (d : D i ≡ true). g.leads i d) (λ (e : i ≡ p). rw e lp) (old_or i a);
       still = λ i a.
           let z = neither (D i) (eqb i p) (unfold also in a) in
           same i (eqb-false i p z.1) ∙ g.still i z.0;
       heads = λ z.
           ⊎_elim
-          (λ (e : z ≡ top_of n T p). rw (e, row_is) own-head)
-          (λ (h : z ≡ top_of n T p → ⊥). rw (row_same z h) (ahead-too (λ t l. h (sym t)) (g.heads z)))
+          (λ (e : z ≡ top_of n T p). rw (e, row_is) own_head)
+          (λ (h : z ≡ top_of n T p → ⊥). rw (row_same z h) (ahead_too (λ t l. h (sym t)) (g.heads z)))
           (same_or z (top_of n T p));
       nexts = λ i a.
           ⊎_elim
-          (λ (d : D i ≡ true). rw (kept i d) (ahead-too (λ t l. omega (arith, l, east i d (sym t))) (g.nexts i d)))
-          (λ (e : i ≡ p). rw (e, is) own-next)
-          (old-or i a);
+          (λ (d : D i ≡ true). rw (kept i d) (ahead_too (λ t l. omega (arith, l, east i d (sym t))) (g.nexts i d)))
+          (λ (e : i ≡ p). rw (e, is) own_next)
+          (old_or i a);
     }
 
-    pub leader-passed : (l : ℕ) → AtLevel n T p l
+    pub leader_passed : (l : ℕ) → AtLevel n T p l
         → Passed n T F D (left_of n T p) (top_of n T p) l (set W p (row_of R (top_of n T p))) (set R (top_of n T p) p)
     unfolding after rows y
-    leader-passed l h = record {
+    leader_passed l h = record {
       now = also;
       queued = one_more;
-      kept = old-too;
-      only = λ i a. ⊎_elim (λ (d : D i ≡ true). inl d) (λ (e : i ≡ p). inr (rw e (begins-own p l))) (old-or i a);
+      kept = old_too;
+      only = λ i a. ⊎_elim (λ (d : D i ≡ true). inl d) (λ (e : i ≡ p). inr (rw e (begins_own p l))) (old_or i a);
       all = λ i li b.
-          let e = leaf-only h (water-leaf T p lp.water.wet) i li.water.node (water-leaf T i li.water.wet) b in
-          rw e own-too;
+          let e = leaf_only h (water_leaf T p lp.water.wet) i li.water.node (water_leaf T i li.water.wet) b in
+          rw e own_too;
     }
 
   -- a block that no leader begins in
@@ -175,54 +175,54 @@ module _ {n : ℕ} {T F : List ℕ} {D : ℕ → Bool} {W R : List ℕ} (g : Que
   }
 
   -- leaf p, as the code has it stand
-  module _ (r : Labelled n T F) {p l y : ℕ} (h : AtLevel n T p l) (f : isFork T p ≡ false) (e : y ≡ top_of n T p) where
-    pub leaf-row : y < 2 ^ topLevel
-    leaf-row = omega (arith, e, top-top n T r.sets.accepted p h.node)
+  module _ (r : Labelled n T F) {p l y : ℕ} (h : AtLevel n T p l) (f : is_fork T p ≡ false) (e : y ≡ top_of n T p) where
+    pub leaf_row : y < 2 ^ top_level
+    leaf_row = omega (arith, e, top_top n T r.sets.accepted p h.node)
 
     pub leaf_room : Room W p
     leaf_room = record {
       node = omega (arith, g.size, h.node);
-      few = omega (arith, g.size, words-few r.sets.accepted);
+      few = omega (arith, g.size, words_few r.sets.accepted);
     }
 
     module _ (east : East n T D (left_of n T p) (top_of n T p) l) where
-      leaf-new : D p ≡ false
-      leaf-new =
+      leaf_new : D p ≡ false
+      leaf_new =
           ⊎_elim
           (λ (d : D p ≡ true). absurd (omega (arith, east p d (omega arith) (omega (arith, pow_pos l)), pow_pos l)))
           (λ (z : D p ≡ false). z)
           (by_bool (D p))
 
-      leaf-leads : leading ≤ word_of W p → Leads T F p
-      leaf-leads le =
-          let w = g.still p leaf-new in
+      leaf_leads : leading ≤ word_of W p → Leads T F p
+      leaf_leads le =
+          let w = g.still p leaf_new in
           ⊎_elim
-          (λ (b : eqb (type T p) black ≡ true). record { water = record { node = h.node; wet = eqb-true (type T p) black b }; high = omega (arith, w) })
-          (λ (b : eqb (type T p) black ≡ false). absurd (omega (arith, w, r.white p h.node f (eqb-false (type T p) black b))))
-          (by_bool (eqb (type T p) black))
+          (λ (b : eqb (node_type T p) black ≡ true). record { water = record { node = h.node; wet = eqb-true (node_type T p) black b }; high = omega (arith, w) })
+          (λ (b : eqb (node_type T p) black ≡ false). absurd (omega (arith, w, r.white p h.node f (eqb-false (node_type T p) black b))))
+          (by_bool (eqb (node_type T p) black))
 
-      pub leaf-passed : {W' R' : List ℕ} → Stands W R p y W' R' → Passed n T F D (left_of n T p) (top_of n T p) l W' R'
-      unfolding linkedOf head_of
-      leaf-passed {W'} {R'} a =
+      pub leaf_passed : {W' R' : List ℕ} → Stands W R p y W' R' → Passed n T F D (left_of n T p) (top_of n T p) l W' R'
+      unfolding linked_of head_of
+      leaf_passed {W'} {R'} a =
           ⊎_elim
           (λ (m : word_of W p < leading).
           let ew : W' ≡ W = a.words ∙ rw (lt-ltb (word_of W p) leading m) (set-get_or W p 0) in
           let er : R' ≡ R = a.rows ∙ rw (lt-ltb (word_of W p) leading m) (set-get_or R y 0) in
           rw (ew, er)
           (none_passed (left_of n T p) (top_of n T p) l (λ i li b.
-          let z = leaf-only h f i li.water.node (water-leaf T i li.water.wet) b in
-          omega (arith, li.high, ap (word_of F) z, g.still p leaf-new))))
+          let z = leaf_only h f i li.water.node (water_leaf T i li.water.wet) b in
+          omega (arith, li.high, ap (word_of F) z, g.still p leaf_new))))
           (λ (m : leading ≤ word_of W p).
           let ew : W' ≡ set W p (row_of R (top_of n T p)) = a.words ∙ rw (le-ltb (word_of W p) leading m, e) in
           let er : R' ≡ set R (top_of n T p) p = a.rows ∙ rw (le-ltb (word_of W p) leading m, e) in
           rw (ew, er)
-          (leader-passed r p (leaf-leads m) leaf-new (λ i d t. omega (arith, east i d (omega (arith, t)) (omega (arith, t, pow_pos l)), pow_pos l)) l h))
-          (lt-or-ge (word_of W p) leading)
+          (leader_passed r p (leaf_leads m) leaf_new (λ i d t. omega (arith, east i d (omega (arith, t)) (omega (arith, t, pow_pos l)), pow_pos l)) l h))
+          (lt_or_ge (word_of W p) leading)
 
   -- a fork that is marked
-  pub marked-passed : Labelled n T F → {p l : ℕ} → AtLevel n T p l → isFork T p ≡ true → (word_of W p ≡ 0 → ⊥) → Passed n T F D (left_of n T p) (top_of n T p) l W R
-  marked-passed r {p} {l} h f some =
-      let t = eqb-true (type T p) forkType f in
+  pub marked_passed : Labelled n T F → {p l : ℕ} → AtLevel n T p l → is_fork T p ≡ true → (word_of W p ≡ 0 → ⊥) → Passed n T F D (left_of n T p) (top_of n T p) l W R
+  marked_passed r {p} {l} h f some =
+      let t = eqb-true (node_type T p) fork_type f in
       let new : D p ≡ false =
       ⊎_elim (λ (d : D p ≡ true). absurd (omega (arith, t, (g.leads p d).water.wet))) (λ (z : D p ≡ false). z) (by_bool (D p)) in
       let w = g.still p new in
@@ -232,9 +232,9 @@ module _ {n : ℕ} {T F : List ℕ} {D : ℕ → Bool} {W R : List ℕ} (g : Que
       (λ (z : word_of F p ≡ leading). z)
       (r.dry p h.node (λ b. omega arith)) in
       none_passed (left_of n T p) (top_of n T p) l (λ i li b.
-      let k = r.marks p h.node f mark i li.water (rw (level-is h) at b) in
+      let k = r.marks p h.node f mark i li.water (rw (level_is h) at b) in
       omega (arith, k.1, li.high))
 
 -- what `stand` leaves, by what its callees say
-pub stood : (W : List ℕ) (p first a b : ℕ) → a ≡ linkedOf (word_of W p) first → b ≡ head_of (word_of W p) p first → Stood W p first (set W p a) b
+pub stood : (W : List ℕ) (p first a b : ℕ) → a ≡ linked_of (word_of W p) first → b ≡ head_of (word_of W p) p first → Stood W p first (set W p a) b
 stood W p first a b e f = record { words = rw e; head = f }

@@ -9,52 +9,52 @@ use lib.Dec.{eqb}
 use lib.ListN.{length, set, length-set}
 use lib.Seq.{get_or-set_same, get_or-set_other}
 use borrow.Author.Tests.{eqb-true, eqb-false, lt-ltb, le-ltb}
-use Rattle.base.proofs.BoolLaws.{by_bool, lt-or-ge}
-use Rattle.quad.specs.Numbers.{topLevel}
+use Rattle.base.proofs.BoolLaws.{by_bool, lt_or_ge}
+use Rattle.quad.specs.Numbers.{top_level}
 use Rattle.ponds.specs.Words.{word_of}
 use Rattle.ponds_sets.specs.Sets.{leading}
-use Rattle.ponds_queues.specs.Words.{Ends, leadsTo, steps_of, Traced, next_of, Settled, Finishing, Finished}
+use Rattle.ponds_queues.specs.Words.{Ends, leads_to, steps_of, Traced, next_of, Settled, Finishing, Finished}
 
 pub same_or : (p q : ℕ) → (p ≡ q) ⊎ (p ≡ q → ⊥)
 same_or p q = ⊎_elim (λ e. inl (eqb-true p q e)) (λ e. inr (eqb-false p q e)) (by_bool (eqb p q))
 
 module _ (W : List ℕ) (end far : ℕ → ℕ) (h : Ends W end far) where
   -- a word leads to where its node leads
-  pub reach-word : (p : ℕ) → p < length W → leadsTo end (word_of W p) ≡ end p
-  unfolding leadsTo
-  reach-word p lt =
+  pub reach_word : (p : ℕ) → p < length W → leads_to end (word_of W p) ≡ end p
+  unfolding leads_to
+  reach_word p lt =
       ⊎_elim
       (λ (l : word_of W p < leading). rw (lt-ltb (word_of W p) leading l) (h.same p lt l))
       (λ (g : leading ≤ word_of W p). rw (le-ltb (word_of W p) leading g) (h.top p lt g))
-      (lt-or-ge (word_of W p) leading)
+      (lt_or_ge (word_of W p) leading)
 
-  pub reach-on : (w : ℕ) → w < length W → w < leading → leadsTo end (word_of W w) ≡ leadsTo end w
-  unfolding leadsTo
-  reach-on w lt l = reach-word w lt ∙ rw (lt-ltb w leading l)
+  pub reach_on : (w : ℕ) → w < length W → w < leading → leads_to end (word_of W w) ≡ leads_to end w
+  unfolding leads_to
+  reach_on w lt l = reach_word w lt ∙ rw (lt-ltb w leading l)
 
-  steps-same : (k w : ℕ) → (w < leading → w < length W) → (w < leading → far w < k) → steps_of W (suc k) w ≡ steps_of W k w
+  steps_same : (k w : ℕ) → (w < leading → w < length W) → (w < leading → far w < k) → steps_of W (suc k) w ≡ steps_of W k w
   unfolding steps_of
-  steps-same zero w lw f =
+  steps_same zero w lw f =
       ⊎_elim
       (λ (l : w < leading). absurd (omega (arith, f l)))
       (λ (g : leading ≤ w). rw (le-ltb w leading g))
-      (lt-or-ge w leading)
-  steps-same (suc k) w lw f =
+      (lt_or_ge w leading)
+  steps_same (suc k) w lw f =
       ⊎_elim
       (λ (l : w < leading).
-      let ih = steps-same k (word_of W w) (h.low w (lw l)) (λ m. omega (arith, f l, h.near w (lw l) m)) in
+      let ih = steps_same k (word_of W w) (h.low w (lw l)) (λ m. omega (arith, f l, h.near w (lw l) m)) in
       rw (lt-ltb w leading l) (ap suc ih))
       (λ (g : leading ≤ w). rw (le-ltb w leading g))
-      (lt-or-ge w leading)
+      (lt_or_ge w leading)
 
-  steps-less : (k w : ℕ) → w < length W → w < leading → far w ≤ k → steps_of W (suc k) (word_of W w) < steps_of W (suc k) w
-  steps-less k w lt l f =
-      let e = steps-same k (word_of W w) (h.low w lt) (λ m. omega (arith, h.near w lt m)) in
+  steps_less : (k w : ℕ) → w < length W → w < leading → far w ≤ k → steps_of W (suc k) (word_of W w) < steps_of W (suc k) w
+  steps_less k w lt l f =
+      let e = steps_same k (word_of W w) (h.low w lt) (λ m. omega (arith, h.near w lt m)) in
       let s : steps_of W (suc k) w ≡ suc (steps_of W k (word_of W w)) = unfold steps_of in rw (lt-ltb w leading l) in
       omega (arith, e, s)
 
-  pub steps-fall : (w : ℕ) → w < length W → w < leading → steps_of W (suc (4 ^ topLevel)) (word_of W w) < steps_of W (suc (4 ^ topLevel)) w
-  steps-fall w lt l = steps-less (4 ^ topLevel) w lt l (h.soon w lt)
+  pub steps_fall : (w : ℕ) → w < length W → w < leading → steps_of W (suc (4 ^ top_level)) (word_of W w) < steps_of W (suc (4 ^ top_level)) w
+  steps_fall w lt l = steps_less (4 ^ top_level) w lt l (h.soon w lt)
 
   -- a word that is where it leads to
   pub ends_set : (p : ℕ) → p < length W → Ends (set W p (end p)) end far
@@ -84,9 +84,9 @@ module _ (W : List ℕ) (end far : ℕ → ℕ) (h : Ends W end far) where
         soon = λ q l. h.soon q (old q l);
       }
 
-pub reach-top : (end : ℕ → ℕ) (w : ℕ) → leading ≤ w → w ≡ leadsTo end w
-unfolding leadsTo
-reach-top end w g = rw (le-ltb w leading g)
+pub reach_top : (end : ℕ → ℕ) (w : ℕ) → leading ≤ w → w ≡ leads_to end w
+unfolding leads_to
+reach_top end w g = rw (le-ltb w leading g)
 
 -- with the words before p settled
 pub record Settling (before W : List ℕ) (p : ℕ) : Type 0 where
@@ -94,13 +94,13 @@ pub record Settling (before W : List ℕ) (p : ℕ) : Type 0 where
   pub still : (end far : ℕ → ℕ) → Ends before end far → Ends W end far
   pub done : (end far : ℕ → ℕ) → Ends before end far → (q : ℕ) → q < p → q < length before → word_of W q ≡ end q
 
-pub settling-none : (W : List ℕ) → Settling W W 0
-settling-none W = record { long = refl; still = λ end far h. h; done = λ end far h q l. absurd (omega arith) }
+pub settling_none : (W : List ℕ) → Settling W W 0
+settling_none W = record { long = refl; still = λ end far h. h; done = λ end far h q l. absurd (omega arith) }
 
 -- the node looked at first is there, and leads where p does
-pub next-there : (W : List ℕ) (end far : ℕ → ℕ) → Ends W end far → (p j : ℕ) → p < length W → j ≡ next_of (word_of W p) p → (j < length W) × (end j ≡ end p)
+pub next_there : (W : List ℕ) (end far : ℕ → ℕ) → Ends W end far → (p j : ℕ) → p < length W → j ≡ next_of (word_of W p) p → (j < length W) × (end j ≡ end p)
 unfolding next_of
-next-there W end far h p j lt e =
+next_there W end far h p j lt e =
     ⊎_elim
     (λ (l : word_of W p < leading).
     let is : j ≡ word_of W p = e ∙ rw (lt-ltb (word_of W p) leading l) in
@@ -108,24 +108,24 @@ next-there W end far h p j lt e =
     (λ (g : leading ≤ word_of W p).
     let is : j ≡ p = e ∙ rw (le-ltb (word_of W p) leading g) in
     rw is (lt, refl))
-    (lt-or-ge (word_of W p) leading)
+    (lt_or_ge (word_of W p) leading)
 
 -- and so does the one after it
-pub two-there : (W : List ℕ) (end far : ℕ → ℕ) → Ends W end far → (p j k : ℕ) → p < length W → j ≡ next_of (word_of W p) p → k ≡ next_of (word_of W j) j
+pub two_there : (W : List ℕ) (end far : ℕ → ℕ) → Ends W end far → (p j k : ℕ) → p < length W → j ≡ next_of (word_of W p) p → k ≡ next_of (word_of W j) j
     → (k < length W) × (end k ≡ end p)
-two-there W end far h p j k lt e f =
-    let a = next-there W end far h p j lt e in
-    let b = next-there W end far h j k a.0 f in
+two_there W end far h p j k lt e f =
+    let a = next_there W end far h p j lt e in
+    let b = next_there W end far h j k a.0 f in
     (b.0, b.1 ∙ a.1)
 
-pub settling-more : {B W : List ℕ} {p j k v : ℕ} → p < length B → j ≡ next_of (word_of W p) p → k ≡ next_of (word_of W j) j → Traced W (word_of W k) v
+pub settling_more : {B W : List ℕ} {p j k v : ℕ} → p < length B → j ≡ next_of (word_of W p) p → k ≡ next_of (word_of W j) j → Traced W (word_of W k) v
     → Settling B W p → Settling B (set W p v) (p + 1)
-settling-more {B} {W} {p} {j} {k} {v} lt e f t s =
+settling_more {B} {W} {p} {j} {k} {v} lt e f t s =
     let is : (end far : ℕ → ℕ) → Ends B end far → v ≡ end p =
     λ end far h.
     let now = s.still end far h in
-    let n = two-there W end far now p j k (omega (arith, s.long)) e f in
-    t end far now ∙ reach-word W end far now k n.0 ∙ n.1 in
+    let n = two_there W end far now p j k (omega (arith, s.long)) e f in
+    t end far now ∙ reach_word W end far now k n.0 ∙ n.1 in
     record {
       long = length-set W p v ∙ s.long;
       still = λ end far h. rw (is end far h) (ends_set W end far (s.still end far h) p (omega (arith, s.long)));
@@ -136,8 +136,8 @@ settling-more {B} {W} {p} {j} {k} {v} lt e f t s =
           (same_or q p);
     }
 
-pub settling-all : {B W : List ℕ} {p : ℕ} → length B ≤ p → Settling B W p → Settled B W
-settling-all le s = record { long = s.long; all = λ end far h q l. s.done end far h q (omega arith) l }
+pub settling_all : {B W : List ℕ} {p : ℕ} → length B ≤ p → Settling B W p → Settled B W
+settling_all le s = record { long = s.long; all = λ end far h q l. s.done end far h q (omega arith) l }
 
 -- with the mark taken off the words before p
 pub record Writing (before W : List ℕ) (p : ℕ) : Type 0 where
@@ -145,8 +145,8 @@ pub record Writing (before W : List ℕ) (p : ℕ) : Type 0 where
   pub done : (q : ℕ) → q < p → q < length before → word_of W q ≡ word_of before q - leading
   pub rest : (q : ℕ) → p ≤ q → word_of W q ≡ word_of before q
 
-pub writing-none : (W : List ℕ) → Writing W W 0
-writing-none W = record { long = refl; done = λ q l. absurd (omega arith); rest = λ q l. refl }
+pub writing_none : (W : List ℕ) → Writing W W 0
+writing_none W = record { long = refl; done = λ q l. absurd (omega arith); rest = λ q l. refl }
 
 pub writing_more : {B W : List ℕ} {p : ℕ} → p < length B → Writing B W p → Writing B (set W p (word_of W p - leading)) (p + 1)
 writing_more {B} {W} {p} lt s =
@@ -161,8 +161,8 @@ writing_more {B} {W} {p} lt s =
       rest = λ q l. get_or-set_other W p q v 0 (λ z. omega arith) ∙ s.rest q (omega arith);
     }
 
-pub writing-all : {B W : List ℕ} {p : ℕ} → length B ≤ p → Writing B W p → Finished B W
-writing-all le s = record { long = s.long; all = λ q l. s.done q (omega arith) l }
+pub writing_all : {B W : List ℕ} {p : ℕ} → length B ≤ p → Writing B W p → Finished B W
+writing_all le s = record { long = s.long; all = λ q l. s.done q (omega arith) l }
 
-pub writing-high : {B W : List ℕ} {p : ℕ} → Finishing B → p < length B → Writing B W p → leading ≤ word_of W p
-writing-high {p = p} f lt s = omega (arith, s.rest p (omega arith), f p lt)
+pub writing_high : {B W : List ℕ} {p : ℕ} → Finishing B → p < length B → Writing B W p → leading ≤ word_of W p
+writing_high {p = p} f lt s = omega (arith, s.rest p (omega arith), f p lt)

@@ -2,8 +2,8 @@
 -- row from east to west, and each leader goes to the head of its row's queue. A row's entry is the first of its queue,
 -- and a leader's word tells the next; 0, the root, is none. Inner definitions: no outside call's statement cites them.
 use Rattle.std.specs.Prelude.{Bool, true, false, cond, List, ◌⊎◌, ◌≡◌, ℕ, ◌+◌, ◌^◌, ◌≤◌, ◌<◌, ltb, length, get_or, set}
-use Rattle.quad.specs.Numbers.{topLevel}
-use Rattle.table.specs.Table.{nodes, isFork}
+use Rattle.quad.specs.Numbers.{top_level}
+use Rattle.table.specs.Table.{nodes, is_fork}
 use Rattle.table.specs.Rules.{AtLevel}
 use Rattle.table.specs.Nodes.{left_of, top_of}
 use Rattle.ponds.specs.Chain.{Water}
@@ -21,8 +21,8 @@ pub record Leads (T F : List ℕ) (i : ℕ) : Type 0 where
   pub high : leading ≤ word_of F i
 
 -- the word with that next one where it leads, and the head of a queue that p's goes to where it leads
-unfoldable pub linkedOf : ℕ → ℕ → ℕ
-linkedOf word next = cond (ltb word leading) word next
+unfoldable pub linked_of : ℕ → ℕ → ℕ
+linked_of word next = cond (ltb word leading) word next
 
 unfoldable pub head_of : ℕ → ℕ → ℕ → ℕ
 head_of word p head = cond (ltb word leading) head p
@@ -36,7 +36,7 @@ pub record Ahead (n : ℕ) (T : List ℕ) (D : ℕ → Bool) (y x m : ℕ) : Typ
 -- the leaders that D says stand in their queues, F being the words before
 pub record Queued (n : ℕ) (T F : List ℕ) (D : ℕ → Bool) (W R : List ℕ) : Type 0 where
   pub size : length W ≡ nodes T
-  pub tall : length R ≡ 2 ^ topLevel
+  pub tall : length R ≡ 2 ^ top_level
   pub leads : (i : ℕ) → D i ≡ true → Leads T F i
   pub still : (i : ℕ) → D i ≡ false → word_of W i ≡ word_of F i
   pub heads : (y : ℕ) → Ahead n T D y 0 (row_of R y)
@@ -58,7 +58,7 @@ pub record Passed (n : ℕ) (T F : List ℕ) (D : ℕ → Bool) (x y l : ℕ) (W
 pub record Reach (n : ℕ) (F : List ℕ) (D : ℕ → Bool) (T W R : List ℕ) (p l y : ℕ) : Type 0 where
   pub ready : Labelled n T F
   pub place : AtLevel n T p l
-  pub fork : isFork T p ≡ true
+  pub fork : is_fork T p ≡ true
   pub top : y ≡ top_of n T p
   pub queued : Queued n T F D W R
   pub east : East n T D (left_of n T p) (top_of n T p) l
@@ -80,7 +80,7 @@ pub record Room (W : List ℕ) (p : ℕ) : Type 0 where
 
 -- leaf p's word, and the first of the queue, once it stands there where it leads
 pub record Stood (W : List ℕ) (p first : ℕ) (W' : List ℕ) (r : ℕ) : Type 0 where
-  pub words : W' ≡ set W p (linkedOf (word_of W p) first)
+  pub words : W' ≡ set W p (linked_of (word_of W p) first)
   pub head : r ≡ head_of (word_of W p) p first
 
 -- all leaders stand in their queues

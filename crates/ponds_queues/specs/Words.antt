@@ -1,7 +1,7 @@
 -- How numbers come out of the words once each leader has its own: each word becomes the one that it leads to, and then
 -- the leaders' mark is taken off. Inner definitions: no outside call's statement cites them.
 use Rattle.std.specs.Prelude.{cond, List, ◌≡◌, ℕ, zero, suc, ◌-◌, ◌^◌, ◌≤◌, ◌<◌, ltb, length}
-use Rattle.quad.specs.Numbers.{topLevel}
+use Rattle.quad.specs.Numbers.{top_level}
 use Rattle.ponds.specs.Words.{word_of}
 use Rattle.ponds_sets.specs.Sets.{leading}
 
@@ -13,11 +13,11 @@ pub record Ends (W : List ℕ) (end far : ℕ → ℕ) : Type 0 where
   pub same : (p : ℕ) → p < length W → word_of W p < leading → end (word_of W p) ≡ end p
   pub near : (p : ℕ) → p < length W → word_of W p < leading → far (word_of W p) < far p
   pub high : (p : ℕ) → p < length W → leading ≤ end p
-  pub soon : (p : ℕ) → p < length W → far p ≤ 4 ^ topLevel
+  pub soon : (p : ℕ) → p < length W → far p ≤ 4 ^ top_level
 
 -- what a word leads to
-unfoldable pub leadsTo : (ℕ → ℕ) → ℕ → ℕ
-leadsTo end word = cond (ltb word leading) (end word) word
+unfoldable pub leads_to : (ℕ → ℕ) → ℕ → ℕ
+leads_to end word = cond (ltb word leading) (end word) word
 
 -- how many steps are left from a word, at most k
 unfoldable pub steps_of : List ℕ → ℕ → ℕ → ℕ
@@ -32,7 +32,7 @@ pub record Tracing (W : List ℕ) (word : ℕ) : Type 0 where
   pub there : word < leading → word < length W
 
 abbrev pub Traced : List ℕ → ℕ → ℕ → Type 0
-Traced W word r = (end far : ℕ → ℕ) → Ends W end far → r ≡ leadsTo end word
+Traced W word r = (end far : ℕ → ℕ) → Ends W end far → r ≡ leads_to end word
 
 -- the node whose word is the second step of p's way: p's word, or p itself where that is a leader's
 unfoldable pub next_of : ℕ → ℕ → ℕ

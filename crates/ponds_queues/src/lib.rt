@@ -1,6 +1,6 @@
 // The leaders of the ponds' sets stand in queues, one for each row of the sheet.
 ghost use Rattle.std.specs.Prelude.{◌≡◌};
-ghost use Rattle.ponds_queues.specs.Queues.{linkedOf, head_of, Room, Stood, Reached, Through};
+ghost use Rattle.ponds_queues.specs.Queues.{linked_of, head_of, Room, Stood, Reached, Through};
 
 use ponds_join::LEADING;
 use table_node::word_at;
@@ -10,7 +10,7 @@ pub const ROWS: usize = 128;
 
 // A leader's word becomes the next leader in its row, any other stays.
 fn linked(word: u32, next: u32) -> u32
-    ensures { result ≡ linkedOf word next }
+    ensures { result ≡ linked_of word next }
 {
     if word < LEADING {
         return word;

@@ -1,7 +1,7 @@
 -- How the leaders are counted off, row by row and in each from the head of its queue on: each gets the number of those
 -- before it by rows, itself counted. Inner definitions: no outside call's statement cites them.
 use Rattle.std.specs.Prelude.{List, ◌≡◌, ℕ, ◌+◌, ◌*◌, ◌^◌, ◌≤◌, ◌<◌, length}
-use Rattle.quad.specs.Numbers.{topLevel}
+use Rattle.quad.specs.Numbers.{top_level}
 use Rattle.ponds.specs.Words.{word_of}
 use Rattle.ponds_sets.specs.Sets.{leading, place_of}
 use Rattle.ponds_queues.specs.Queues.{row_of, Leads, Full}
@@ -27,12 +27,12 @@ pub record Row (W' : List ℕ) (first before : ℕ) : Type 0 where
   pub y : ℕ
   pub full : Full n T F W R
   pub head : first ≡ row_of R y
-  pub row : y < 2 ^ topLevel
-  pub counted : Counted n T F W (y * 2 ^ topLevel) before W'
+  pub row : y < 2 ^ top_level
+  pub counted : Counted n T F W (y * 2 ^ top_level) before W'
 
 -- and what it leaves
 abbrev pub RowOff : List ℕ → ℕ → ℕ → ℕ → List ℕ → Type 0
-RowOff W' first before count W'' = (z : Row W' first before) → Counted z.n z.T z.F z.W ((z.y + 1) * 2 ^ topLevel) count W''
+RowOff W' first before count W'' = (z : Row W' first before) → Counted z.n z.T z.F z.W ((z.y + 1) * 2 ^ top_level) count W''
 
 -- what counting off all rows asks
 pub record Rows (W R : List ℕ) (side : ℕ) : Type 0 where
@@ -40,7 +40,7 @@ pub record Rows (W R : List ℕ) (side : ℕ) : Type 0 where
   pub T : List ℕ
   pub F : List ℕ
   pub full : Full n T F W R
-  pub within : side ≤ 2 ^ topLevel
+  pub within : side ≤ 2 ^ top_level
 
 abbrev pub RowsOff : List ℕ → List ℕ → ℕ → ℕ → List ℕ → Type 0
-RowsOff W R side count W' = (z : Rows W R side) → Counted z.n z.T z.F W (side * 2 ^ topLevel) count W'
+RowsOff W R side count W' = (z : Rows W R side) → Counted z.n z.T z.F W (side * 2 ^ top_level) count W'

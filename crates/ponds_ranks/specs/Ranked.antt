@@ -1,7 +1,7 @@
 -- The words once the ponds are numbered by their leaders.
 use Rattle.std.specs.Prelude.{List, ◌≡◌, ℕ, ◌≤◌, ◌<◌, length}
 use Rattle.quad.specs.Numbers.{black}
-use Rattle.table.specs.Table.{nodes, type}
+use Rattle.table.specs.Table.{nodes, node_type}
 use Rattle.ponds.specs.Chain.{Water, Chain}
 use Rattle.ponds.specs.Words.{word_of}
 use Rattle.ponds_sets.specs.Sets.{place_of}
@@ -11,7 +11,7 @@ use Rattle.ponds_sets.specs.Sets.{place_of}
 -- black leaves have one number exactly when a chain joins them
 pub record Ranked (n : ℕ) (T W : List ℕ) (count : ℕ) : Type 0 where
   pub each : length W ≡ nodes T
-  pub dry : (p : ℕ) → p < nodes T → (type T p ≡ black → ⊥) → word_of W p ≡ 0
+  pub dry : (p : ℕ) → p < nodes T → (node_type T p ≡ black → ⊥) → word_of W p ≡ 0
   pub lead : ℕ → ℕ
   pub chain : (p : ℕ) → Water T p → Chain n T p (lead p)
   pub first : (p : ℕ) → Water T p → place_of n T (lead p) ≤ place_of n T p

@@ -1,10 +1,10 @@
 // The register in words: every leaf under the root is entered, each with its block.
 ghost use Rattle.std.specs.Prelude.{◌≡◌, true, length, replicate, ◌*◌, ◌≤◌};
 ghost use Rattle.base.specs.Tab.{overlay};
-ghost use Rattle.table.specs.Table.{isFork};
+ghost use Rattle.table.specs.Table.{is_fork};
 ghost use Rattle.ponds.specs.Entries.{entries, words_of};
-ghost use Rattle.ponds_entry.specs.Gathered.{emptyPond, Numbers};
-ghost use Rattle.ponds_entry.specs.Under.{blockFrom, Entering, Entered};
+ghost use Rattle.ponds_entry.specs.Gathered.{empty_pond, Numbers};
+ghost use Rattle.ponds_entry.specs.Under.{block_from, Entering, Entered};
 
 use ponds_entry::{empty, part, put_entry};
 use ponds_pixels::{pass, pass_pixels};
@@ -22,9 +22,9 @@ fn pass_fork(
     row: u32,
     level: u32,
 )
-    requires { Entering table.now numbers.now p (blockFrom column row level) reg.old
-        × (isFork table.now p ≡ true) }
-    ensures { Entered table.now numbers.now p (blockFrom column row level)
+    requires { Entering table.now numbers.now p (block_from column row level) reg.old
+        × (is_fork table.now p ≡ true) }
+    ensures { Entered table.now numbers.now p (block_from column row level)
         reg.old reg.new }
 {
     let sons = table_node::four_sons(table, p);
@@ -50,7 +50,7 @@ fn pass_fork(
 // Writes `count` entries of ponds that have no pixel yet.
 fn clear(reg: &mut [u32], count: usize)
     requires { 5 * count ≤ length reg.old }
-    ensures { reg.new ≡ overlay (words_of (replicate count emptyPond)) reg.old }
+    ensures { reg.new ≡ overlay (words_of (replicate count empty_pond)) reg.old }
 {
     let mut i = 0;
     while i < count {

@@ -9,16 +9,16 @@ use lib.Dec.{eqb}
 use lib.ListN.{length}
 use borrow.Author.Tests.{eq-eqb, ne_eqb}
 use Rattle.quad.specs.Numbers.{black}
-use Rattle.table.specs.Table.{type}
+use Rattle.table.specs.Table.{node_type}
 use Rattle.ponds.specs.Chain.{Water, Chain, end}
 use Rattle.ponds.specs.Words.{word_of}
 use Rattle.ponds.proofs.NodeLaws.{same_or_not}
 use Rattle.ponds_sets.specs.Sets.{leading, place_of, Placed, Sets, Dark, as_before, Further}
-use Rattle.ponds_sets.proofs.SetsLaws.{Changed, few, not_root, other-placed, other-was}
+use Rattle.ponds_sets.proofs.SetsLaws.{Changed, few, not_root, other_placed, other_was}
 
 -- no black leaf's word is another than before
 module _ {n : ℕ} {T W W' : List ℕ} {lead : ℕ → ℕ} (s : Sets n T W lead) (long : length W' ≡ length W) (same : (i : ℕ) → Water T i → word_of W' i ≡ word_of W i)
-    (dark : (i : ℕ) → (type T i ≡ black → ⊥) → Dark n T W W' i) where
+    (dark : (i : ℕ) → (node_type T i ≡ black → ⊥) → Dark n T W W' i) where
   forth : (i : ℕ) → Placed T W i → Placed T W' i
   forth i h = record { water = h.water; some = λ e. h.some (sym (same i h.water) ∙ e) }
 
@@ -47,16 +47,16 @@ module _ {n : ℕ} {T W W' : List ℕ} {lead : ℕ → ℕ} (s : Sets n T W lead
   }
 
 -- the leaders, where p has t
-unfoldable pub with-leaf : ℕ → ℕ → (ℕ → ℕ) → ℕ → ℕ
-with-leaf p t lead i = cond (eqb i p) t (lead i)
+unfoldable pub with_leaf : ℕ → ℕ → (ℕ → ℕ) → ℕ → ℕ
+with_leaf p t lead i = cond (eqb i p) t (lead i)
 
-pub with-here : (p t : ℕ) (lead : ℕ → ℕ) → with-leaf p t lead p ≡ t
-unfolding with-leaf
-with-here p t lead = rw (eq-eqb p p refl)
+pub with_here : (p t : ℕ) (lead : ℕ → ℕ) → with_leaf p t lead p ≡ t
+unfolding with_leaf
+with_here p t lead = rw (eq-eqb p p refl)
 
-pub with-else : (p t : ℕ) (lead : ℕ → ℕ) (i : ℕ) → (i ≡ p → ⊥) → with-leaf p t lead i ≡ lead i
-unfolding with-leaf
-with-else p t lead i z = rw (ne_eqb i p z)
+pub with_else : (p t : ℕ) (lead : ℕ → ℕ) (i : ℕ) → (i ≡ p → ⊥) → with_leaf p t lead i ≡ lead i
+unfolding with_leaf
+with_else p t lead i z = rw (ne_eqb i p z)
 
 -- what makes v a word for leaf p and t its leader
 pub record Fits (n : ℕ) (T W : List ℕ) (lead : ℕ → ℕ) (p v t : ℕ) : Type 0 where
@@ -68,8 +68,8 @@ pub record Fits (n : ℕ) (T W : List ℕ) (lead : ℕ → ℕ) (p v t : ℕ) : 
   pub first : place_of n T t ≤ place_of n T p
 
 -- a set of its own
-pub fits-own : {n : ℕ} {T W : List ℕ} {lead : ℕ → ℕ} {p : ℕ} → Water T p → Fits n T W lead p (leading + place_of n T p) p
-fits-own w = record {
+pub fits_own : {n : ℕ} {T W : List ℕ} {lead : ℕ → ℕ} {p : ℕ} → Water T p → Fits n T W lead p (leading + place_of n T p) p
+fits_own w = record {
   some = λ e. omega (arith, e);
   own = λ g. (refl, refl);
   on = λ l. absurd (omega (arith, l));
@@ -79,9 +79,9 @@ fits-own w = record {
 }
 
 -- the set of u, which begins earlier
-pub fits-label : {n : ℕ} {T W : List ℕ} {lead : ℕ → ℕ} {p u : ℕ} → Sets n T W lead → Placed T W u → place_of n T u < place_of n T p → Chain n T p (lead u)
+pub fits_label : {n : ℕ} {T W : List ℕ} {lead : ℕ → ℕ} {p u : ℕ} → Sets n T W lead → Placed T W u → place_of n T u < place_of n T p → Chain n T p (lead u)
     → Fits n T W lead p u (lead u)
-fits-label {u = u} s h l c = record {
+fits_label {u = u} s h l c = record {
   some = not_root s u h.water;
   own = λ g. absurd (omega (arith, g, few s, h.water.node));
   on = λ m. (h, refl, l);
@@ -93,27 +93,27 @@ fits-label {u = u} s h l c = record {
 module _ {n : ℕ} {T W W' : List ℕ} {lead : ℕ → ℕ} {p v t : ℕ} (s : Sets n T W lead) (c : Changed W p v W') (w : Water T p) (free : word_of W p ≡ 0)
     (f : Fits n T W lead p v t) where
   abbrev pub then : ℕ → ℕ
-  then = with-leaf p t lead
+  then = with_leaf p t lead
 
   -- p was not placed, and now is
-  pub not-before : (i : ℕ) → Placed T W i → i ≡ p → ⊥
-  not-before i h e = h.some (ap (word_of W) e ∙ free)
+  pub not_before : (i : ℕ) → Placed T W i → i ≡ p → ⊥
+  not_before i h e = h.some (ap (word_of W) e ∙ free)
 
   pub then_same : (i : ℕ) → Placed T W i → then i ≡ lead i
-  then_same i h = with-else p t lead i (not-before i h)
+  then_same i h = with_else p t lead i (not_before i h)
 
   still : (i : ℕ) → Placed T W i → Placed T W' i
-  still i h = other-placed c i (not-before i h) h
+  still i h = other_placed c i (not_before i h) h
 
-  pub now-placed : Placed T W' p
-  now-placed = record { water = w; some = λ e. f.some (sym c.here ∙ e) }
+  pub now_placed : Placed T W' p
+  now_placed = record { water = w; some = λ e. f.some (sym c.here ∙ e) }
 
   -- what is placed now is p, or was
   case : {A : Type 0} (i : ℕ) → Placed T W' i → (i ≡ p → A) → ((i ≡ p → ⊥) → Placed T W i → A) → A
-  case i h one other = same_or_not i p one (λ z. other z (other-was c i z h))
+  case i h one other = same_or_not i p one (λ z. other z (other_was c i z h))
 
-  placed-sets : Sets n T W' then
-  placed-sets = record {
+  placed_sets : Sets n T W' then
+  placed_sets = record {
     accepted = s.accepted;
     each = c.long ∙ s.each;
     root = s.root;
@@ -121,7 +121,7 @@ module _ {n : ℕ} {T W W' : List ℕ} {lead : ℕ → ℕ} {p v t : ℕ} (s : S
         case i h
         (λ e.
         let o = f.own (rw (e, c.here) at g) in
-        rw e (with-here p t lead ∙ o.0, c.here ∙ o.1))
+        rw e (with_here p t lead ∙ o.0, c.here ∙ o.1))
         (λ z m.
         let o = s.own i m (rw (c.rest i z) at g) in
         (then_same i m ∙ o.0, c.rest i z ∙ o.1));
@@ -129,33 +129,33 @@ module _ {n : ℕ} {T W W' : List ℕ} {lead : ℕ → ℕ} {p v t : ℕ} (s : S
         case i h
         (λ e.
         let o = f.on (rw (e, c.here) at l) in
-        rw (e, c.here) (still v o.0, then_same v o.0 ∙ o.1 ∙ sym (with-here p t lead), o.2))
+        rw (e, c.here) (still v o.0, then_same v o.0 ∙ o.1 ∙ sym (with_here p t lead), o.2))
         (λ z m.
         let o = s.on i m (rw (c.rest i z) at l) in
         rw (c.rest i z) (still (word_of W i) o.0, then_same (word_of W i) o.0 ∙ o.1 ∙ sym (then_same i m), o.2));
     chain = λ i h.
-        case i h (λ e. rw (e, with-here p t lead) f.chain) (λ z m. rw (then_same i m) (s.chain i m));
+        case i h (λ e. rw (e, with_here p t lead) f.chain) (λ z m. rw (then_same i m) (s.chain i m));
     leader = λ i h.
         case i h
-        (λ e. rw (e, with-here p t lead) (⊎_elim (λ (k : t ≡ p). rw k now-placed) (λ (k : Placed T W t × (lead t ≡ t)). still t k.0) f.leader))
+        (λ e. rw (e, with_here p t lead) (⊎_elim (λ (k : t ≡ p). rw k now_placed) (λ (k : Placed T W t × (lead t ≡ t)). still t k.0) f.leader))
         (λ z m. rw (then_same i m) (still (lead i) (s.leader i m)));
     once = λ i h.
         case i h
         (λ e.
-        rw (e, with-here p t lead)
+        rw (e, with_here p t lead)
         (⊎_elim
-        (λ (k : t ≡ p). ap then k ∙ with-here p t lead)
+        (λ (k : t ≡ p). ap then k ∙ with_here p t lead)
         (λ (k : Placed T W t × (lead t ≡ t)). then_same t k.0 ∙ k.1)
         f.leader))
         (λ z m. rw (then_same i m) (then_same (lead i) (s.leader i m) ∙ s.once i m));
-    first = λ i h. case i h (λ e. rw (e, with-here p t lead) f.first) (λ z m. rw (then_same i m) (s.first i m));
+    first = λ i h. case i h (λ e. rw (e, with_here p t lead) f.first) (λ z m. rw (then_same i m) (s.first i m));
   }
 
-  pub placed-further : Further n T W lead W' then
-  placed-further = record {
-    sets = placed-sets;
+  pub placed_further : Further n T W lead W' then
+  placed_further = record {
+    sets = placed_sets;
     placed = still;
-    linked = λ i h l. rw (c.rest i (not-before i h)) l;
+    linked = λ i h l. rw (c.rest i (not_before i h)) l;
     together = λ i j h k e. then_same i h ∙ e ∙ sym (then_same j k);
-    dark = λ i z. as_before (c.rest i (λ e. z (ap (type T) e ∙ w.wet)));
+    dark = λ i z. as_before (c.rest i (λ e. z (ap (node_type T) e ∙ w.wet)));
   }

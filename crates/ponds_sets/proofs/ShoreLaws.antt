@@ -8,16 +8,16 @@ use lib.Seq.{get_or-set_same, get_or-set_other}
 use lib.Pow.{pow_pos}
 use borrow.Author.Tests.{ne_eqb}
 use Rattle.ponds.specs.Chain.{Water, Shares, Chain, link}
-use Rattle.ponds.proofs.ChainLaws.{chain-joined}
-use Rattle.ponds.proofs.NodeLaws.{same_or_not, last-or-before}
+use Rattle.ponds.proofs.ChainLaws.{chain_joined}
+use Rattle.ponds.proofs.NodeLaws.{same_or_not, last_or_before}
 use Rattle.ponds_sets.specs.Sets.{Placed, Sets, Further, Alike}
 use Rattle.ponds_sets.specs.Lines.{Has, Label, Line, across}
-use Rattle.ponds_sets.specs.Touch.{differOf, oneIfOther}
+use Rattle.ponds_sets.specs.Touch.{differ_of, one_if_other}
 use Rattle.ponds_sets.specs.Walk.{Facing, Meets, Nexts, Along, Shore, Shored, Shores, Quiet, Sides, LinesFilled}
-use Rattle.ponds_sets.proofs.PlaceLaws.{has-across}
-use Rattle.ponds_sets.proofs.SetsLaws.{further-none, further-on, not_root}
-use Rattle.ponds_sets.proofs.TouchLaws.{apart-is, set-chain, shares-north, shares-west}
-use Rattle.ponds_sets.proofs.LineLaws.{line-still, label-still}
+use Rattle.ponds_sets.proofs.PlaceLaws.{has_across}
+use Rattle.ponds_sets.proofs.SetsLaws.{further_none, further_on, not_root}
+use Rattle.ponds_sets.proofs.TouchLaws.{apart_is, set_chain, shares_north, shares_west}
+use Rattle.ponds_sets.proofs.LineLaws.{line_still, label_still}
 
 -- v tells of the pixel (x, y) just beyond a side of p, where there is one
 pub record Edge (n : ℕ) (T W : List ℕ) (f : ℕ → ℕ) (p e x y v : ℕ) : Type 0 where
@@ -29,28 +29,28 @@ pub record EdgeMet (n : ℕ) (T W : List ℕ) (f : ℕ → ℕ) (p e x y : ℕ) 
   pub further : Further n T W f W' lead'
   pub met : 0 < e → (j : ℕ) → Water T j → Has n T j x y → Placed T W' j × (lead' j ≡ lead' p)
 
-pub edge-still : {n : ℕ} {T W W' : List ℕ} {f g : ℕ → ℕ} {p e x y v : ℕ} → Further n T W f W' g → Edge n T W f p e x y v → Edge n T W' g p e x y v
-edge-still m d = record { line = line-still m d.line; shares = d.shares }
+pub edge_still : {n : ℕ} {T W W' : List ℕ} {f g : ℕ → ℕ} {p e x y v : ℕ} → Further n T W f W' g → Edge n T W f p e x y v → Edge n T W' g p e x y v
+edge_still m d = record { line = line_still m d.line; shares = d.shares }
 
 module _ {n : ℕ} {T W : List ℕ} {f : ℕ → ℕ} {p e x y v label : ℕ} (s : Sets n T W f) (l : Label n T W f label p) (d : Edge n T W f p e x y v) where
   -- the black leaf there
   there : (v ≡ 0 → ⊥) → (0 < e) × ((j : ℕ) × Has n T j x y × Label n T W f v j)
   there some = same_or_not e 0 (λ z. absurd (some (d.line.off z))) (λ z. let k : 0 < e = omega arith in (k, (d.line.on k).dry some))
 
-  pub edge-facing : Facing W label v
-  edge-facing = record { n = n; T = T; lead = f; sets = s; own = l.label; there = λ some. (there some).1.2.label }
+  pub edge_facing : Facing W label v
+  edge_facing = record { n = n; T = T; lead = f; sets = s; own = l.label; there = λ some. (there some).1.2.label }
 
   way : (v ≡ 0 → ⊥) → Chain n T label v
   way some =
       let t = there some in
       let j = t.1.0 in
       let b = t.1.2 in
-      chain-joined n T label p v
-      (set-chain s l.label l.leaf l.one)
-      (link l.leaf.water (d.shares t.0 j t.1.1) (set-chain s b.leaf b.label (sym b.one)))
+      chain_joined n T label p v
+      (set_chain s l.label l.leaf l.one)
+      (link l.leaf.water (d.shares t.0 j t.1.1) (set_chain s b.leaf b.label (sym b.one)))
 
-  pub edge-met : (W' : List ℕ) → Meets W label v W' → EdgeMet n T W f p e x y W'
-  edge-met W' m =
+  pub edge_met : (W' : List ℕ) → Meets W label v W' → EdgeMet n T W f p e x y W'
+  edge_met W' m =
       let u = m.faced n T f s l.label (λ some. (there some).1.2.label) way in
       let g = u.lead' in
       record {
@@ -66,33 +66,33 @@ module _ {n : ℕ} {T W : List ℕ} {f : ℕ → ℕ} {p e x y v label : ℕ} (s
       }
 
   -- where p's set has v's leaf already, nothing is to be done
-  edge-known : ((v ≡ 0 → ⊥) → f v ≡ f p) → EdgeMet n T W f p e x y W
-  edge-known known = record {
+  edge_known : ((v ≡ 0 → ⊥) → f v ≡ f p) → EdgeMet n T W f p e x y W
+  edge_known known = record {
     lead' = f;
-    further = further-none s;
+    further = further_none s;
     met = λ k j w h. let b = (d.line.on k).wet j w h in (b.leaf, sym b.one ∙ known (not_root s v b.label.water));
   }
 
-  pub edge-next : (before : ℕ) → (v ≡ before → (v ≡ 0 → ⊥) → f v ≡ f p) → (W' : List ℕ) → Nexts W label v before W' → EdgeMet n T W f p e x y W'
-  edge-next before known W' m = same_or_not v before (λ e. rw (m.same e) (edge-known (known e))) (λ ne. edge-met W' (m.new ne))
+  pub edge_next : (before : ℕ) → (v ≡ before → (v ≡ 0 → ⊥) → f v ≡ f p) → (W' : List ℕ) → Nexts W label v before W' → EdgeMet n T W f p e x y W'
+  edge_next before known W' m = same_or_not v before (λ e. rw (m.same e) (edge_known (known e))) (λ ne. edge_met W' (m.new ne))
 
-pub next-none : {W : List ℕ} {label other before : ℕ} → other ≡ before → Nexts W label other before W
-next-none e = record { same = λ f. refl; new = λ ne. absurd (ne e) }
+pub next_none : {W : List ℕ} {label other before : ℕ} → other ≡ before → Nexts W label other before W
+next_none e = record { same = λ f. refl; new = λ ne. absurd (ne e) }
 
-pub next-met : {W W' : List ℕ} {label other before : ℕ} → (other ≡ before → ⊥) → Meets W label other W' → Nexts W label other before W'
-next-met ne m = record { same = λ e. absurd (ne e); new = λ z. m }
+pub next_met : {W W' : List ℕ} {label other before : ℕ} → (other ≡ before → ⊥) → Meets W label other W' → Nexts W label other before W'
+next_met ne m = record { same = λ e. absurd (ne e); new = λ z. m }
 
 module _ {W W' : List ℕ} {label other before : ℕ} (m : Nexts W label other before W') where
-  pub next-long : length W' ≡ length W
-  next-long = same_or_not other before (λ e. ap (λ (l : List ℕ). length l) (m.same e)) (λ ne. (m.new ne).long)
+  pub next_long : length W' ≡ length W
+  next_long = same_or_not other before (λ e. ap (λ (l : List ℕ). length l) (m.same e)) (λ ne. (m.new ne).long)
 
-  pub next-alike : Alike W W'
-  next-alike = same_or_not other before (λ e. rw (m.same e) (λ i z. z)) (λ ne. (m.new ne).alike)
+  pub next_alike : Alike W W'
+  next_alike = same_or_not other before (λ e. rw (m.same e) (λ i z. z)) (λ ne. (m.new ne).alike)
 
 -- what tells of the pixel before, and has been met there, is known of the next where both tell the same
-edge-before : {n : ℕ} {T W W₁ : List ℕ} {f g : ℕ → ℕ} {p e x y v : ℕ} → Sets n T W f → Line n T W f e x y v → Further n T W f W₁ g
+edge_before : {n : ℕ} {T W W₁ : List ℕ} {f g : ℕ → ℕ} {p e x y v : ℕ} → Sets n T W f → Line n T W f e x y v → Further n T W f W₁ g
     → (0 < e → (j : ℕ) → Water T j → Has n T j x y → Placed T W₁ j × (g j ≡ g p)) → (v ≡ 0 → ⊥) → g v ≡ g p
-edge-before {e = e} {v = v} s l m met some =
+edge_before {e = e} {v = v} s l m met some =
     same_or_not e 0 (λ z. absurd (some (l.off z)))
     (λ z.
     let k : 0 < e = omega arith in
@@ -100,46 +100,46 @@ edge-before {e = e} {v = v} s l m met some =
     let b = t.2 in
     m.together v t.0 b.label b.leaf b.one ∙ (met k t.0 b.leaf.water t.1).1)
 
-pub along-still : {n : ℕ} {T W W' : List ℕ} {f g : ℕ → ℕ} {p x y k : ℕ} → Further n T W f W' g → Placed T W p → Along n T W f p x y k → Along n T W' g p x y k
-along-still {p = p} m h a = record {
+pub along_still : {n : ℕ} {T W W' : List ℕ} {f g : ℕ → ℕ} {p x y k : ℕ} → Further n T W f W' g → Placed T W p → Along n T W f p x y k → Along n T W' g p x y k
+along_still {p = p} m h a = record {
   north = λ i l e j w b. let t = a.north i l e j w b in (m.placed j t.0, m.together j p t.0 h t.1);
   west = λ i l e j w b. let t = a.west i l e j w b in (m.placed j t.0, m.together j p t.0 h t.1);
 }
 
 -- where pixel k of both sides has been met too, the first k + 1 have
-shored-more : {n : ℕ} {T W W₁ W₂ W₃ : List ℕ} {f : ℕ → ℕ} {p x y k : ℕ} → Placed T W p → (s : Shored n T W f p x y k W₁)
+shored_more : {n : ℕ} {T W W₁ W₂ W₃ : List ℕ} {f : ℕ → ℕ} {p x y k : ℕ} → Placed T W p → (s : Shored n T W f p x y k W₁)
     → (a : EdgeMet n T W₁ s.lead' p y (x + k) (y - 1) W₂) → EdgeMet n T W₂ a.lead' p x (x - 1) (y + k) W₃ → Shored n T W f p x y (k + 1) W₃
-shored-more {p = p} {k = k} own s a b =
+shored_more {p = p} {k = k} own s a b =
     let hp = s.further.placed p own in
-    let two = further-on a.further b.further in
-    let old = along-still two hp s.along in
+    let two = further_on a.further b.further in
+    let old = along_still two hp s.along in
     record {
       lead' = b.lead';
-      further = further-on s.further two;
+      further = further_on s.further two;
       along = record {
         north = λ i l e j w q.
-            last-or-before i k l
+            last_or_before i k l
             (λ ei.
             let t = a.met e j w (rw ei at q) in
             (b.further.placed j t.0, b.further.together j p t.0 (a.further.placed p hp) t.1))
             (λ before. old.north i before e j w q);
-        west = λ i l e j w q. last-or-before i k l (λ ei. b.met e j w (rw ei at q)) (λ before. old.west i before e j w q);
+        west = λ i l e j w q. last_or_before i k l (λ ei. b.met e j w (rw ei at q)) (λ before. old.west i before e j w q);
       };
     }
 
 module _ {W L : List ℕ} {label x y side : ℕ} where
   -- the first pixels have been met
-  pub shore-start : Shores W L label x y side 1 W
-  shore-start = record {
+  pub shore_start : Shores W L label x y side 1 W
+  shore_start = record {
     long = refl;
     alike = λ i e. e;
-    shored = λ z. record { lead' = z.lead; further = further-none z.sets; along = z.first };
+    shored = λ z. record { lead' = z.lead; further = further_none z.sets; along = z.first };
   }
 
   module _ (z : Shore W L label x y side) where
     -- the pixels along the sides are p's
-    on-north : (k : ℕ) → k < side → Has z.n z.T z.p (x + k) y
-    on-north k l = record {
+    on_north : (k : ℕ) → k < side → Has z.n z.T z.p (x + k) y
+    on_north k l = record {
       node = z.own.leaf.water.node;
       west = omega (arith, z.left);
       east = omega (arith, z.left, z.wide, l);
@@ -147,8 +147,8 @@ module _ {W L : List ℕ} {label x y side : ℕ} where
       south = omega (arith, z.top, z.wide, l);
     }
 
-    on-west : (k : ℕ) → k < side → Has z.n z.T z.p x (y + k)
-    on-west k l = record {
+    on_west : (k : ℕ) → k < side → Has z.n z.T z.p x (y + k)
+    on_west k l = record {
       node = z.own.leaf.water.node;
       west = omega (arith, z.left);
       east = omega (arith, z.left, z.wide, l);
@@ -156,108 +156,108 @@ module _ {W L : List ℕ} {label x y side : ℕ} where
       south = omega (arith, z.top, z.wide, l);
     }
 
-    pub shore-bounds : (k : ℕ) → k < side → (x + k < across) × (y + k < across)
-    shore-bounds k l = ((has-across z.sets.accepted (on-north k l)).0, (has-across z.sets.accepted (on-west k l)).1)
+    pub shore_bounds : (k : ℕ) → k < side → (x + k < across) × (y + k < across)
+    shore_bounds k l = ((has_across z.sets.accepted (on_north k l)).0, (has_across z.sets.accepted (on_west k l)).1)
 
-    pub side-some : 1 ≤ side
-    side-some = rw z.power (pow_pos z.l)
+    pub side_some : 1 ≤ side
+    side_some = rw z.power (pow_pos z.l)
 
     -- what the lines tell beyond pixel k
-    north-edge : (k : ℕ) → k < side → Edge z.n z.T W z.lead z.p y (x + k) (y - 1) (get_or L (x + k) 0)
-    north-edge k l = record {
+    north_edge : (k : ℕ) → k < side → Edge z.n z.T W z.lead z.p y (x + k) (y - 1) (get_or L (x + k) 0)
+    north_edge k l = record {
       line = z.lines.north (x + k) (omega arith) (omega (arith, z.power));
-      shares = λ e j h. shares-north (on-north k l) e h;
+      shares = λ e j h. shares_north (on_north k l) e h;
     }
 
-    west-edge : (k : ℕ) → k < side → Edge z.n z.T W z.lead z.p x (x - 1) (y + k) (get_or L (across + (y + k)) 0)
-    west-edge k l = record {
+    west_edge : (k : ℕ) → k < side → Edge z.n z.T W z.lead z.p x (x - 1) (y + k) (get_or L (across + (y + k)) 0)
+    west_edge k l = record {
       line = z.lines.west (y + k) (omega arith) (omega (arith, z.power));
-      shares = λ e j h. shares-west (on-west k l) e h;
+      shares = λ e j h. shares_west (on_west k l) e h;
     }
 
   -- from the first k pixels to the next, for one reading of the words: the north side's pixel k, and then, that one
   -- met, the west side's
   module _ (z : Shore W L label x y side) (k : ℕ) (some : 1 ≤ k) (lt : k < side) {W₁ : List ℕ} (s : Shored z.n z.T W z.lead z.p x y k W₁) where
     first_edge : (v : ℕ) → v ≡ get_or L (x + k) 0 → Edge z.n z.T W₁ s.lead' z.p y (x + k) (y - 1) v
-    first_edge v ev = rw ev (edge-still s.further (north-edge z k lt))
+    first_edge v ev = rw ev (edge_still s.further (north_edge z k lt))
 
-    first-facing : (v : ℕ) → v ≡ get_or L (x + k) 0 → Facing W₁ label v
-    first-facing v ev = edge-facing s.further.sets (label-still s.further z.own) (first_edge v ev)
+    first_facing : (v : ℕ) → v ≡ get_or L (x + k) 0 → Facing W₁ label v
+    first_facing v ev = edge_facing s.further.sets (label_still s.further z.own) (first_edge v ev)
 
-    first-met : (v b : ℕ) → v ≡ get_or L (x + k) 0 → b ≡ get_or L (x + k - 1) 0 → (W₂ : List ℕ) → Nexts W₁ label v b W₂
+    first_met : (v b : ℕ) → v ≡ get_or L (x + k) 0 → b ≡ get_or L (x + k - 1) 0 → (W₂ : List ℕ) → Nexts W₁ label v b W₂
         → EdgeMet z.n z.T W₁ s.lead' z.p y (x + k) (y - 1) W₂
-    first-met v b ev eb W₂ m =
+    first_met v b ev eb W₂ m =
         let here : x + k - 1 ≡ x + (k - 1) = omega (arith, some) in
-        edge-next s.further.sets (label-still s.further z.own) (first_edge v ev) b
+        edge_next s.further.sets (label_still s.further z.own) (first_edge v ev) b
         (λ same.
-        edge-before z.sets (rw (same, eb, here) (north-edge z (k - 1) (omega (arith, lt, some))).line) s.further
+        edge_before z.sets (rw (same, eb, here) (north_edge z (k - 1) (omega (arith, lt, some))).line) s.further
         (s.along.north (k - 1) (omega (arith, some))))
         W₂ m
 
     module _ {W₂ : List ℕ} (a : EdgeMet z.n z.T W₁ s.lead' z.p y (x + k) (y - 1) W₂) where
-      to-second : Further z.n z.T W z.lead W₂ a.lead'
-      to-second = further-on s.further a.further
+      to_second : Further z.n z.T W z.lead W₂ a.lead'
+      to_second = further_on s.further a.further
 
-      second-edge : (u : ℕ) → u ≡ get_or L (across + y + k) 0 → Edge z.n z.T W₂ a.lead' z.p x (x - 1) (y + k) u
-      second-edge u eu = let e : across + y + k ≡ across + (y + k) = omega arith in rw (eu, e) (edge-still to-second (west-edge z k lt))
+      second_edge : (u : ℕ) → u ≡ get_or L (across + y + k) 0 → Edge z.n z.T W₂ a.lead' z.p x (x - 1) (y + k) u
+      second_edge u eu = let e : across + y + k ≡ across + (y + k) = omega arith in rw (eu, e) (edge_still to_second (west_edge z k lt))
 
-      second-facing : (u : ℕ) → u ≡ get_or L (across + y + k) 0 → Facing W₂ label u
-      second-facing u eu = edge-facing to-second.sets (label-still to-second z.own) (second-edge u eu)
+      second_facing : (u : ℕ) → u ≡ get_or L (across + y + k) 0 → Facing W₂ label u
+      second_facing u eu = edge_facing to_second.sets (label_still to_second z.own) (second_edge u eu)
 
-      second-met : (u c : ℕ) → u ≡ get_or L (across + y + k) 0 → c ≡ get_or L (across + y + k - 1) 0 → (W₃ : List ℕ) → Nexts W₂ label u c W₃
+      second_met : (u c : ℕ) → u ≡ get_or L (across + y + k) 0 → c ≡ get_or L (across + y + k - 1) 0 → (W₃ : List ℕ) → Nexts W₂ label u c W₃
           → EdgeMet z.n z.T W₂ a.lead' z.p x (x - 1) (y + k) W₃
-      second-met u c eu ec W₃ m =
+      second_met u c eu ec W₃ m =
           let here : across + y + k - 1 ≡ across + (y + (k - 1)) = omega (arith, some) in
-          edge-next to-second.sets (label-still to-second z.own) (second-edge u eu) c
+          edge_next to_second.sets (label_still to_second z.own) (second_edge u eu) c
           (λ same.
-          edge-before z.sets (rw (same, ec, here) (west-edge z (k - 1) (omega (arith, lt, some))).line) to-second
-          ((along-still a.further (s.further.placed z.p z.own.leaf) s.along).west (k - 1) (omega (arith, some))))
+          edge_before z.sets (rw (same, ec, here) (west_edge z (k - 1) (omega (arith, lt, some))).line) to_second
+          ((along_still a.further (s.further.placed z.p z.own.leaf) s.along).west (k - 1) (omega (arith, some))))
           W₃ m
 
   module _ (k : ℕ) (W₁ : List ℕ) (some : 1 ≤ k) (lt : k < side) (h : Shores W L label x y side k W₁) (v : ℕ) (ev : v ≡ get_or L (x + k) 0) where
     -- pixel k of the north side
-    pub north-facing : Shore W L label x y side → Facing W₁ label v
-    north-facing z = first-facing z k some lt (h.shored z) v ev
+    pub north_facing : Shore W L label x y side → Facing W₁ label v
+    north_facing z = first_facing z k some lt (h.shored z) v ev
 
     -- and of the west side
     module _ (b : ℕ) (eb : b ≡ get_or L (x + k - 1) 0) (W₂ : List ℕ) (m : Nexts W₁ label v b W₂) (u : ℕ) (eu : u ≡ get_or L (across + y + k) 0) where
-      pub west-facing : Shore W L label x y side → Facing W₂ label u
-      west-facing z = second-facing z k some lt (h.shored z) (first-met z k some lt (h.shored z) v b ev eb W₂ m) u eu
+      pub west_facing : Shore W L label x y side → Facing W₂ label u
+      west_facing z = second_facing z k some lt (h.shored z) (first_met z k some lt (h.shored z) v b ev eb W₂ m) u eu
 
-      pub shore-more : (c : ℕ) → c ≡ get_or L (across + y + k - 1) 0 → (W₃ : List ℕ) → Nexts W₂ label u c W₃ → Shores W L label x y side (k + 1) W₃
-      shore-more c ec W₃ n₃ = record {
-        long = next-long n₃ ∙ next-long m ∙ h.long;
-        alike = λ i e. next-alike n₃ i (next-alike m i (h.alike i e));
+      pub shore_more : (c : ℕ) → c ≡ get_or L (across + y + k - 1) 0 → (W₃ : List ℕ) → Nexts W₂ label u c W₃ → Shores W L label x y side (k + 1) W₃
+      shore_more c ec W₃ n₃ = record {
+        long = next_long n₃ ∙ next_long m ∙ h.long;
+        alike = λ i e. next_alike n₃ i (next_alike m i (h.alike i e));
         shored = λ z.
-            shored-more z.own.leaf (h.shored z) (first-met z k some lt (h.shored z) v b ev eb W₂ m)
-            (second-met z k some lt (h.shored z) (first-met z k some lt (h.shored z) v b ev eb W₂ m) u c eu ec W₃ n₃);
+            shored_more z.own.leaf (h.shored z) (first_met z k some lt (h.shored z) v b ev eb W₂ m)
+            (second_met z k some lt (h.shored z) (first_met z k some lt (h.shored z) v b ev eb W₂ m) u c eu ec W₃ n₃);
       }
 
-pub shore-all : {W L W' : List ℕ} {label x y side i : ℕ} → Shores W L label x y side i W' → i ≤ side → side ≤ i → Shores W L label x y side side W'
-shore-all {side = side} {i} h a b = let e : i ≡ side = omega arith in rw e at h
+pub shore_all : {W L W' : List ℕ} {label x y side i : ℕ} → Shores W L label x y side i W' → i ≤ side → side ≤ i → Shores W L label x y side side W'
+shore_all {side = side} {i} h a b = let e : i ≡ side = omega arith in rw e at h
 
 -- a leaf of two by two pixels: the second pixel of the north side, and then that of the west side
 before : (L : List ℕ) (i : ℕ) → get_or L i 0 ≡ get_or L (i + 1 - 1) 0
 before L i = let e : i ≡ i + 1 - 1 = omega arith in ap (λ (k : ℕ). get_or L k 0) e
 
-pub two-north : {W L : List ℕ} {label x y : ℕ} → Shore W L label x y 2 → Facing W label (get_or L (x + 1) 0)
-two-north {W} z = north-facing 1 W (omega arith) (omega arith) shore-start _ refl z
+pub two_north : {W L : List ℕ} {label x y : ℕ} → Shore W L label x y 2 → Facing W label (get_or L (x + 1) 0)
+two_north {W} z = north_facing 1 W (omega arith) (omega arith) shore_start _ refl z
 
 module _ {W L W₂ : List ℕ} {label x y : ℕ} (m : Nexts W label (get_or L (x + 1) 0) (get_or L x 0) W₂) where
-  pub two-west : Shore W L label x y 2 → Facing W₂ label (get_or L (across + y + 1) 0)
-  two-west z = west-facing 1 W (omega arith) (omega arith) shore-start _ refl _ (before L x) W₂ m _ refl z
+  pub two_west : Shore W L label x y 2 → Facing W₂ label (get_or L (across + y + 1) 0)
+  two_west z = west_facing 1 W (omega arith) (omega arith) shore_start _ refl _ (before L x) W₂ m _ refl z
 
-  pub two-shores : (W₃ : List ℕ) → Nexts W₂ label (get_or L (across + y + 1) 0) (get_or L (across + y) 0) W₃ → Shores W L label x y 2 2 W₃
-  two-shores W₃ m₂ = shore-more 1 W (omega arith) (omega arith) shore-start _ refl _ (before L x) W₂ m _ refl _ (before L (across + y)) W₃ m₂
+  pub two_shores : (W₃ : List ℕ) → Nexts W₂ label (get_or L (across + y + 1) 0) (get_or L (across + y) 0) W₃ → Shores W L label x y 2 2 W₃
+  two_shores W₃ m₂ = shore_more 1 W (omega arith) (omega arith) shore_start _ refl _ (before L x) W₂ m _ refl _ (before L (across + y)) W₃ m₂
 
-apart_none : (a b r : ℕ) → r ≡ differOf a b → r ≡ 0 → a ≡ b
-apart_none a b r e z = same_or_not a b (λ s. s) (λ ne. absurd (omega (arith, apart-is a b r e ne, z)))
+apart_none : (a b r : ℕ) → r ≡ differ_of a b → r ≡ 0 → a ≡ b
+apart_none a b r e z = same_or_not a b (λ s. s) (λ ne. absurd (omega (arith, apart_is a b r e ne, z)))
 
-pub two-quiet : {W L : List ℕ} {kind label x y a b : ℕ} → a ≡ differOf (get_or L (x + 1) 0) (get_or L x 0)
-    → b ≡ differOf (get_or L (across + y + 1) 0) (get_or L (across + y) 0) → 2 * kind + a + b ≤ 2 → Sides kind W L label x y 2 W
-two-quiet {W} {a = a} {b = b} ea eb few = record {
+pub two_quiet : {W L : List ℕ} {kind label x y a b : ℕ} → a ≡ differ_of (get_or L (x + 1) 0) (get_or L x 0)
+    → b ≡ differ_of (get_or L (across + y + 1) 0) (get_or L (across + y) 0) → 2 * kind + a + b ≤ 2 → Sides kind W L label x y 2 W
+two_quiet {W} {a = a} {b = b} ea eb few = record {
   wet = λ wet.
-      two-shores (next-none (apart_none _ _ a ea (omega (arith, few, wet)))) W (next-none (apart_none _ _ b eb (omega (arith, few, wet))));
+      two_shores (next_none (apart_none _ _ a ea (omega (arith, few, wet)))) W (next_none (apart_none _ _ b eb (omega (arith, few, wet))));
   dry = λ z. refl;
 }
 
@@ -294,20 +294,20 @@ module _ {L L' : List ℕ} {label x y i : ℕ} (h : LinesFilled L label x y i L'
             ∙ h.rest j (λ p q. a p (omega (arith, q))) (λ p q. b p (omega (arith, q)));
       }
 
-pub fill-two : (L : List ℕ) (label x y : ℕ) → length L ≡ 2 * across → x + 2 ≤ across → y + 2 ≤ across
+pub fill_two_lem : (L : List ℕ) (label x y : ℕ) → length L ≡ 2 * across → x + 2 ≤ across → y + 2 ≤ across
     → LinesFilled L label x y 2 (set (set (set (set L x label) (across + y) label) (x + 1) label) (across + y + 1) label)
-fill-two L label x y long lx ly =
+fill_two_lem L label x y long lx ly =
     let ex : x + 0 ≡ x = omega arith in
     let ey : across + y + 0 ≡ across + y = omega arith in
     let one = fill_more (fill_none L label x y) long (omega (arith, lx)) (omega (arith, ly)) in
     rw (ex, ey) at (fill_more one long (omega (arith, lx)) (omega (arith, ly)))
 
-pub fill-all : {L L' : List ℕ} {label x y side i : ℕ} → LinesFilled L label x y i L' → i ≤ side → side ≤ i → LinesFilled L label x y side L'
-fill-all {side = side} {i} h a b = let e : side ≡ i = omega arith in rw e h
+pub fill_all : {L L' : List ℕ} {label x y side i : ℕ} → LinesFilled L label x y i L' → i ≤ side → side ≤ i → LinesFilled L label x y side L'
+fill_all {side = side} {i} h a b = let e : side ≡ i = omega arith in rw e h
 
 -- nothing of another set along the sides: then they have been met as they are
-pub no_other : (v label r : ℕ) → r ≡ oneIfOther v label → r ≡ 0 → (v ≡ 0 → ⊥) → v ≡ label
-unfolding oneIfOther
+pub no_other : (v label r : ℕ) → r ≡ one_if_other v label → r ≡ 0 → (v ≡ 0 → ⊥) → v ≡ label
+unfolding one_if_other
 no_other v label r e z some =
     same_or_not v label (λ s. s)
     (λ ne. let f : r ≡ 1 = rw (ne_eqb v 0 some, ne_eqb v label ne) at e in absurd (omega (arith, f, z)))
@@ -315,11 +315,11 @@ no_other v label r e z some =
 pub quiet_none : (L : List ℕ) (label from : ℕ) → Quiet L label from 0 0
 quiet_none L label from = record { few = omega arith; same = λ z i l. absurd (omega (arith, l)) }
 
-pub quiet-more : {L : List ℕ} {label from i r : ℕ} → Quiet L label from i r → (o : ℕ) → o ≡ oneIfOther (get_or L (from + i) 0) label → o ≤ 1 → Quiet L label from (i + 1) (r + o)
-quiet-more {L} {label} {from} {i} {r} q o e le = record {
+pub quiet_more : {L : List ℕ} {label from i r : ℕ} → Quiet L label from i r → (o : ℕ) → o ≡ one_if_other (get_or L (from + i) 0) label → o ≤ 1 → Quiet L label from (i + 1) (r + o)
+quiet_more {L} {label} {from} {i} {r} q o e le = record {
   few = omega (arith, q.few, le);
   same = λ z k l some.
-      last-or-before k i l
+      last_or_before k i l
       (λ ek. let f : get_or L (from + i) 0 ≡ label = no_other (get_or L (from + i) 0) label o e (omega (arith, z)) (λ u. some (rw ek u)) in rw ek f)
       (λ before. q.same (omega (arith, z)) k before some);
 }
@@ -328,20 +328,20 @@ pub quiet_all : {L : List ℕ} {label from side i r : ℕ} → Quiet L label fro
 quiet_all {side = side} {i} q a b = let e : i ≡ side = omega arith in rw e at q
 
 module _ {W L : List ℕ} {label x y side a b : ℕ} (qa : Quiet L label x side a) (qb : Quiet L label (across + y) side b) (none : a + b ≡ 0) where
-  pub quiet-shores : Shores W L label x y side side W
-  quiet-shores = record {
+  pub quiet_shores : Shores W L label x y side side W
+  quiet_shores = record {
     long = refl;
     alike = λ i e. e;
     shored = λ z. record {
       lead' = z.lead;
-      further = further-none z.sets;
+      further = further_none z.sets;
       along = record {
         north = λ i l e j w h.
-            let t = ((north-edge z i l).line.on e).wet j w h in
+            let t = ((north_edge z i l).line.on e).wet j w h in
             let s = qa.same (omega (arith, none)) i l (not_root z.sets (get_or L (x + i) 0) t.label.water) in
             (t.leaf, sym t.one ∙ ap z.lead s ∙ z.own.one);
         west = λ i l e j w h.
-            let t = ((west-edge z i l).line.on e).wet j w h in
+            let t = ((west_edge z i l).line.on e).wet j w h in
             let f : across + y + i ≡ across + (y + i) = omega arith in
             let s = qb.same (omega (arith, none)) i l (λ o. not_root z.sets (get_or L (across + (y + i)) 0) t.label.water (rw f at o)) in
             (t.leaf, sym t.one ∙ ap z.lead (rw f at s) ∙ z.own.one);

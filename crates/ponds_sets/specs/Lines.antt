@@ -2,7 +2,7 @@
 -- what lies north and west of the next block. A label is 0 where a leaf is white, and else a leaf of its set. Inner
 -- definitions: no outside call's statement cites them.
 use Rattle.std.specs.Prelude.{List, ◌≡◌, ℕ, ◌+◌, ◌-◌, ◌^◌, ◌≤◌, ◌<◌}
-use Rattle.quad.specs.Numbers.{topLevel}
+use Rattle.quad.specs.Numbers.{top_level}
 use Rattle.table.specs.Table.{nodes}
 use Rattle.table.specs.Nodes.{left_of, top_of, side_of}
 use Rattle.ponds.specs.Chain.{Water}
@@ -44,4 +44,4 @@ Met n T W lead p = (x y : ℕ) → Has n T p x y → MetAt n T W lead p x y
 
 -- how many words a line has
 abbrev pub across : ℕ
-across = 2 ^ topLevel
+across = 2 ^ top_level

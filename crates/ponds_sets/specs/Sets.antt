@@ -3,10 +3,10 @@
 -- from `leading` on. So a set's leader holds the first of its pixels. Inner definitions: no outside call's statement
 -- cites them.
 use Rattle.std.specs.Prelude.{true, List, ◌≡◌, ℕ, ◌+◌, ◌*◌, ◌^◌, ◌≤◌, ◌<◌, length}
-use Rattle.quad.specs.Numbers.{black, topLevel}
-use Rattle.table.specs.Table.{nodes, type, isFork}
+use Rattle.quad.specs.Numbers.{black, top_level}
+use Rattle.table.specs.Table.{nodes, node_type, is_fork}
 use Rattle.table.specs.Rules.{Accepted}
-use Rattle.table.specs.Nodes.{left_of, top_of, levelOf}
+use Rattle.table.specs.Nodes.{left_of, top_of, level_of}
 use Rattle.ponds.specs.Chain.{Water, Chain}
 use Rattle.ponds.specs.Words.{word_of}
 
@@ -16,7 +16,7 @@ leading = 2147483648
 
 -- the place of a node: that of its top left pixel, by rows that are as long as those of the widest sheet
 unfoldable pub place_of : ℕ → List ℕ → ℕ → ℕ
-place_of n T p = top_of n T p * 2 ^ topLevel + left_of n T p
+place_of n T p = top_of n T p * 2 ^ top_level + left_of n T p
 
 -- a black leaf that the walk has come to
 pub record Placed (T W : List ℕ) (i : ℕ) : Type 0 where
@@ -28,7 +28,7 @@ pub record Placed (T W : List ℕ) (i : ℕ) : Type 0 where
 pub record Sets (n : ℕ) (T W : List ℕ) (lead : ℕ → ℕ) : Type 0 where
   pub accepted : Accepted n T
   pub each : length W ≡ nodes T
-  pub root : isFork T 0 ≡ true
+  pub root : is_fork T 0 ≡ true
   pub own : (i : ℕ) → Placed T W i → leading ≤ word_of W i → (lead i ≡ i) × (word_of W i ≡ leading + place_of n T i)
   pub on : (i : ℕ) → Placed T W i → word_of W i < leading
       → Placed T W (word_of W i) × (lead (word_of W i) ≡ lead i) × (place_of n T (word_of W i) < place_of n T i)
@@ -52,7 +52,7 @@ Bare n T W x y l = (i : ℕ) → Water T i → Begins n T i x y l → Placed T W
 pub data Dark (n : ℕ) (T W W' : List ℕ) (i : ℕ) : Type 0 where
   as_before : word_of W' i ≡ word_of W i → Dark n T W W' i
   none : word_of W' i ≡ 0 → Dark n T W W' i
-  marked : isFork T i ≡ true → word_of W' i ≡ leading → Bare n T W' (left_of n T i) (top_of n T i) (levelOf n T i) → Dark n T W W' i
+  marked : is_fork T i ≡ true → word_of W' i ≡ leading → Bare n T W' (left_of n T i) (top_of n T i) (level_of n T i) → Dark n T W W' i
 
 -- the sets of W' are those of W, some of them joined: what was placed still is, what led on does, and what had one
 -- leader has one
@@ -61,7 +61,7 @@ pub record Further (n : ℕ) (T W : List ℕ) (lead : ℕ → ℕ) (W' : List �
   pub placed : (i : ℕ) → Placed T W i → Placed T W' i
   pub linked : (i : ℕ) → Placed T W i → word_of W i < leading → word_of W' i < leading
   pub together : (i j : ℕ) → Placed T W i → Placed T W j → lead i ≡ lead j → lead' i ≡ lead' j
-  pub dark : (i : ℕ) → (type T i ≡ black → ⊥) → Dark n T W W' i
+  pub dark : (i : ℕ) → (node_type T i ≡ black → ⊥) → Dark n T W W' i
 
 -- no other node's word is 0 or not than before
 abbrev pub Alike : List ℕ → List ℕ → Type 0

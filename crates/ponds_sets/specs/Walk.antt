@@ -2,7 +2,7 @@
 -- lines tell of its own last row and column. Inner definitions: no outside call's statement cites them.
 use Rattle.std.specs.Prelude.{false, List, ◌≡◌, ℕ, ◌+◌, ◌-◌, ◌*◌, ◌^◌, ◌≤◌, ◌<◌, length, get_or, set}
 use Rattle.quad.specs.Numbers.{black}
-use Rattle.table.specs.Table.{type, isFork}
+use Rattle.table.specs.Table.{node_type, is_fork}
 use Rattle.table.specs.Rules.{AtLevel}
 use Rattle.table.specs.Nodes.{left_of, top_of, side_of}
 use Rattle.ponds.specs.Chain.{Water, Chain}
@@ -140,8 +140,8 @@ pub record ToLeaf (W L : List ℕ) (kind p side x y : ℕ) : Type 0 where
   pub T : List ℕ
   pub l : ℕ
   pub coming : Coming T W L p x y l
-  pub leaf : isFork T p ≡ false
-  pub is : kind ≡ type T p
+  pub leaf : is_fork T p ≡ false
+  pub is : kind ≡ node_type T p
   pub power : side ≡ 2 ^ l
 
 -- a leaf that is come to, whatever its side

@@ -2,7 +2,7 @@
 ghost use Rattle.std.specs.Prelude.{◌≡◌, ◌+◌, ◌*◌, ◌≤◌, length};
 ghost use Rattle.ponds_sets.specs.Lines.{across};
 ghost use Rattle.ponds_sets.specs.Walk.{Shore, Shores, Quiet, ToSides, Sides, LinesFilled};
-ghost use Rattle.ponds_sets.specs.Touch.{oneIfOther};
+ghost use Rattle.ponds_sets.specs.Touch.{one_if_other};
 
 use ponds_join::{apart, next};
 
@@ -30,7 +30,7 @@ fn shore(words: &mut [u32], lines: &[u32; 256], label: u32, x: usize, y: usize, 
 
 // 1 for what is neither 0 nor the label, else 0.
 fn one_if_other(value: u32, label: u32) -> u32
-    ensures { (result ≡ oneIfOther value label) × (result ≤ 1) }
+    ensures { (result ≡ one_if_other value label) × (result ≤ 1) }
 {
     if value == 0 {
         return 0;

@@ -5,13 +5,13 @@
 use Rattle.std.specs.Prelude.{List, [], ◌∷◌, ℕ, zero, suc, ◌+◌, ◌*◌, ◌/◌, ◌%◌, ◌<◌}
 
 -- the quadrant of its father that the block (x, y) is
-abbrev pub quadrantOf : ℕ → ℕ → ℕ
-quadrantOf x y = x % 2 + 2 * (y % 2)
+abbrev pub quadrant_of : ℕ → ℕ → ℕ
+quadrant_of x y = x % 2 + 2 * (y % 2)
 
 -- the path of the block (x, y) of depth d
-unfoldable pub pathOf : ℕ → ℕ → ℕ → List ℕ
-pathOf zero x y = []
-pathOf (suc d) x y = quadrantOf x y ∷ pathOf d (x / 2) (y / 2)
+unfoldable pub path_of : ℕ → ℕ → ℕ → List ℕ
+path_of zero x y = []
+path_of (suc d) x y = quadrant_of x y ∷ path_of d (x / 2) (y / 2)
 
 -- the column, and the row, of the block at the end of a path
 unfoldable pub column : List ℕ → ℕ

@@ -1,8 +1,8 @@
 -- A quadtree is data: a leaf of a colour, or a fork of four, in the order NW, NE, SW, SE (document 000, section 2). Its
 -- picture, its size, and the tree of a picture. A picture gives each pixel's colour by its column and row.
 use Rattle.std.specs.Prelude.{Bool, false, cond, ◌&&◌, List, [], ◌∷◌, ◌++◌, ◌≡◌, ℕ, zero, suc, ◌+◌, ◌*◌, ◌^◌, ◌≤◌, ◌<◌, eqb}
-use Rattle.quad.specs.Numbers.{forkType, topColour}
-use Rattle.quad.specs.Block.{pathOf}
+use Rattle.quad.specs.Numbers.{fork_type, top_colour}
+use Rattle.quad.specs.Block.{path_of}
 
 pub data Tree : Type 0 where
   leaf : ℕ → Tree
@@ -11,21 +11,21 @@ pub data Tree : Type 0 where
 -- a leaf's colour; a fork's type where there is none
 unfoldable pub colour : Tree → ℕ
 colour (leaf c) = c
-colour (fork a b c d) = forkType
+colour (fork a b c d) = fork_type
 
 -- son q of a fork; a leaf has no sons, and stands for them
-unfoldable pub sonOf : Tree → ℕ → Tree
-sonOf (leaf c) q = leaf c
-sonOf (fork a b c d) q = cond (eqb q 0) a (cond (eqb q 1) b (cond (eqb q 2) c d))
+unfoldable pub son_of : Tree → ℕ → Tree
+son_of (leaf c) q = leaf c
+son_of (fork a b c d) q = cond (eqb q 0) a (cond (eqb q 1) b (cond (eqb q 2) c d))
 
 -- the smallest node that contains the block at the end of a path
 unfoldable pub under : Tree → List ℕ → Tree
 under t [] = t
-under t (q ∷ qs) = sonOf (under t qs) q
+under t (q ∷ qs) = son_of (under t qs) q
 
 -- the colour of the pixel (x, y) in a tree of level l
 unfoldable pub shade : ℕ → Tree → ℕ → ℕ → ℕ
-shade l t x y = colour (under t (pathOf l x y))
+shade l t x y = colour (under t (path_of l x y))
 
 -- no fork stands at level 0 where the root is at level l
 unfoldable pub Within : ℕ → Tree → Type 0
@@ -34,18 +34,18 @@ Within zero (fork a b c d) = ⊥
 Within (suc l) (fork a b c d) = Within l a × Within l b × Within l c × Within l d
 
 -- two leaves of one colour
-unfoldable pub sameLeaf : Tree → Tree → Bool
-sameLeaf (leaf c) (leaf k) = eqb c k
-sameLeaf (leaf c) (fork a b d e) = false
-sameLeaf (fork a b c d) t = false
+unfoldable pub same_leaf : Tree → Tree → Bool
+same_leaf (leaf c) (leaf k) = eqb c k
+same_leaf (leaf c) (fork a b d e) = false
+same_leaf (fork a b c d) t = false
 
 -- four like leaves: a fork over them is needless
 abbrev pub alike : Tree → Tree → Tree → Tree → Bool
-alike a b c d = sameLeaf a b && (sameLeaf a c && sameLeaf a d)
+alike a b c d = same_leaf a b && (same_leaf a c && same_leaf a d)
 
 -- four types are those of four like leaves
-unfoldable pub likeTypes : ℕ → ℕ → ℕ → ℕ → Bool
-likeTypes a b c d = cond (eqb a forkType) false (cond (eqb a b) (cond (eqb a c) (eqb a d) false) false)
+unfoldable pub like_types : ℕ → ℕ → ℕ → ℕ → Bool
+like_types a b c d = cond (eqb a fork_type) false (cond (eqb a b) (cond (eqb a c) (eqb a d) false) false)
 
 -- no fork is needless
 unfoldable pub Reduced : Tree → Type 0
@@ -54,7 +54,7 @@ Reduced (fork a b c d) = (alike a b c d ≡ false) × Reduced a × Reduced b × 
 
 -- every leaf has a leaf's colour
 unfoldable pub Coloured : Tree → Type 0
-Coloured (leaf c) = c ≤ topColour
+Coloured (leaf c) = c ≤ top_colour
 Coloured (fork a b c d) = Coloured a × Coloured b × Coloured c × Coloured d
 
 -- the number of nodes
@@ -63,15 +63,15 @@ size_of (leaf c) = 1
 size_of (fork a b c d) = 1 + (size_of a + (size_of b + (size_of c + size_of d)))
 
 -- H: the sum of the sides of all leaves, in a tree of level l
-unfoldable pub sidesOf : ℕ → Tree → ℕ
-sidesOf l (leaf c) = 2 ^ l
-sidesOf zero (fork a b c d) = 0
-sidesOf (suc l) (fork a b c d) = sidesOf l a + (sidesOf l b + (sidesOf l c + sidesOf l d))
+unfoldable pub sides_of : ℕ → Tree → ℕ
+sides_of l (leaf c) = 2 ^ l
+sides_of zero (fork a b c d) = 0
+sides_of (suc l) (fork a b c d) = sides_of l a + (sides_of l b + (sides_of l c + sides_of l d))
 
 -- the types in preorder
 unfoldable pub types_of : Tree → List ℕ
 types_of (leaf c) = c ∷ []
-types_of (fork a b c d) = forkType ∷ (types_of a ++ (types_of b ++ (types_of c ++ types_of d)))
+types_of (fork a b c d) = fork_type ∷ (types_of a ++ (types_of b ++ (types_of c ++ types_of d)))
 
 -- a fork over four, and no fork where it would be needless
 unfoldable pub join : Tree → Tree → Tree → Tree → Tree

@@ -1,8 +1,8 @@
 // Quadtrees: a block's side, four like leaves, and document 000's four tables, read by direction and quadrant number.
 ghost use Rattle.std.specs.Prelude.{◌≡◌, cond, ◌<◌, ◌≤◌, ◌^◌, eqb};
-ghost use Rattle.quad.specs.Numbers.{topLevel, is_type};
-ghost use Rattle.quad.specs.Direction.{adjOf, reflectOf, opquadOf, commonSideOf};
-ghost use Rattle.quad.specs.Tree.{likeTypes};
+ghost use Rattle.quad.specs.Numbers.{top_level, is_type};
+ghost use Rattle.quad.specs.Direction.{adj_of, reflect_of, opquad_of, common_side_of};
+ghost use Rattle.quad.specs.Tree.{like_types};
 
 // The highest level of a sheet, and the most words of a table.
 pub const TOP_LEVEL: u32 = 7;
@@ -36,7 +36,7 @@ const COMMONSIDE: [[u8; 4]; 4] = [[4, 0, 3, 4], [0, 4, 4, 1], [3, 4, 4, 2], [4, 
 
 // The side of a block, in pixels.
 pub fn side(level: u32) -> u32
-    requires { level ≤ topLevel }
+    requires { level ≤ top_level }
     ensures { result ≡ 2 ^ level }
 {
     1 << level
@@ -56,7 +56,7 @@ pub fn pick(a: usize, b: usize, same: usize, other: usize) -> usize
 // first, and a fork's type does. They are counted and not tested in turn, as nothing tells beforehand which of them
 // differs.
 pub fn like_leaves(nw: usize, ne: usize, sw: usize, se: usize) -> bool
-    ensures { result ≡ likeTypes nw ne sw se }
+    ensures { result ≡ like_types nw ne sw se }
 {
     let differ = pick(nw, ne, 0, 1) + pick(nw, sw, 0, 1) + pick(nw, se, 0, 1);
     differ + 1 == pick(nw, FORK, 0, 1)
@@ -82,7 +82,7 @@ pub fn wide(byte: u8) -> usize
 // Whether the quadrant touches that side of its father's block.
 pub fn adj(side: usize, quadrant: usize) -> bool
     requires { (side < 4) × (quadrant < 4) }
-    ensures { result ≡ adjOf side quadrant }
+    ensures { result ≡ adj_of side quadrant }
 {
     ADJ[side][quadrant]
 }
@@ -90,7 +90,7 @@ pub fn adj(side: usize, quadrant: usize) -> bool
 // Which quadrant the block of equal size on that side of a quadrant is.
 pub fn reflect(side: usize, quadrant: usize) -> usize
     requires { (side < 4) × (quadrant < 4) }
-    ensures { result ≡ reflectOf side quadrant }
+    ensures { result ≡ reflect_of side quadrant }
 {
     wide(REFLECT[side][quadrant])
 }
@@ -98,7 +98,7 @@ pub fn reflect(side: usize, quadrant: usize) -> usize
 // The quadrant opposite.
 pub fn opquad(quadrant: usize) -> usize
     requires { quadrant < 4 }
-    ensures { result ≡ opquadOf quadrant }
+    ensures { result ≡ opquad_of quadrant }
 {
     wide(OPQUAD[quadrant])
 }
@@ -106,7 +106,7 @@ pub fn opquad(quadrant: usize) -> usize
 // The side of their father's block that two quadrants share; 4 where they share none.
 pub fn common_side(first: usize, second: usize) -> usize
     requires { (first < 4) × (second < 4) }
-    ensures { result ≡ commonSideOf first second }
+    ensures { result ≡ common_side_of first second }
 {
     wide(COMMONSIDE[first][second])
 }

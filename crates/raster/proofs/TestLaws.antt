@@ -13,89 +13,89 @@ use lib.ListN.{length, get_or, drop}
 use lib.Seq.{drop-cons, drop-length}
 use borrow.Author.Tests.{eq-eqb, ne_eqb, eqb-true, lt-ltb, le-ltb, ltb-true, ltb-false}
 use Rattle.base.proofs.BoolLaws.{on, by_bool}
-use Rattle.base.proofs.PowLaws.{four-pow}
+use Rattle.base.proofs.PowLaws.{four_pow}
 use Rattle.answer.specs.declared.Outcome.{Outcome}
 use Rattle.answer.specs.declared.Outcome.TheVariants.{Answered, BadLevel, WrongLength, BadPixel}
 use Rattle.answer.specs.Numbers.{answers, unless}
-use Rattle.answer.proofs.OutcomeLaws.{then-stop, then-go, both-answer, answers-unless}
-use Rattle.quad.specs.Numbers.{topLevel, topColour}
-use Rattle.quad.proofs.TreeLaws.{pixels-top}
-use Rattle.raster.specs.Raster.{rasterLength, pixelsFrom}
-use Rattle.raster.specs.Blocks.{NoneAbove, Picture, readableOf}
+use Rattle.answer.proofs.OutcomeLaws.{then_stop, then_go, both_answer, answers_unless}
+use Rattle.quad.specs.Numbers.{top_level, top_colour}
+use Rattle.quad.proofs.TreeLaws.{pixels_top}
+use Rattle.raster.specs.Raster.{raster_length, pixels_from}
+use Rattle.raster.specs.Blocks.{NoneAbove, Picture, readable_of}
 
 -- the length
 module _ (n bytes s : ℕ) (e : s ≡ 2 ^ n) where
-  pub length-wrong : (bytes ≡ s * s → ⊥) → WrongLength 1 ≡ rasterLength n bytes
-  length-wrong z = rw (ne_eqb bytes (4 ^ n) (λ q. z (q ∙ four-pow n ∙ rw (← e))))
+  pub length_wrong : (bytes ≡ s * s → ⊥) → WrongLength 1 ≡ raster_length n bytes
+  length_wrong z = rw (ne_eqb bytes (4 ^ n) (λ q. z (q ∙ four_pow n ∙ rw (← e))))
 
-  pub length-right : bytes ≡ s * s → Answered 0 ≡ rasterLength n bytes
-  length-right q = rw (eq-eqb bytes (4 ^ n) (q ∙ rw e (sym (four-pow n))))
+  pub length_right : bytes ≡ s * s → Answered 0 ≡ raster_length n bytes
+  length_right q = rw (eq-eqb bytes (4 ^ n) (q ∙ rw e (sym (four_pow n))))
 
 -- the first bad byte, from place i on
 module _ (R : List ℕ) where
-  pub pixels-next : (i : ℕ) → i < length R → get_or R i 0 ≤ topColour → pixelsFrom (drop i R) i ≡ pixelsFrom (drop (i + 1) R) (i + 1)
-  unfolding pixelsFrom
-  pixels-next i lt h = rw (drop-cons R i 0 lt, add-one, pixelsFrom, le-ltb topColour (get_or R i 0) h)
+  pub pixels_next : (i : ℕ) → i < length R → get_or R i 0 ≤ top_colour → pixels_from (drop i R) i ≡ pixels_from (drop (i + 1) R) (i + 1)
+  unfolding pixels_from
+  pixels_next i lt h = rw (drop-cons R i 0 lt, add-one, pixels_from, le-ltb top_colour (get_or R i 0) h)
 
-  pub pixels-bad : (i : ℕ) → i < length R → topColour < get_or R i 0 → pixelsFrom (drop i R) i ≡ BadPixel i
-  unfolding pixelsFrom
-  pixels-bad i lt h = rw (drop-cons R i 0 lt, pixelsFrom, lt-ltb topColour (get_or R i 0) h)
+  pub pixels_bad : (i : ℕ) → i < length R → top_colour < get_or R i 0 → pixels_from (drop i R) i ≡ BadPixel i
+  unfolding pixels_from
+  pixels_bad i lt h = rw (drop-cons R i 0 lt, pixels_from, lt-ltb top_colour (get_or R i 0) h)
 
-  pub pixels-end : (i : ℕ) → i ≤ length R → length R ≤ i → pixelsFrom (drop i R) i ≡ Answered 0
-  unfolding pixelsFrom
-  pixels-end i le ge =
+  pub pixels_end : (i : ℕ) → i ≤ length R → length R ≤ i → pixels_from (drop i R) i ≡ Answered 0
+  unfolding pixels_from
+  pixels_end i le ge =
       let e : i ≡ length R = omega arith in
       rw (e, drop-length R)
 
 -- none, where no byte is above the top colour
-pub pixels-pass : (R : List ℕ) (i : ℕ) → NoneAbove topColour R → pixelsFrom R i ≡ Answered 0
-unfolding pixelsFrom
-pixels-pass [] i h = refl
-pixels-pass (b ∷ bs) i h = rw (pixelsFrom, le-ltb topColour b (h 0 (omega arith))) (pixels-pass bs (i + 1) (λ j lt. h (suc j) (omega arith)))
+pub pixels_pass : (R : List ℕ) (i : ℕ) → NoneAbove top_colour R → pixels_from R i ≡ Answered 0
+unfolding pixels_from
+pixels_pass [] i h = refl
+pixels_pass (b ∷ bs) i h = rw (pixels_from, le-ltb top_colour b (h 0 (omega arith))) (pixels_pass bs (i + 1) (λ j lt. h (suc j) (omega arith)))
 
-pub length-of : (n bytes : ℕ) → answers (rasterLength n bytes) ≡ true → bytes ≡ 4 ^ n
-length-of n bytes e = eqb-true bytes (4 ^ n) (on _ _ refl (answers-unless (not (eqb bytes (4 ^ n))) (WrongLength 1) refl e))
+pub length_of : (n bytes : ℕ) → answers (raster_length n bytes) ≡ true → bytes ≡ 4 ^ n
+length_of n bytes e = eqb-true bytes (4 ^ n) (on _ _ refl (answers_unless (not (eqb bytes (4 ^ n))) (WrongLength 1) refl e))
 
 -- every byte of a raster with no bad byte is a colour
-pixels-good : (R : List ℕ) (i j : ℕ) → answers (pixelsFrom R i) ≡ true → get_or R j 0 ≤ topColour
-unfolding pixelsFrom
-pixels-good [] i j e = omega arith
-pixels-good (b ∷ bs) i j e = go (ltb topColour b) refl (λ k. pixels-good bs (i + 1) k) j
+pixels_good : (R : List ℕ) (i j : ℕ) → answers (pixels_from R i) ≡ true → get_or R j 0 ≤ top_colour
+unfolding pixels_from
+pixels_good [] i j e = omega arith
+pixels_good (b ∷ bs) i j e = go (ltb top_colour b) refl (λ k. pixels_good bs (i + 1) k) j
   where
-    go : (u : Bool) → ltb topColour b ≡ u → ((k : ℕ) → answers (pixelsFrom bs (i + 1)) ≡ true → get_or bs k 0 ≤ topColour) → (j : ℕ) → get_or (b ∷ bs) j 0 ≤ topColour
+    go : (u : Bool) → ltb top_colour b ≡ u → ((k : ℕ) → answers (pixels_from bs (i + 1)) ≡ true → get_or bs k 0 ≤ top_colour) → (j : ℕ) → get_or (b ∷ bs) j 0 ≤ top_colour
     go true q ih j = absurd (false≢true (rw q at e))
-    go false q ih zero = ltb-false topColour b q
+    go false q ih zero = ltb-false top_colour b q
     go false q ih (suc j) = ih j (rw q at e)
 
 -- the tests in their order
 module _ (n : ℕ) (R : List ℕ) where
-  pub readable-level : topLevel < n → BadLevel 0 ≡ readableOf n R
-  unfolding readableOf
-  readable-level h = rw (readableOf, lt-ltb topLevel n h)
+  pub readable_level : top_level < n → BadLevel 0 ≡ readable_of n R
+  unfolding readable_of
+  readable_level h = rw (readable_of, lt-ltb top_level n h)
 
-  module _ (s : Outcome) (u : Bool) (top : n ≤ topLevel) (e : s ≡ rasterLength n (length R)) (a : u ≡ answers s) where
-    pub readable-length : not u ≡ true → s ≡ readableOf n R
-    unfolding readableOf
-    readable-length h = rw (readableOf, le-ltb topLevel n top) (then-stop (rasterLength n (length R)) s (pixelsFrom R 0) u e a h)
+  module _ (s : Outcome) (u : Bool) (top : n ≤ top_level) (e : s ≡ raster_length n (length R)) (a : u ≡ answers s) where
+    pub readable_length : not u ≡ true → s ≡ readable_of n R
+    unfolding readable_of
+    readable_length h = rw (readable_of, le-ltb top_level n top) (then_stop (raster_length n (length R)) s (pixels_from R 0) u e a h)
 
-    pub readable-short : not u ≡ false → length R ≤ 4 ^ topLevel
-    readable-short h =
-        rw (length-of n (length R) (ap answers (sym e) ∙ on u (answers s) a h)) (pixels-top n top)
+    pub readable_short : not u ≡ false → length R ≤ 4 ^ top_level
+    readable_short h =
+        rw (length_of n (length R) (ap answers (sym e) ∙ on u (answers s) a h)) (pixels_top n top)
 
-    pub readable-pixels : (r : Outcome) → not u ≡ false → r ≡ pixelsFrom R 0 → r ≡ readableOf n R
-    unfolding readableOf
-    readable-pixels r h f = rw (readableOf, le-ltb topLevel n top) (then-go (rasterLength n (length R)) s (pixelsFrom R 0) u e a r h f)
+    pub readable_pixels : (r : Outcome) → not u ≡ false → r ≡ pixels_from R 0 → r ≡ readable_of n R
+    unfolding readable_of
+    readable_pixels r h f = rw (readable_of, le-ltb top_level n top) (then_go (raster_length n (length R)) s (pixels_from R 0) u e a r h f)
 
   -- a raster that passes
-  pub readable-picture : answers (readableOf n R) ≡ true → Picture n R
-  unfolding readableOf
-  readable-picture e =
-      let g = both-answer (unless (ltb topLevel n) (BadLevel 0)) _ e in
-      let h = both-answer (rasterLength n (length R)) (pixelsFrom R 0) g.1 in
+  pub readable_picture : answers (readable_of n R) ≡ true → Picture n R
+  unfolding readable_of
+  readable_picture e =
+      let g = both_answer (unless (ltb top_level n) (BadLevel 0)) _ e in
+      let h = both_answer (raster_length n (length R)) (pixels_from R 0) g.1 in
       record {
-        top = ltb-false topLevel n (answers-unless (ltb topLevel n) (BadLevel 0) refl g.0);
-        whole = length-of n (length R) h.0;
-        colours = λ i. pixels-good R 0 i h.1;
+        top = ltb-false top_level n (answers_unless (ltb top_level n) (BadLevel 0) refl g.0);
+        whole = length_of n (length R) h.0;
+        colours = λ i. pixels_good R 0 i h.1;
       }
 
 -- four parts of p bytes each, looked at together: none of their first i is above m
@@ -103,15 +103,15 @@ module _ (R : List ℕ) (p : ℕ) where
   abbrev Below : ℕ → ℕ → Type 0
   Below m j = (get_or R j 0 ≤ m) × (get_or R (p + j) 0 ≤ m) × (get_or R (2 * p + j) 0 ≤ m) × (get_or R (3 * p + j) 0 ≤ m)
 
-  pub none-above-next : (m k i : ℕ) → ((j : ℕ) → j < i → Below m j) → m ≤ k → Below k i → (j : ℕ) → j < i + 1 → Below k j
-  none-above-next m k i h le now j lt =
+  pub none_above_next : (m k i : ℕ) → ((j : ℕ) → j < i → Below m j) → m ≤ k → Below k i → (j : ℕ) → j < i + 1 → Below k j
+  none_above_next m k i h le now j lt =
       ⊎_elim
       (λ (e : j ≡ i). rw e now)
       (λ (less : j < i). let b = h j less in (omega arith, omega arith, omega arith, omega arith))
       (eq-or-lt_of_le (le_of_suc-le-suc (rw add-one at lt)))
 
-  pub none-above-all : (m : ℕ) → length R ≡ 4 * p → ((j : ℕ) → j < p → Below m j) → NoneAbove m R
-  none-above-all m long h i lt =
+  pub none_above_all : (m : ℕ) → length R ≡ 4 * p → ((j : ℕ) → j < p → Below m j) → NoneAbove m R
+  none_above_all m long h i lt =
       ⊎_elim
       (λ (a : ltb i p ≡ true). (h i (ltb-true i p a)).0)
       (λ (a : ltb i p ≡ false).

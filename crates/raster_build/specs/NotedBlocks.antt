@@ -1,8 +1,8 @@
 -- What the second pass of building asks of a block whose type, and those of the blocks below it, are noted.
 use Rattle.std.specs.Prelude.{List, ◌≡◌, ℕ, ◌-◌, ◌^◌, ◌≤◌}
-use Rattle.quad.specs.Numbers.{forkType}
+use Rattle.quad.specs.Numbers.{fork_type}
 use Rattle.quad.specs.Tree.{colour, tree_of}
-use Rattle.raster.specs.Raster.{pictureOf}
+use Rattle.raster.specs.Raster.{picture_of}
 use Rattle.raster_notes.specs.Notes.{Noted}
 use Rattle.raster_count.specs.Kinds.{Known}
 use Rattle.raster_put.specs.Putting.{BlockToPut}
@@ -11,7 +11,7 @@ use Rattle.raster_put.specs.Putting.{BlockToPut}
 pub record ForkToPut (n : ℕ) (R K : List ℕ) (l x y slot slots p words : ℕ) : Type 0 where
   pub block : BlockToPut n R l x y p words
   pub high : 3 ≤ l
-  pub fork : colour (tree_of (pictureOf n R) l x y) ≡ forkType
+  pub fork : colour (tree_of (picture_of n R) l x y) ≡ fork_type
   pub known : Known n R K l x y slot slots
 
 -- the whole sheet R of level n may be put; its notes are K

@@ -1,15 +1,15 @@
 // The tests of a raster: its level, its length, its bytes.
 ghost use Rattle.std.specs.Prelude.{◌≡◌, ◌%◌, ◌≤◌, ◌^◌, length};
-ghost use Rattle.quad.specs.Numbers.{topLevel};
-ghost use Rattle.raster.specs.Raster.{rasterLength, pixelsFrom};
-ghost use Rattle.raster.specs.Blocks.{readableOf, NoneAbove};
+ghost use Rattle.quad.specs.Numbers.{top_level};
+ghost use Rattle.raster.specs.Raster.{raster_length, pixels_from};
+ghost use Rattle.raster.specs.Blocks.{readable_of, NoneAbove};
 
 use answer::Outcome;
 
 // Whether a raster of level n has that many bytes.
 pub fn raster_length(n: u32, bytes: usize) -> Outcome
-    requires { n ≤ topLevel }
-    ensures { result ≡ rasterLength n bytes }
+    requires { n ≤ top_level }
+    ensures { result ≡ raster_length n bytes }
 {
     let across = quad::side(n) as usize;
     if bytes != across * across {
@@ -48,8 +48,8 @@ fn highest(raster: &[u8]) -> u8
 
 // The first byte that is no colour.
 fn first_bad(raster: &[u8]) -> Outcome
-    requires { length raster.now ≤ 4 ^ topLevel }
-    ensures { result ≡ pixelsFrom raster.now 0 }
+    requires { length raster.now ≤ 4 ^ top_level }
+    ensures { result ≡ pixels_from raster.now 0 }
 {
     let mut i = 0;
     while i < raster.len() {
@@ -63,8 +63,8 @@ fn first_bad(raster: &[u8]) -> Outcome
 
 // The first byte that is no colour, looked for only where the highest is none, or where there is one byte.
 fn pixels(raster: &[u8]) -> Outcome
-    requires { length raster.now ≤ 4 ^ topLevel }
-    ensures { result ≡ pixelsFrom raster.now 0 }
+    requires { length raster.now ≤ 4 ^ top_level }
+    ensures { result ≡ pixels_from raster.now 0 }
 {
     if raster.len() % 4 != 0 {
         return first_bad(raster);
@@ -77,7 +77,7 @@ fn pixels(raster: &[u8]) -> Outcome
 
 // The tests for 1, 2 and 8.
 pub fn readable(n: u32, raster: &[u8]) -> Outcome
-    ensures { result ≡ readableOf n raster.now }
+    ensures { result ≡ readable_of n raster.now }
 {
     if quad::TOP_LEVEL < n {
         return Outcome::BadLevel { place: 0 };

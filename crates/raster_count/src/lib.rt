@@ -1,16 +1,16 @@
 // The first pass of building: types noted, nodes counted.
 ghost use Rattle.std.specs.Prelude.{◌≡◌, ◌+◌, ◌*◌, ◌/◌, ◌%◌, ◌≤◌, ◌<◌, ◌^◌, length};
 ghost use Rattle.quad.specs.Tree.{colour, size_of, tree_of};
-ghost use Rattle.raster.specs.Raster.{pictureOf};
-ghost use Rattle.raster.specs.Sums.{fourSum, sixteenSum, mixedOf};
+ghost use Rattle.raster.specs.Raster.{picture_of};
+ghost use Rattle.raster.specs.Sums.{four_sum, sixteen_sum, mixed_of};
 ghost use Rattle.raster_notes.specs.Notes.{NotedSize};
 ghost use Rattle.raster.specs.Blocks.{Picture, OnSheet};
-ghost use Rattle.raster_count.specs.Kinds.{fourPixels, TwoSums};
+ghost use Rattle.raster_count.specs.Kinds.{four_pixels, TwoSums};
 
 // The pixel in column x and row y.
 pub fn pixel_at(raster: &[u8], n: u32, x: usize, y: usize) -> u32
     requires { Picture n raster.now × OnSheet n 0 x y }
-    ensures { result ≡ pictureOf n raster.now x y }
+    ensures { result ≡ picture_of n raster.now x y }
 {
     let across = quad::side(n) as usize;
     raster[y * across + x] as u32
@@ -19,7 +19,7 @@ pub fn pixel_at(raster: &[u8], n: u32, x: usize, y: usize) -> u32
 // The sum of the four pixels of a block of level 1.
 pub fn sum_four(raster: &[u8], n: u32, x: usize, y: usize) -> u32
     requires { Picture n raster.now × OnSheet n 1 x y }
-    ensures { (result ≡ fourSum (pictureOf n raster.now) x y) × (result ≤ 4) }
+    ensures { (result ≡ four_sum (picture_of n raster.now) x y) × (result ≤ 4) }
 {
     let west = 2 * x;
     let north = 2 * y;
@@ -33,7 +33,7 @@ pub fn sum_four(raster: &[u8], n: u32, x: usize, y: usize) -> u32
 // 1 where so many pixels of that sum are not alike, else 0.
 fn mixed(sum: u32, pixels: u32) -> u32
     requires { 0 < pixels }
-    ensures { (result ≡ mixedOf sum pixels) × (result ≤ 1) }
+    ensures { (result ≡ mixed_of sum pixels) × (result ≤ 1) }
 {
     if sum % pixels == 0 {
         return 0;
@@ -44,7 +44,7 @@ fn mixed(sum: u32, pixels: u32) -> u32
 // The four pixels of row y from column 4x on as one number, so that they are read together.
 fn four_pixels(raster: &[u8], n: u32, x: usize, y: usize) -> u32
     requires { Picture n raster.now × OnSheet n 0 (2 * (2 * x + 1) + 1) y }
-    ensures { (result ≡ fourPixels (pictureOf n raster.now) x y) × (result ≤ 16843009) }
+    ensures { (result ≡ four_pixels (picture_of n raster.now) x y) × (result ≤ 16843009) }
 {
     let across = quad::side(n) as usize;
     raster_lanes::four_at(raster, y * across + 4 * x) as u32
@@ -53,7 +53,7 @@ fn four_pixels(raster: &[u8], n: u32, x: usize, y: usize) -> u32
 // The sums of the blocks (2x, y) and (2x + 1, y) of level 1 in one number.
 fn two_sums(raster: &[u8], n: u32, x: usize, y: usize) -> u32
     requires { Picture n raster.now × OnSheet n 1 (2 * x + 1) y }
-    ensures { TwoSums (pictureOf n raster.now) x y result }
+    ensures { TwoSums (picture_of n raster.now) x y result }
 {
     let north = four_pixels(raster, n, x, 2 * y);
     let south = four_pixels(raster, n, x, 2 * y + 1);
@@ -64,7 +64,7 @@ fn two_sums(raster: &[u8], n: u32, x: usize, y: usize) -> u32
 // The nodes of a block of level 2.
 fn count_sixteen(raster: &[u8], n: u32, x: usize, y: usize) -> u32
     requires { Picture n raster.now × OnSheet n 2 x y }
-    ensures { result ≡ size_of (tree_of (pictureOf n raster.now) 2 x y) }
+    ensures { result ≡ size_of (tree_of (picture_of n raster.now) 2 x y) }
 {
     let north = two_sums(raster, n, x, 2 * y);
     let south = two_sums(raster, n, x, 2 * y + 1);
@@ -79,7 +79,7 @@ fn count_sixteen(raster: &[u8], n: u32, x: usize, y: usize) -> u32
 // The type of a sheet below level 3.
 fn small_kind(raster: &[u8], n: u32) -> u32
     requires { Picture n raster.now × (n < 3) }
-    ensures { result ≡ colour (tree_of (pictureOf n raster.now) n 0 0) }
+    ensures { result ≡ colour (tree_of (picture_of n raster.now) n 0 0) }
 {
     if n == 0 {
         return pixel_at(raster, 0, 0, 0);
@@ -121,7 +121,7 @@ pub fn count(raster: &[u8], n: u32, kinds: &mut [u32; 341]) -> u32
 // The sum of the sixteen pixels of a block of level 2.
 pub fn sum_sixteen(raster: &[u8], n: u32, x: usize, y: usize) -> u32
     requires { Picture n raster.now × OnSheet n 2 x y }
-    ensures { result ≡ sixteenSum (pictureOf n raster.now) x y }
+    ensures { result ≡ sixteen_sum (picture_of n raster.now) x y }
 {
     let north = two_sums(raster, n, x, 2 * y);
     let south = two_sums(raster, n, x, 2 * y + 1);

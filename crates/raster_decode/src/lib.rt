@@ -1,6 +1,6 @@
 // Decoding: a table's raster, painted from the root down (`sheet_decode`).
 ghost use Rattle.std.specs.Prelude.{true, ◌≡◌, length};
-ghost use Rattle.table.specs.Table.{isFork};
+ghost use Rattle.table.specs.Table.{is_fork};
 ghost use Rattle.raster.specs.Calls.{Decoding};
 ghost use Rattle.raster_fill.specs.Painting.{Paintable, BlockPainted};
 
@@ -19,7 +19,7 @@ fn paint_pixel(table: &[u32], p: usize, n: u32, x: usize, y: usize, raster: &mut
 
 // Paints the block of fork p at level 1, whose sons are pixels.
 fn paint_four(table: &[u32], p: usize, n: u32, x: usize, y: usize, raster: &mut [u8])
-    requires { Paintable n table.now p 1 x y (length raster.old) × (isFork table.now p ≡ true) }
+    requires { Paintable n table.now p 1 x y (length raster.old) × (is_fork table.now p ≡ true) }
     ensures { BlockPainted n table.now p 1 x y raster.old raster.new }
 {
     let mut q = 0;
@@ -35,7 +35,7 @@ fn paint_four(table: &[u32], p: usize, n: u32, x: usize, y: usize, raster: &mut 
 // Paints the block of fork p, each pixel once, quarter by quarter. A son that is a leaf is painted here, without a
 // call.
 fn paint_fork(table: &[u32], p: usize, n: u32, level: u32, x: usize, y: usize, raster: &mut [u8])
-    requires { Paintable n table.now p level x y (length raster.old) × (isFork table.now p ≡ true) }
+    requires { Paintable n table.now p level x y (length raster.old) × (is_fork table.now p ≡ true) }
     ensures { BlockPainted n table.now p level x y raster.old raster.new }
 {
     if level == 1 {

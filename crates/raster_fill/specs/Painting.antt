@@ -1,10 +1,10 @@
 -- How decoding fills a raster: a leaf its block, row by row. What each step leaves is said of every place, or of every
 -- pixel by its column and row.
 use Rattle.std.specs.Prelude.{Bool, cond, ◌&&◌, List, ◌≡◌, ℕ, ◌+◌, ◌*◌, ◌/◌, ◌^◌, ◌<◌, leb, ltb, eqb, length, get_or}
-use Rattle.quad.specs.Block.{quadrantOf}
+use Rattle.quad.specs.Block.{quadrant_of}
 use Rattle.quad.specs.Tree.{shade}
 use Rattle.table.specs.Rules.{AtLevel}
-use Rattle.table.specs.Nodes.{treeAt}
+use Rattle.table.specs.Nodes.{tree_at}
 use Rattle.raster.specs.Blocks.{OnSheet}
 
 -- k is one of the w numbers from a on
@@ -26,16 +26,16 @@ unfoldable pub in_block : ℕ → ℕ → ℕ → ℕ → ℕ → Bool
 in_block l X Y x y = eqb (x / 2 ^ l) X && eqb (y / 2 ^ l) Y
 
 -- it lies in the first j rows of that block
-unfoldable pub inRows : ℕ → ℕ → ℕ → ℕ → ℕ → ℕ → Bool
-inRows l X Y j x y = eqb (x / 2 ^ l) X && among (Y * 2 ^ l) j y
+unfoldable pub in_the_rows : ℕ → ℕ → ℕ → ℕ → ℕ → ℕ → Bool
+in_the_rows l X Y j x y = eqb (x / 2 ^ l) X && among (Y * 2 ^ l) j y
 
 -- it lies in one of the first q quarters of the block (X, Y) of the level above l
-unfoldable pub inQuarters : ℕ → ℕ → ℕ → ℕ → ℕ → ℕ → Bool
-inQuarters l X Y q x y = in_block (l + 1) X Y x y && ltb (quadrantOf (x / 2 ^ l) (y / 2 ^ l)) q
+unfoldable pub in_quarters : ℕ → ℕ → ℕ → ℕ → ℕ → ℕ → Bool
+in_quarters l X Y q x y = in_block (l + 1) X Y x y && ltb (quadrant_of (x / 2 ^ l) (y / 2 ^ l)) q
 
 -- the colours of the tree that node p stands for at level l
-abbrev pub coloursAt : List ℕ → ℕ → ℕ → ℕ → ℕ → ℕ
-coloursAt T l p = shade l (treeAt T l p)
+abbrev pub colours_at : List ℕ → ℕ → ℕ → ℕ → ℕ → ℕ
+colours_at T l p = shade l (tree_at T l p)
 
 -- node p is the block (x, y) of level l, for which the raster has its place
 pub record Paintable (n : ℕ) (T : List ℕ) (p l x y bytes : ℕ) : Type 0 where
@@ -45,4 +45,4 @@ pub record Paintable (n : ℕ) (T : List ℕ) (p l x y bytes : ℕ) : Type 0 whe
 
 -- the block (x, y) of level l was painted with the colours under node p of the table T
 abbrev pub BlockPainted : ℕ → List ℕ → ℕ → ℕ → ℕ → ℕ → List ℕ → List ℕ → Type 0
-BlockPainted n T p l x y before after = Painted n (in_block l x y) (coloursAt T l p) before after
+BlockPainted n T p l x y before after = Painted n (in_block l x y) (colours_at T l p) before after

@@ -1,6 +1,6 @@
 // A leaf's block filled, row by row.
 ghost use Rattle.std.specs.Prelude.{◌≡◌, ◌+◌, ◌≤◌, ◌^◌, length};
-ghost use Rattle.quad.specs.Numbers.{topLevel};
+ghost use Rattle.quad.specs.Numbers.{top_level};
 ghost use Rattle.quad.specs.Tree.{colour};
 ghost use Rattle.raster.specs.Blocks.{OnSheet};
 ghost use Rattle.raster_fill.specs.Painting.{BytesFilled, Painted, in_block};
@@ -19,7 +19,7 @@ fn fill_row(raster: &mut [u8], start: usize, width: usize, colour: u8)
 
 // Fills a block, row by row.
 fn fill_block(raster: &mut [u8], n: u32, level: u32, x: usize, y: usize, colour: u8)
-    requires { (n ≤ topLevel) × OnSheet n level x y × (length raster.old ≡ 4 ^ n) }
+    requires { (n ≤ top_level) × OnSheet n level x y × (length raster.old ≡ 4 ^ n) }
     ensures { Painted n (in_block level x y) (λ i j. colour) raster.old raster.new }
 {
     let across = quad::side(n) as usize;
@@ -35,7 +35,7 @@ fn fill_block(raster: &mut [u8], n: u32, level: u32, x: usize, y: usize, colour:
 
 // Fills a block of one pixel.
 pub fn fill_pixel(raster: &mut [u8], n: u32, x: usize, y: usize, colour: u8)
-    requires { (n ≤ topLevel) × OnSheet n 0 x y × (length raster.old ≡ 4 ^ n) }
+    requires { (n ≤ top_level) × OnSheet n 0 x y × (length raster.old ≡ 4 ^ n) }
     ensures { Painted n (in_block 0 x y) (λ i j. colour) raster.old raster.new }
 {
     let across = quad::side(n) as usize;
@@ -44,7 +44,7 @@ pub fn fill_pixel(raster: &mut [u8], n: u32, x: usize, y: usize, colour: u8)
 
 // Fills a leaf's block. The width of small rows is written out, so that each is one store.
 pub fn fill_leaf(raster: &mut [u8], n: u32, level: u32, x: usize, y: usize, colour: u8)
-    requires { (n ≤ topLevel) × OnSheet n level x y × (length raster.old ≡ 4 ^ n) }
+    requires { (n ≤ top_level) × OnSheet n level x y × (length raster.old ≡ 4 ^ n) }
     ensures { Painted n (in_block level x y) (λ i j. colour) raster.old raster.new }
 {
     if level == 1 {

@@ -1,11 +1,11 @@
 // Pixels looked at many at once, as parts of one number.
 ghost use Rattle.std.specs.Prelude.{◌≡◌, ◌+◌, ◌*◌, ◌≤◌, ◌<◌, length, get_or};
-ghost use Rattle.quad.specs.Numbers.{forkType};
+ghost use Rattle.quad.specs.Numbers.{fork_type};
 ghost use Rattle.quad.specs.Tree.{colour, size_of, tree_of};
 ghost use Rattle.raster.specs.Sums.{Colours};
-ghost use Rattle.raster_lanes.specs.Lanes.{window, twoFrom, fourFrom, eightFrom, blackRow, twoRows, fourRows};
-ghost use Rattle.raster_lanes.specs.Lanes.{eightRows, kind_of, packed, lastBits, fourthsOf, mixedLanes, laneSum};
-ghost use Rattle.raster_lanes.specs.Lanes.{mixedTwo, forksOf, FourSums, sumsFrom, twoSizes};
+ghost use Rattle.raster_lanes.specs.Lanes.{window, two_from, four_from, eight_from, black_row, two_rows, four_rows};
+ghost use Rattle.raster_lanes.specs.Lanes.{eight_rows, kind_of, packed, last_bits, fourths_of, mixed_lanes, lane_sum};
+ghost use Rattle.raster_lanes.specs.Lanes.{mixed_two, forks_of, FourSums, sums_from, two_sizes};
 
 // A pixel.
 fn byte_at(raster: &[u8], at: usize) -> u64
@@ -18,7 +18,7 @@ fn byte_at(raster: &[u8], at: usize) -> u64
 // Two pixels.
 fn two_at(raster: &[u8], at: usize) -> u64
     requires { (at + 2 ≤ length raster.now) × Colours raster.now }
-    ensures { (result ≡ twoFrom raster.now at) × (result ≤ 257) }
+    ensures { (result ≡ two_from raster.now at) × (result ≤ 257) }
 {
     byte_at(raster, at) + 256 * byte_at(raster, at + 1)
 }
@@ -26,7 +26,7 @@ fn two_at(raster: &[u8], at: usize) -> u64
 // Four pixels.
 pub fn four_at(raster: &[u8], at: usize) -> u64
     requires { (at + 4 ≤ length raster.now) × Colours raster.now }
-    ensures { (result ≡ fourFrom raster.now at) × (result ≤ 16843009) }
+    ensures { (result ≡ four_from raster.now at) × (result ≤ 16843009) }
 {
     two_at(raster, at) + 65536 * two_at(raster, at + 2)
 }
@@ -34,7 +34,7 @@ pub fn four_at(raster: &[u8], at: usize) -> u64
 // Eight pixels.
 fn eight_at(raster: &[u8], at: usize) -> u64
     requires { (at + 8 ≤ length raster.now) × Colours raster.now }
-    ensures { (result ≡ eightFrom raster.now at) × (result ≤ blackRow) }
+    ensures { (result ≡ eight_from raster.now at) × (result ≤ black_row) }
 {
     four_at(raster, at) + 4294967296 * four_at(raster, at + 4)
 }
@@ -42,7 +42,7 @@ fn eight_at(raster: &[u8], at: usize) -> u64
 // Two rows of eight pixels, added up.
 fn two_rows(raster: &[u8], across: usize, at: usize) -> u64
     requires { (at + across + 8 ≤ length raster.now) × Colours raster.now }
-    ensures { (result ≡ twoRows raster.now across at) × (result ≤ 2 * blackRow) }
+    ensures { (result ≡ two_rows raster.now across at) × (result ≤ 2 * black_row) }
 {
     eight_at(raster, at) + eight_at(raster, at + across)
 }
@@ -50,7 +50,7 @@ fn two_rows(raster: &[u8], across: usize, at: usize) -> u64
 // Four rows.
 fn four_rows(raster: &[u8], across: usize, at: usize) -> u64
     requires { (at + 3 * across + 8 ≤ length raster.now) × Colours raster.now }
-    ensures { (result ≡ fourRows raster.now across at) × (result ≤ 4 * blackRow) }
+    ensures { (result ≡ four_rows raster.now across at) × (result ≤ 4 * black_row) }
 {
     two_rows(raster, across, at) + two_rows(raster, across, at + 2 * across)
 }
@@ -58,7 +58,7 @@ fn four_rows(raster: &[u8], across: usize, at: usize) -> u64
 // Eight rows: what tells a block of level 3.
 pub fn eight_rows(raster: &[u8], across: usize, at: usize) -> u64
     requires { (at + 7 * across + 8 ≤ length raster.now) × Colours raster.now }
-    ensures { (result ≡ eightRows raster.now across at) × (result ≤ 8 * blackRow) }
+    ensures { (result ≡ eight_rows raster.now across at) × (result ≤ 8 * black_row) }
 {
     four_rows(raster, across, at) + four_rows(raster, across, at + 4 * across)
 }
@@ -78,7 +78,7 @@ pub fn kind(all: u64, most: u64) -> u32
 
 // The lanes' last three bits.
 fn apart(v: u64) -> u64
-    ensures { result ≡ lastBits v }
+    ensures { result ≡ last_bits v }
 {
     let second = v / 65536;
     let third = second / 65536;
@@ -88,7 +88,7 @@ fn apart(v: u64) -> u64
 
 // The lanes' third bits.
 fn fourths(v: u64) -> u64
-    ensures { result ≡ fourthsOf v }
+    ensures { result ≡ fourths_of v }
 {
     let second = v / 65536;
     let third = second / 65536;
@@ -102,14 +102,14 @@ fn fourths(v: u64) -> u64
 // 1 in the lanes whose sums are neither 0 nor 4: three more take all others past 3, and 4 is past it alone.
 fn mixed_lanes(v: u64) -> u64
     requires { FourSums v }
-    ensures { (result ≡ mixedLanes v) × (result ≤ packed 1 1 1 1) }
+    ensures { (result ≡ mixed_lanes v) × (result ≤ packed 1 1 1 1) }
 {
     fourths(v + 844437815230467) - fourths(v)
 }
 
 // The sum of the lanes.
 fn lane_sum(v: u64) -> u64
-    ensures { (result ≡ laneSum v) × (result ≤ 262140) }
+    ensures { (result ≡ lane_sum v) × (result ≤ 262140) }
 {
     let second = v / 65536;
     let third = second / 65536;
@@ -119,7 +119,7 @@ fn lane_sum(v: u64) -> u64
 
 // How many of the sums in the first and the third lane are neither 0 nor 16.
 fn mixed_two(v: u64) -> u64
-    ensures { (result ≡ mixedTwo v) × (result ≤ 2) }
+    ensures { (result ≡ mixed_two v) × (result ≤ 2) }
 {
     let west = v % 65536;
     let east = v / 65536 / 65536 % 65536;
@@ -129,7 +129,7 @@ fn mixed_two(v: u64) -> u64
 // The sums of four blocks of level 1 side by side, in four lanes.
 fn four_sums(raster: &[u8], across: usize, at: usize) -> u64
     requires { (at + across + 8 ≤ length raster.now) × Colours raster.now }
-    ensures { result ≡ sumsFrom (window raster.now across at) 0 }
+    ensures { result ≡ sums_from (window raster.now across at) 0 }
 {
     let rows = two_rows(raster, across, at);
     apart(rows + rows / 256)
@@ -138,7 +138,7 @@ fn four_sums(raster: &[u8], across: usize, at: usize) -> u64
 // The forks of two blocks of level 2 side by side, from the sums in their upper and in their lower half.
 fn forks(north: u64, south: u64) -> u64
     requires { FourSums north × FourSums south }
-    ensures { (result ≡ forksOf north south) × (result ≤ 262142) }
+    ensures { (result ≡ forks_of north south) × (result ≤ 262142) }
 {
     let both = north + south;
     lane_sum(mixed_lanes(north) + mixed_lanes(south)) + mixed_two(both + both / 65536)
@@ -147,7 +147,7 @@ fn forks(north: u64, south: u64) -> u64
 // The forks of two blocks of level 2 side by side, from their pixels.
 fn half_forks(raster: &[u8], across: usize, at: usize) -> u64
     requires { (at + 3 * across + 8 ≤ length raster.now) × Colours raster.now }
-    ensures { (2 + 4 * result ≡ twoSizes raster.now across at) × (result ≤ 262142) }
+    ensures { (2 + 4 * result ≡ two_sizes raster.now across at) × (result ≤ 262142) }
 {
     let north = four_sums(raster, across, at);
     let south = four_sums(raster, across, at + 2 * across);
@@ -157,7 +157,7 @@ fn half_forks(raster: &[u8], across: usize, at: usize) -> u64
 // The nodes of a block of level 3 that is a fork.
 pub fn nodes(raster: &[u8], across: usize, at: usize) -> u32
     requires { (at + 7 * across + 8 ≤ length raster.now) × Colours raster.now
-        × (colour (tree_of (window raster.now across at) 3 0 0) ≡ forkType) }
+        × (colour (tree_of (window raster.now across at) 3 0 0) ≡ fork_type) }
     ensures { result ≡ size_of (tree_of (window raster.now across at) 3 0 0) }
 {
     let north = half_forks(raster, across, at);

@@ -1,14 +1,14 @@
 // The types of blocks above level 4 noted, quarter by quarter, and so those of a whole sheet from level 3 up.
 ghost use Rattle.std.specs.Prelude.{◌≡◌, ◌-◌, ◌≤◌, ◌<◌, ◌^◌};
-ghost use Rattle.quad.specs.Numbers.{topLevel};
-ghost use Rattle.raster_notes.specs.Notes.{slots_of, part_at, NotedSize, joinedOf};
+ghost use Rattle.quad.specs.Numbers.{top_level};
+ghost use Rattle.raster_notes.specs.Notes.{slots_of, part_at, NotedSize, joined_of};
 ghost use Rattle.raster_notes.specs.Notes.{BlockToNote};
 
 use raster_notes::{eight, sixteen};
 
 // The type of a block by its quarters'.
 fn joined(nw: u32, ne: u32, sw: u32, se: u32) -> u32
-    ensures { result ≡ joinedOf nw ne sw se }
+    ensures { result ≡ joined_of nw ne sw se }
 {
     if nw != ne {
         return quad::FORK as u32;
@@ -24,7 +24,7 @@ fn joined(nw: u32, ne: u32, sw: u32, se: u32) -> u32
 
 // Where quadrant q begins of a block whose quarters have the side `half`.
 fn part_at(across: usize, at: usize, half: usize, q: usize) -> usize
-    requires { (q < 4) × (at ≤ 4 ^ topLevel) × (half ≤ 2 ^ topLevel) × (across ≤ 2 ^ topLevel) }
+    requires { (q < 4) × (at ≤ 4 ^ top_level) × (half ≤ 2 ^ top_level) × (across ≤ 2 ^ top_level) }
     ensures { result ≡ part_at across at half q }
 {
     at + q / 2 * half * across + q % 2 * half
@@ -79,7 +79,7 @@ fn large(
 
 // The slots of a sheet of level n, from level 3 up.
 pub fn slots(n: u32) -> usize
-    requires { n ≤ topLevel }
+    requires { n ≤ top_level }
     ensures { result ≡ slots_of (n - 3) }
 {
     let mut slots = 1;

@@ -2,10 +2,10 @@
 -- those of its four quarters, each with what is noted below it. Blocks are named by the place where they begin.
 use Rattle.std.specs.Prelude.{cond, List, ◌≡◌, ℕ, zero, suc, ◌+◌, ◌-◌, ◌*◌, ◌/◌, ◌%◌, ◌^◌, ◌≤◌, ◌<◌, eqb, length, get_or, set}
 use Rattle.base.specs.Tab.{sum}
-use Rattle.quad.specs.Numbers.{topLevel, forkType}
+use Rattle.quad.specs.Numbers.{top_level, fork_type}
 use Rattle.quad.specs.Tree.{colour, size_of, tree_of}
 use Rattle.raster.specs.Sums.{Colours}
-use Rattle.raster_lanes.specs.Lanes.{window, eightRows}
+use Rattle.raster_lanes.specs.Lanes.{window, eight_rows}
 
 -- the slots of a block and of all blocks down to e levels below it
 unfoldable pub slots_of : ℕ → ℕ
@@ -22,7 +22,7 @@ unfoldable pub Noted : List ℕ → ℕ → List ℕ → ℕ → ℕ → ℕ →
 Noted R w K zero l s a = get_or K s 0 ≡ colour (tree_of (window R w a) l 0 0)
 Noted R w K (suc e) l s a =
     (get_or K s 0 ≡ colour (tree_of (window R w a) l 0 0))
-    × (colour (tree_of (window R w a) l 0 0) ≡ forkType → (q : ℕ) → q < 4 → Noted R w K e (l - 1) (s + 1 + q * slots_of e) (part_at w a (2 ^ (l - 1)) q))
+    × (colour (tree_of (window R w a) l 0 0) ≡ fork_type → (q : ℕ) → q < 4 → Noted R w K e (l - 1) (s + 1 + q * slots_of e) (part_at w a (2 ^ (l - 1)) q))
 
 -- nothing but t slots from slot s on was written
 abbrev pub Kept : List ℕ → List ℕ → ℕ → ℕ → Type 0
@@ -39,16 +39,16 @@ pub record NotedSize (R : List ℕ) (w a l s : ℕ) (before after : List ℕ) (r
 pub record Lies (R : List ℕ) (w a l : ℕ) : Type 0 where
   pub colours : Colours R
   pub ends : a + 2 ^ l * w + 2 ^ l ≤ length R + w
-  pub few : length R ≤ 4 ^ topLevel
-  pub wide : w ≤ 2 ^ topLevel
+  pub few : length R ≤ 4 ^ top_level
+  pub wide : w ≤ 2 ^ top_level
 
 -- the type of a block whose quarters have those types
-unfoldable pub joinedOf : ℕ → ℕ → ℕ → ℕ → ℕ
-joinedOf a b c d = cond (eqb a b) (cond (eqb a c) (cond (eqb a d) a forkType) forkType) forkType
+unfoldable pub joined_of : ℕ → ℕ → ℕ → ℕ → ℕ
+joined_of a b c d = cond (eqb a b) (cond (eqb a c) (cond (eqb a d) a fork_type) fork_type) fork_type
 
 -- the sums of the four quarters of a block of level 4 at place a
 abbrev pub QuarterSums : List ℕ → ℕ → ℕ → ℕ → ℕ → ℕ → ℕ → Type 0
-QuarterSums R w a nw ne sw se = (nw ≡ eightRows R w a) × (ne ≡ eightRows R w (a + 8)) × (sw ≡ eightRows R w (a + 8 * w)) × (se ≡ eightRows R w (a + 8 * w + 8))
+QuarterSums R w a nw ne sw se = (nw ≡ eight_rows R w a) × (ne ≡ eight_rows R w (a + 8)) × (sw ≡ eight_rows R w (a + 8 * w)) × (se ≡ eight_rows R w (a + 8 * w + 8))
 
 -- the first q quarters of a block of level l at place a are noted, each in its slots behind slot s, and counted, with
 -- one node for the block
@@ -61,7 +61,7 @@ pub record Parts (R : List ℕ) (w a l s q : ℕ) (before after : List ℕ) (nod
 
 -- What noting asks, of 341 slots. Of a block of level 3 at place a, whose rows add up to v: its slot is s
 abbrev pub EightToNote : List ℕ → ℕ → ℕ → ℕ → ℕ → Type 0
-EightToNote R w a v s = (a + 7 * w + 8 ≤ length R) × Colours R × (v ≡ eightRows R w a) × (s < 341)
+EightToNote R w a v s = (a + 7 * w + 8 ≤ length R) × Colours R × (v ≡ eight_rows R w a) × (s < 341)
 
 -- and then its type is in that slot, and r is the number of its nodes
 abbrev pub EightNoted : List ℕ → ℕ → ℕ → ℕ → List ℕ → List ℕ → ℕ → Type 0
@@ -73,4 +73,4 @@ QuartersToNote R w a nw ne sw se s K = (a + 15 * w + 16 ≤ length R) × Colours
 
 -- of a block of level l, which is m or more: its slots are t from slot s on
 abbrev pub BlockToNote : ℕ → List ℕ → ℕ → ℕ → ℕ → ℕ → ℕ → List ℕ → Type 0
-BlockToNote m R w a l s t K = Lies R w a l × (m ≤ l) × (l ≤ topLevel) × (t ≡ slots_of (l - 3)) × (s + t ≤ 341) × (length K ≡ 341)
+BlockToNote m R w a l s t K = Lies R w a l × (m ≤ l) × (l ≤ top_level) × (t ≡ slots_of (l - 3)) × (s + t ≤ 341) × (length K ≡ 341)

@@ -6,7 +6,7 @@ use Prim.Native.Nat.{ℕ}
 use Rattle.answer.specs.declared.Outcome.{Outcome}
 use Rattle.answer.specs.Numbers.{number_of}
 use Rattle.ponds.specs.Entries.{words_of}
-use Rattle.ponds_find.proofs.CallLaws.{one-finding}
+use Rattle.ponds_find.proofs.CallLaws.{one_finding}
 use Rattle.sheet.specs.Calls.{Gives, Leaves, FindsPonds}
 
 -- no second outcome: of sheet_check, sheet_neighbour, sheet_corner_leaf and sheet_diagonal_leaf
@@ -15,19 +15,19 @@ unfolding Gives
 one_number o r s a b = a ∙ sym b
 
 -- and of each call that is lent a buffer to fill
-pub one-outcome : {A : Type 0} (o : Outcome) (left after final : List A) (r s : ℕ) → Leaves o left r after → Leaves o left s final → (r ≡ s) × (after ≡ final)
-one-outcome o left after final r s a b = (a.number ∙ sym b.number, a.buffer ∙ sym b.buffer)
+pub one_outcome : {A : Type 0} (o : Outcome) (left after final : List A) (r s : ℕ) → Leaves o left r after → Leaves o left s final → (r ≡ s) × (after ≡ final)
+one_outcome o left after final r s a b = (a.number ∙ sym b.number, a.buffer ∙ sym b.buffer)
 
 -- and of sheet_ponds, which is lent two
-pub one-pond-outcome : (n : ℕ) (T numbers reg a b a' b' : List ℕ) (r s : ℕ) → FindsPonds n T numbers reg r a b → FindsPonds n T numbers reg s a' b'
+pub one_pond_outcome : (n : ℕ) (T numbers reg a b a' b' : List ℕ) (r s : ℕ) → FindsPonds n T numbers reg r a b → FindsPonds n T numbers reg s a' b'
     → (r ≡ s) × (a ≡ a') × (b ≡ b')
-one-pond-outcome n T numbers reg a b a' b' r s f g =
-    let same = one-finding n T words_of 5 numbers reg f.outcome g.outcome a a' b b' f.slices g.slices in
+one_pond_outcome n T numbers reg a b a' b' r s f g =
+    let same = one_finding n T words_of 5 numbers reg f.outcome g.outcome a a' b b' f.slices g.slices in
     (f.number ∙ ap number_of same.0 ∙ sym g.number, same.1, same.2)
 
 pub packed : (o s : Outcome) (r : ℕ) → r ≡ number_of s → s ≡ o → Gives o r
 unfolding Gives
 packed o s r e h = e ∙ ap number_of h
 
-pub packed-with : {A : Type 0} (o s : Outcome) (left after : List A) (r : ℕ) → r ≡ number_of s → s ≡ o → after ≡ left → Leaves o left r after
-packed-with o s left after r e h b = record { number = e ∙ ap number_of h; buffer = b }
+pub packed_with : {A : Type 0} (o s : Outcome) (left after : List A) (r : ℕ) → r ≡ number_of s → s ≡ o → after ≡ left → Leaves o left r after
+packed_with o s left after r e h b = record { number = e ∙ ap number_of h; buffer = b }

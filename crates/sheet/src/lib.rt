@@ -1,7 +1,7 @@
 // The exported C calls, and nothing else: each calls one function of a floor below and packs code and value
 // (include/sheet.h is the manual).
 ghost use Rattle.sheet.specs.Calls.{Checks, Builds, Decodes, FindsNeighbour, FindsCornerLeaf, FindsDiagonalLeaf};
-ghost use Rattle.sheet.specs.Calls.{FindsDistances, FindsPonds, ReadsFile, WritesFile, FindsCentre, groundAt};
+ghost use Rattle.sheet.specs.Calls.{FindsDistances, FindsPonds, ReadsFile, WritesFile, FindsCentre, ground_at};
 
 use ground::Ground;
 
@@ -86,7 +86,7 @@ pub extern "C" fn sheet_centre(
     step: f64,
     place: &mut [f64],
 ) -> u64
-    ensures { FindsCentre n table.now node (groundAt east north step) place.old result
+    ensures { FindsCentre n table.now node (ground_at east north step) place.old result
         place.new }
 {
     let g = Ground { east, north, step };

@@ -4,11 +4,11 @@ use mathlib.Core.List.{List}
 use mathlib.Core.Path.{◌≡◌, sym, ◌∙◌}
 use Prim.Native.Nat.{ℕ}
 use borrow.Author.Tests.{eq-eqb, ne_eqb}
-use Rattle.quad.specs.Numbers.{forkType}
-use Rattle.table.specs.Table.{type, isFork}
+use Rattle.quad.specs.Numbers.{fork_type}
+use Rattle.table.specs.Table.{node_type, is_fork}
 
-pub told-fork : (T : List ℕ) (s k : ℕ) → k ≡ type T s → k ≡ forkType → isFork T s ≡ true
-told-fork T s k e h = eq-eqb _ _ (sym e ∙ h)
+pub told_fork : (T : List ℕ) (s k : ℕ) → k ≡ node_type T s → k ≡ fork_type → is_fork T s ≡ true
+told_fork T s k e h = eq-eqb _ _ (sym e ∙ h)
 
-pub told-leaf : (T : List ℕ) (s k : ℕ) → k ≡ type T s → (k ≡ forkType → ⊥) → isFork T s ≡ false
-told-leaf T s k e h = ne_eqb _ _ (λ f. h (e ∙ f))
+pub told_leaf : (T : List ℕ) (s k : ℕ) → k ≡ node_type T s → (k ≡ fork_type → ⊥) → is_fork T s ≡ false
+told_leaf T s k e h = ne_eqb _ _ (λ f. h (e ∙ f))

@@ -1,7 +1,7 @@
 -- What the check knows of a table that it has passed as far as some node: inner facts that its functions ask of their
 -- callers.
 use Rattle.std.specs.Prelude.{List, [], ◌∷◌, ◌≡◌, ℕ, ◌<◌}
-use Rattle.table.specs.Table.{nodes, father, son, type}
+use Rattle.table.specs.Table.{nodes, father, son, node_type}
 
 -- the nodes below m but the root have a father below them
 unfoldable pub Rising : List ℕ → ℕ → Type 0
@@ -17,8 +17,8 @@ abbrev pub SonsIn : List ℕ → ℕ → Type 0
 SonsIn T p = (q : ℕ) → q < 4 → SonIn T p q
 
 -- the four sons of p, and their types
-unfoldable pub fourSons : List ℕ → ℕ → List ℕ
-fourSons T p = son T p 0 ∷ son T p 1 ∷ son T p 2 ∷ son T p 3 ∷ []
+unfoldable pub four_sons : List ℕ → ℕ → List ℕ
+four_sons T p = son T p 0 ∷ son T p 1 ∷ son T p 2 ∷ son T p 3 ∷ []
 
-unfoldable pub fourTypes : List ℕ → ℕ → List ℕ
-fourTypes T p = type T (son T p 0) ∷ type T (son T p 1) ∷ type T (son T p 2) ∷ type T (son T p 3) ∷ []
+unfoldable pub four_types : List ℕ → ℕ → List ℕ
+four_types T p = node_type T (son T p 0) ∷ node_type T (son T p 1) ∷ node_type T (son T p 2) ∷ node_type T (son T p 3) ∷ []

@@ -1,7 +1,7 @@
 -- The preorder table of a tree: a node before its sons, sons NW, NE, SW, SE (document 01: 'Building gives preorder
 -- numbers').
 use Rattle.std.specs.Prelude.{List, [], ◌∷◌, ◌++◌, ℕ, ◌+◌}
-use Rattle.quad.specs.Numbers.{none, forkType}
+use Rattle.quad.specs.Numbers.{none, fork_type}
 use Rattle.quad.specs.Tree.{Tree, leaf, fork, size_of}
 
 -- the words of a tree whose root is node p and has father f
@@ -12,7 +12,7 @@ preorder f p (fork a b c d) =
     let ne = nw + size_of a in
     let sw = ne + size_of b in
     let se = sw + size_of c in
-    (f ∷ nw ∷ ne ∷ sw ∷ se ∷ forkType ∷ []) ++ (preorder p nw a ++ (preorder p ne b ++ (preorder p sw c ++ preorder p se d)))
+    (f ∷ nw ∷ ne ∷ sw ∷ se ∷ fork_type ∷ []) ++ (preorder p nw a ++ (preorder p ne b ++ (preorder p sw c ++ preorder p se d)))
 
-abbrev pub preorderTable : Tree → List ℕ
-preorderTable t = preorder none 0 t
+abbrev pub preorder_table : Tree → List ℕ
+preorder_table t = preorder none 0 t

@@ -1,17 +1,17 @@
 -- Document 01's sheet A as raster, table and file, and the sheets of its marked cases (j) and (k).
 use Rattle.std.specs.Prelude.{List, [], ◌∷◌, ℕ}
-use Rattle.quad.specs.Numbers.{none, forkType, white, black}
+use Rattle.quad.specs.Numbers.{none, fork_type, white, black}
 
 -- rows 1100, 1101, 0000, 0000
-abbrev pub rasterA : List ℕ
-rasterA = 1 ∷ 1 ∷ 0 ∷ 0 ∷ 1 ∷ 1 ∷ 0 ∷ 1 ∷ 0 ∷ 0 ∷ 0 ∷ 0 ∷ 0 ∷ 0 ∷ 0 ∷ 0 ∷ []
+abbrev pub raster_a : List ℕ
+raster_a = 1 ∷ 1 ∷ 0 ∷ 0 ∷ 1 ∷ 1 ∷ 0 ∷ 1 ∷ 0 ∷ 0 ∷ 0 ∷ 0 ∷ 0 ∷ 0 ∷ 0 ∷ 0 ∷ []
 
 -- its preorder table: nine nodes
-abbrev pub tableA : List ℕ
-tableA =
-    none ∷ 1 ∷ 2 ∷ 7 ∷ 8 ∷ forkType
+abbrev pub table_a : List ℕ
+table_a =
+    none ∷ 1 ∷ 2 ∷ 7 ∷ 8 ∷ fork_type
     ∷ 0 ∷ none ∷ none ∷ none ∷ none ∷ black
-    ∷ 0 ∷ 3 ∷ 4 ∷ 5 ∷ 6 ∷ forkType
+    ∷ 0 ∷ 3 ∷ 4 ∷ 5 ∷ 6 ∷ fork_type
     ∷ 2 ∷ none ∷ none ∷ none ∷ none ∷ white
     ∷ 2 ∷ none ∷ none ∷ none ∷ none ∷ white
     ∷ 2 ∷ none ∷ none ∷ none ∷ none ∷ white
@@ -21,8 +21,8 @@ tableA =
     ∷ []
 
 -- its file: 32 bytes
-abbrev pub fileA : List ℕ
-fileA =
+abbrev pub file_a : List ℕ
+file_a =
     81 ∷ 83 ∷ 2 ∷ 9 ∷ 0
     ∷ 81 ∷ 78 ∷ 2 ∷ 81 ∷ 78 ∷ 1 ∷ 81 ∷ 78 ∷ 2
     ∷ 81 ∷ 78 ∷ 0 ∷ 81 ∷ 78 ∷ 0 ∷ 81 ∷ 78 ∷ 0
@@ -30,9 +30,9 @@ fileA =
     ∷ []
 
 -- (j): rows 1110, 1110, 1111, 1111
-abbrev pub rasterJ : List ℕ
-rasterJ = 1 ∷ 1 ∷ 1 ∷ 0 ∷ 1 ∷ 1 ∷ 1 ∷ 0 ∷ 1 ∷ 1 ∷ 1 ∷ 1 ∷ 1 ∷ 1 ∷ 1 ∷ 1 ∷ []
+abbrev pub raster_j : List ℕ
+raster_j = 1 ∷ 1 ∷ 1 ∷ 0 ∷ 1 ∷ 1 ∷ 1 ∷ 0 ∷ 1 ∷ 1 ∷ 1 ∷ 1 ∷ 1 ∷ 1 ∷ 1 ∷ 1 ∷ []
 
 -- (k): one black pixel
-abbrev pub tableK : List ℕ
-tableK = none ∷ none ∷ none ∷ none ∷ none ∷ black ∷ []
+abbrev pub table_k : List ℕ
+table_k = none ∷ none ∷ none ∷ none ∷ none ∷ black ∷ []

@@ -1,7 +1,7 @@
 -- A node table is a list of words, six for each node: father, NW, NE, SW, SE, type (document 01, 'Sheets and node
 -- tables'). Proofs read it by these names alone.
 use Rattle.std.specs.Prelude.{Bool, List, ℕ, ◌+◌, ◌*◌, ◌/◌, eqb, length, get_or}
-use Rattle.quad.specs.Numbers.{forkType}
+use Rattle.quad.specs.Numbers.{fork_type}
 
 -- word j of node p
 abbrev pub word : List ℕ → ℕ → ℕ → ℕ
@@ -18,8 +18,8 @@ father T p = word T p 0
 abbrev pub son : List ℕ → ℕ → ℕ → ℕ
 son T p q = word T p (1 + q)
 
-abbrev pub type : List ℕ → ℕ → ℕ
-type T p = word T p 5
+abbrev pub node_type : List ℕ → ℕ → ℕ
+node_type T p = word T p 5
 
-abbrev pub isFork : List ℕ → ℕ → Bool
-isFork T p = eqb (type T p) forkType
+abbrev pub is_fork : List ℕ → ℕ → Bool
+is_fork T p = eqb (node_type T p) fork_type

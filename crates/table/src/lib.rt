@@ -2,7 +2,7 @@
 // code is the type of a block.
 
 // The block in that column and row among the blocks of its level.
-#[derive(Drop)]
+#[derive(Clone, Copy)]
 pub struct Block {
     pub column: u32,
     pub row: u32,

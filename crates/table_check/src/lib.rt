@@ -1,7 +1,7 @@
 // The check (`sheet_check`), and the tests that every other call begins with. A sound table is accepted by a fast way,
 // and only another one is gone through for the name of its fault.
 ghost use Rattle.std.specs.Prelude.{◌≡◌};
-ghost use Rattle.table.specs.Rules.{faultsOf, lengthOk, sizesOf, checkOf, eachNodeOf, asked_of, Sized};
+ghost use Rattle.table.specs.Rules.{faults_of, length_ok, sizes_of, check_of, each_node_of, asked_of, Sized};
 
 use answer::Outcome;
 use table_node::node_count;
@@ -11,7 +11,7 @@ use table_rules::first_fault;
 // through node by node.
 pub fn faults(n: u32, table: &[u32]) -> Outcome
     requires { Sized n table.now }
-    ensures { result ≡ faultsOf n table.now }
+    ensures { result ≡ faults_of n table.now }
 {
     if table_seen::sound(n, table) {
         return Outcome::Answered {
@@ -23,7 +23,7 @@ pub fn faults(n: u32, table: &[u32]) -> Outcome
 
 // Whether the length is a positive multiple of 6, at most the longest table's.
 fn length_ok(table: &[u32]) -> bool
-    ensures { result ≡ lengthOk table.now }
+    ensures { result ≡ length_ok table.now }
 {
     if table.len() == 0 {
         return false;
@@ -36,7 +36,7 @@ fn length_ok(table: &[u32]) -> bool
 
 // The tests for 1 and 2.
 pub fn sizes(n: u32, table: &[u32]) -> Outcome
-    ensures { result ≡ sizesOf n table.now }
+    ensures { result ≡ sizes_of n table.now }
 {
     if quad::TOP_LEVEL < n {
         return Outcome::BadLevel { place: 0 };
@@ -49,7 +49,7 @@ pub fn sizes(n: u32, table: &[u32]) -> Outcome
 
 // The check: for any level and any words, the node count or the first refusal.
 pub fn check(n: u32, table: &[u32]) -> Outcome
-    ensures { result ≡ checkOf n table.now }
+    ensures { result ≡ check_of n table.now }
 {
     let sized = sizes(n, table);
     if !answer::answered(sized) {
@@ -60,7 +60,7 @@ pub fn check(n: u32, table: &[u32]) -> Outcome
 
 // The tests of a call that is lent one word for each node: 1, 2 (the table, then the words), the check.
 pub fn each_node(n: u32, table: &[u32], words: usize) -> Outcome
-    ensures { result ≡ eachNodeOf n table.now words }
+    ensures { result ≡ each_node_of n table.now words }
 {
     let sized = sizes(n, table);
     if !answer::answered(sized) {

@@ -1,12 +1,12 @@
 // A node's words, read and written; its block, and its level.
 ghost use Rattle.std.specs.Prelude.{◌≡◌, ◌+◌, ◌*◌, ◌<◌, ◌≤◌, length};
-ghost use Rattle.table.specs.Rules.{Asked, depthTo};
-ghost use Rattle.table.specs.Nodes.{levelOf, sonType};
+ghost use Rattle.table.specs.Rules.{Asked, depth_to};
+ghost use Rattle.table.specs.Nodes.{level_of, son_type};
 ghost use Rattle.table.specs.Blocks.{block_of};
 ghost use Rattle.std.proofs.lemmas.List.Edits.{sets};
-ghost use Rattle.table.specs.Table.{word, nodes, father, son, type};
-ghost use Rattle.table.specs.Links.{Rising, SonsIn, fourSons, fourTypes};
-ghost use Rattle.table.specs.Writing.{nodeWords, leafWords};
+ghost use Rattle.table.specs.Table.{word, nodes, father, son, node_type};
+ghost use Rattle.table.specs.Links.{Rising, SonsIn, four_sons, four_types};
+ghost use Rattle.table.specs.Writing.{node_words, leaf_words};
 
 use table::Block;
 
@@ -34,7 +34,7 @@ pub fn block_of(n: u32, table: &[u32], p: usize) -> Block
 // The level of node p: n less the father links from p to the root.
 pub fn level_of(n: u32, table: &[u32], p: usize) -> u32
     requires { Asked n table.now p }
-    ensures { result ≡ levelOf n table.now p }
+    ensures { result ≡ level_of n table.now p }
 {
     n - depth_to(table, n, p)
 }
@@ -57,7 +57,7 @@ pub fn word_at(table: &[u32], p: usize, j: usize) -> usize
 // The four sons of a fork, NW, NE, SW, SE.
 pub fn four_sons(table: &[u32], p: usize) -> [usize; 4]
     requires { p < nodes table.now }
-    ensures { result ≡ fourSons table.now p }
+    ensures { result ≡ four_sons table.now p }
 {
     [
         word_at(table, p, 1),
@@ -70,7 +70,7 @@ pub fn four_sons(table: &[u32], p: usize) -> [usize; 4]
 // The type of son q of a fork.
 fn type_of_son(table: &[u32], p: usize, q: usize) -> usize
     requires { (p < nodes table.now) × (q < 4) × (son table.now p q < nodes table.now) }
-    ensures { result ≡ type table.now (son table.now p q) }
+    ensures { result ≡ node_type table.now (son table.now p q) }
 {
     word_at(table, word_at(table, p, 1 + q), 5)
 }
@@ -78,7 +78,7 @@ fn type_of_son(table: &[u32], p: usize, q: usize) -> usize
 // The types of a fork's four sons, all of them read before one is asked for.
 pub fn four_types(table: &[u32], p: usize) -> [usize; 4]
     requires { (p < nodes table.now) × SonsIn table.now p }
-    ensures { result ≡ fourTypes table.now p }
+    ensures { result ≡ four_types table.now p }
 {
     [
         type_of_son(table, p, 0),
@@ -91,7 +91,7 @@ pub fn four_types(table: &[u32], p: usize) -> [usize; 4]
 // The number of father links from p to the root, or n where there are more.
 pub fn depth_to(table: &[u32], n: u32, p: usize) -> u32
     requires { (p < nodes table.now) × Rising table.now (p + 1) }
-    ensures { result ≡ depthTo table.now n p }
+    ensures { result ≡ depth_to table.now n p }
 {
     let mut q = p;
     let mut k: u32 = 0;
@@ -108,7 +108,7 @@ pub fn depth_to(table: &[u32], n: u32, p: usize) -> u32
 // Which son of its father p is (document 000's SONTYPE). The root is never asked.
 pub fn son_type(table: &[u32], p: usize) -> usize
     requires { (p < nodes table.now) × (father table.now p < nodes table.now) }
-    ensures { result ≡ sonType table.now p }
+    ensures { result ≡ son_type table.now p }
 {
     let father = word_at(table, p, 0);
     let nw = word_at(table, father, 1);
@@ -129,7 +129,7 @@ pub fn put_node(
     kind: u32,
 )
     requires { 6 * p + 6 ≤ length table.old }
-    ensures { table.new ≡ sets table.old (6 * p) (nodeWords father nw ne sw se kind) }
+    ensures { table.new ≡ sets table.old (6 * p) (node_words father nw ne sw se kind) }
 {
     let i = 6 * p;
     table[i] = father;
@@ -143,7 +143,7 @@ pub fn put_node(
 // Writes the six words of node p, a leaf.
 pub fn put_leaf(table: &mut [u32], p: usize, father: u32, kind: u32)
     requires { 6 * p + 6 ≤ length table.old }
-    ensures { table.new ≡ sets table.old (6 * p) (leafWords father kind) }
+    ensures { table.new ≡ sets table.old (6 * p) (leaf_words father kind) }
 {
     let nobody = quad::NONE as u32;
     put_node(table, p, father, nobody, nobody, nobody, nobody, kind);

@@ -15,80 +15,80 @@ use borrow.Author.Tests.{eq-eqb, ne_eqb, eqb-true, eqb-false, ltb-false, le-ltb}
 use Rattle.base.specs.Tab.{sum}
 use Rattle.base.proofs.BoolLaws.{by_bool, on, off}
 use Rattle.base.proofs.CaseLaws.{past, through}
-use Rattle.quad.specs.Tree.{likeTypes}
-use Rattle.quad.proofs.TreeLaws.{by-quadrant}
-use Rattle.quad.specs.Numbers.{topColour, forkType, none}
-use Rattle.table.specs.Table.{word, nodes, father, son, type, isFork}
+use Rattle.quad.specs.Tree.{like_types}
+use Rattle.quad.proofs.TreeLaws.{by_quadrant}
+use Rattle.quad.specs.Numbers.{top_colour, fork_type, none}
+use Rattle.table.specs.Table.{word, nodes, father, son, node_type, is_fork}
 use Rattle.table.specs.Links.{SonIn}
-use Rattle.table_sound.specs.Seen.{likeLeaves, leafOk, seenOf}
-use Rattle.table_order.specs.Order.{twoAre, leafFrom, ForkOf, Named, needlessFork, Ordered}
-use Rattle.table_sound.proofs.SeenLaws.{sonsSeen, seen-leaf, seen-no-leaf, seen-fork, all-are-true, added-all, fit-sons}
+use Rattle.table_sound.specs.Seen.{like_leaves, leaf_ok, seen_of}
+use Rattle.table_order.specs.Order.{two_are, leaf_from, ForkOf, Named, needless_fork, Ordered}
+use Rattle.table_sound.proofs.SeenLaws.{sons_seen, seen_leaf, seen_no_leaf, seen_fork, all_are_true, added_all, fit_sons}
 
 -- 0 says nothing
-pub no-order : (T : List ℕ) (l p : ℕ) → Ordered T l p 0
-no-order T l p = record { within = omega arith; seen = λ z. absurd (z refl) }
+pub no_order : (T : List ℕ) (l p : ℕ) → Ordered T l p 0
+no_order T l p = record { within = omega arith; seen = λ z. absurd (z refl) }
 
 -- two words below 2^32 are told by one number
-pub two-joined : (T : List ℕ) (i a b x y : ℕ) → get_or T i 0 < 4294967296 → x < 4294967296 → a ≡ get_or T i 0 + 4294967296 * get_or T (i + 1) 0
-    → b ≡ x + 4294967296 * y → eqb a b ≡ twoAre T i x y
-unfolding twoAre
-two-joined T i a b x y h h2 ea eb = go (eqb (get_or T i 0) x) refl (eqb (get_or T (i + 1) 0) y) refl
+pub two_joined : (T : List ℕ) (i a b x y : ℕ) → get_or T i 0 < 4294967296 → x < 4294967296 → a ≡ get_or T i 0 + 4294967296 * get_or T (i + 1) 0
+    → b ≡ x + 4294967296 * y → eqb a b ≡ two_are T i x y
+unfolding two_are
+two_joined T i a b x y h h2 ea eb = go (eqb (get_or T i 0) x) refl (eqb (get_or T (i + 1) 0) y) refl
   where
-    go : (u : Bool) → eqb (get_or T i 0) x ≡ u → (v : Bool) → eqb (get_or T (i + 1) 0) y ≡ v → eqb a b ≡ twoAre T i x y
+    go : (u : Bool) → eqb (get_or T i 0) x ≡ u → (v : Bool) → eqb (get_or T (i + 1) 0) y ≡ v → eqb a b ≡ two_are T i x y
     go false eu v ev = rw eu (ne_eqb a b (λ e. eqb-false (get_or T i 0) x eu (omega arith)))
     go true eu false ev = rw (eu, ev) (ne_eqb a b (λ e. eqb-false (get_or T (i + 1) 0) y ev (omega (arith, eqb-true (get_or T i 0) x eu))))
     go true eu true ev = rw (eu, ev) (eq-eqb a b (omega (arith, eqb-true (get_or T i 0) x eu, eqb-true (get_or T (i + 1) 0) y ev)))
 
 -- what two words are
-two-told : (T : List ℕ) (i a b : ℕ) → twoAre T i a b ≡ true → (get_or T i 0 ≡ a) × (get_or T (i + 1) 0 ≡ b)
-unfolding twoAre
-two-told T i a b e =
+two_told : (T : List ℕ) (i a b : ℕ) → two_are T i a b ≡ true → (get_or T i 0 ≡ a) × (get_or T (i + 1) 0 ≡ b)
+unfolding two_are
+two_told T i a b e =
     let x = through (eqb (get_or T i 0) a) _ e in
     (eqb-true _ a x.0, eqb-true _ b x.1)
 
 -- what the six words of a leaf are
-pub leaf-told : (T : List ℕ) (s f : ℕ) → leafFrom T (6 * s) f ≡ true → (isFork T s ≡ false) × (leafOk T s ≡ true) × (father T s ≡ f)
-unfolding leafFrom leafOk
-leaf-told T s f e =
-    let k = past (ltb topColour (type T s)) _ e in
-    let le = ltb-false topColour (type T s) k.0 in
-    let x = through (twoAre T (6 * s) f none) _ k.1 in
-    let y = through (twoAre T (6 * s + 2) none none) _ x.1 in
-    let a = two-told T (6 * s) f none x.0 in
-    let b = two-told T (6 * s + 2) none none y.0 in
+pub leaf_told : (T : List ℕ) (s f : ℕ) → leaf_from T (6 * s) f ≡ true → (is_fork T s ≡ false) × (leaf_ok T s ≡ true) × (father T s ≡ f)
+unfolding leaf_from leaf_ok
+leaf_told T s f e =
+    let k = past (ltb top_colour (node_type T s)) _ e in
+    let le = ltb-false top_colour (node_type T s) k.0 in
+    let x = through (two_are T (6 * s) f none) _ k.1 in
+    let y = through (two_are T (6 * s + 2) none none) _ x.1 in
+    let a = two_told T (6 * s) f none x.0 in
+    let b = two_told T (6 * s + 2) none none y.0 in
     let n3 : son T s 2 ≡ none = ap (λ (i : ℕ). get_or T i 0) {x = 6 * s + 3} {y = 6 * s + 2 + 1} (omega arith) ∙ b.1 in (
-      ne_eqb (type T s) forkType (λ h. omega arith),
-      rw (le-ltb topColour (type T s) le) (all-are-true none (son T s 0) (son T s 1) (son T s 2) (son T s 3) a.1 b.0 n3 (eqb-true _ none y.1)),
+      ne_eqb (node_type T s) fork_type (λ h. omega arith),
+      rw (le-ltb top_colour (node_type T s) le) (all_are_true none (son T s 0) (son T s 1) (son T s 2) (son T s 3) a.1 b.0 n3 (eqb-true _ none y.1)),
       ap (λ (i : ℕ). get_or T i 0) {x = 6 * s + 0} {y = 6 * s} (omega arith) ∙ a.0,
     )
 
 -- a leaf is one node, or is not seen
-leaf-most : (T : List ℕ) (l s : ℕ) → isFork T s ≡ false → seenOf T l s ≤ 1
-leaf-most T l s f =
+leaf_most : (T : List ℕ) (l s : ℕ) → is_fork T s ≡ false → seen_of T l s ≤ 1
+leaf_most T l s f =
     ⊎_elim
-    (λ (e : leafOk T s ≡ true). omega (arith, seen-leaf T l s f e))
-    (λ (e : leafOk T s ≡ false). omega (arith, seen-no-leaf T l s f e))
-    (by_bool (leafOk T s))
+    (λ (e : leaf_ok T s ≡ true). omega (arith, seen_leaf T l s f e))
+    (λ (e : leaf_ok T s ≡ false). omega (arith, seen_no_leaf T l s f e))
+    (by_bool (leaf_ok T s))
 
 sum_more : (g : ℕ → ℕ) (q : ℕ) → sum g (q + 1) ≡ g q + sum g q
 unfolding sum
 sum_more g q = rw (add-one q)
 
-sum-four : (g : ℕ → ℕ) → (sum g 0 ≡ 0) × (sum g 1 ≡ g 0 + sum g 0) × (sum g 2 ≡ g 1 + sum g 1) × (sum g 3 ≡ g 2 + sum g 2) × (sum g 4 ≡ g 3 + sum g 3)
+sum_four : (g : ℕ → ℕ) → (sum g 0 ≡ 0) × (sum g 1 ≡ g 0 + sum g 0) × (sum g 2 ≡ g 1 + sum g 1) × (sum g 3 ≡ g 2 + sum g 2) × (sum g 4 ≡ g 3 + sum g 3)
 unfolding sum
-sum-four g = (refl, refl, refl, refl, refl)
+sum_four g = (refl, refl, refl, refl, refl)
 
 module _ (T : List ℕ) (l p : ℕ) where
   -- the nodes that stand before son q
   abbrev pub before : ℕ → ℕ
-  before q = p + 1 + sum (sonsSeen T (l - 1) p) q
+  before q = p + 1 + sum (sons_seen T (l - 1) p) q
 
   -- son q, in its place and seen
   pub record Stands (q : ℕ) : Type 0 where
     pub at : son T p q ≡ before q
     pub node : son T p q < nodes T
     pub up : father T (son T p q) ≡ p
-    pub some : 0 < sonsSeen T (l - 1) p q
+    pub some : 0 < sons_seen T (l - 1) p q
 
   -- the sons below q are passed, and the next node is this one
   pub record Passing (q next : ℕ) : Type 0 where
@@ -97,48 +97,48 @@ module _ (T : List ℕ) (l p : ℕ) where
     pub room : next + 4 ≤ nodes T + q
     pub sons : (j : ℕ) → j < q → Stands j
 
-  pub passing-none : p + 5 ≤ nodes T → Passing 0 (p + 1)
+  pub passing_none : p + 5 ≤ nodes T → Passing 0 (p + 1)
   unfolding sum
-  passing-none h = record { few = omega arith; here = omega arith; room = omega arith; sons = λ j lt. absurd (omega arith) }
+  passing_none h = record { few = omega arith; here = omega arith; room = omega arith; sons = λ j lt. absurd (omega arith) }
 
   -- one son more
   module _ (q s : ℕ) (h : Passing q s) (q4 : q < 4) (named : son T p q ≡ s) (up : father T s ≡ p) where
-    passing-more : (r : ℕ) → r + 4 ≤ nodes T + (q + 1) → s < r → r ≡ s + seenOf T (l - 1) s → Passing (q + 1) r
-    passing-more r le lt e =
+    passing_more : (r : ℕ) → r + 4 ≤ nodes T + (q + 1) → s < r → r ≡ s + seen_of T (l - 1) s → Passing (q + 1) r
+    passing_more r le lt e =
         let node : s < nodes T = omega (arith, h.room) in
-        let part : sonsSeen T (l - 1) p q ≡ seenOf T (l - 1) s = ap (seenOf T (l - 1)) named in
+        let part : sons_seen T (l - 1) p q ≡ seen_of T (l - 1) s = ap (seen_of T (l - 1)) named in
         let stands : Stands q = record { at = named ∙ h.here; node = rw named node; up = rw named up; some = omega (arith, part) } in
         record {
           few = omega arith;
-          here = omega (arith, h.here, part, sum_more (sonsSeen T (l - 1) p) q);
+          here = omega (arith, h.here, part, sum_more (sons_seen T (l - 1) p) q);
           room = le;
           sons = λ j lj. ⊎_elim (λ (d : j ≡ q). rw d stands) (λ (d : j < q). h.sons j d) (eq-or-lt_of_le (le_of_suc-le-suc (omega arith)));
         }
 
-    pub passing-fork : (r : ℕ) → Ordered T (l - 1) s r → (r ≡ 0 → ⊥) → r + 4 ≤ nodes T + (q + 1) → Passing (q + 1) r
-    passing-fork r o z le = passing-more r le (o.seen z).0 (o.seen z).1
+    pub passing_fork : (r : ℕ) → Ordered T (l - 1) s r → (r ≡ 0 → ⊥) → r + 4 ≤ nodes T + (q + 1) → Passing (q + 1) r
+    passing_fork r o z le = passing_more r le (o.seen z).0 (o.seen z).1
 
-    pub passing-leaf : (r : ℕ) → r ≡ s + 1 → isFork T s ≡ false → leafOk T s ≡ true → Passing (q + 1) r
-    passing-leaf r e f ok = passing-more r (omega (arith, h.room)) (omega arith) (omega (arith, seen-leaf T (l - 1) s f ok))
+    pub passing_leaf : (r : ℕ) → r ≡ s + 1 → is_fork T s ≡ false → leaf_ok T s ≡ true → Passing (q + 1) r
+    passing_leaf r e f ok = passing_more r (omega (arith, h.room)) (omega arith) (omega (arith, seen_leaf T (l - 1) s f ok))
 
   in_place : (q : ℕ) → Stands q → SonIn T p q
   in_place q s = record { above = omega (arith, s.at); below = s.node; up = s.up }
 
   -- all four sons passed, and not like leaves
-  pub passed : (next : ℕ) → Passing 4 next → 0 < l → isFork T p ≡ true → likeLeaves T (son T p 0) (son T p 1) (son T p 2) (son T p 3) ≡ false → Ordered T l p next
+  pub passed : (next : ℕ) → Passing 4 next → 0 < l → is_fork T p ≡ true → like_leaves T (son T p 0) (son T p 1) (son T p 2) (son T p 3) ≡ false → Ordered T l p next
   passed next h high f unlike =
-      let g : ℕ → ℕ = sonsSeen T (l - 1) p in
+      let g : ℕ → ℕ = sons_seen T (l - 1) p in
       let a = h.sons 0 (omega arith) in
       let b = h.sons 1 (omega arith) in
       let c = h.sons 2 (omega arith) in
       let d = h.sons 3 (omega arith) in
-      let s = sum-four g in
+      let s = sum_four g in
       let ab : son T p 0 < son T p 1 = omega (arith, a.at, b.at, a.some, s.1) in
       let bc : son T p 1 < son T p 2 = omega (arith, b.at, c.at, b.some, s.2) in
       let cd : son T p 2 < son T p 3 = omega (arith, c.at, d.at, c.some, s.3) in
       let away : (i j : ℕ) → i < j → eqb i j ≡ false = λ i j lt. ne_eqb i j (λ z. omega arith) in
-      let ok = fit-sons T p (record {
-        sons = by-quadrant (SonIn T p) (in_place 0 a) (in_place 1 b) (in_place 2 c) (in_place 3 d);
+      let ok = fit_sons T p (record {
+        sons = by_quadrant (SonIn T p) (in_place 0 a) (in_place 1 b) (in_place 2 c) (in_place 3 d);
         apart = record {
           ab = away (son T p 0) (son T p 1) ab;
           ac = away (son T p 0) (son T p 2) (omega (arith, ab, bc));
@@ -149,32 +149,32 @@ module _ (T : List ℕ) (l p : ℕ) where
         };
         unlike = unlike;
       }) in
-      let e = seen-fork T l p f (λ z. omega arith) ok in
-      let all = added-all g (by-quadrant (λ (q : ℕ). 0 < g q) a.some b.some c.some d.some) in
-      let is : next ≡ p + seenOf T l p = omega (arith, h.here, s.0, s.1, s.2, s.3, s.4, all, e) in
+      let e = seen_fork T l p f (λ z. omega arith) ok in
+      let all = added_all g (by_quadrant (λ (q : ℕ). 0 < g q) a.some b.some c.some d.some) in
+      let is : next ≡ p + seen_of T l p = omega (arith, h.here, s.0, s.1, s.2, s.3, s.4, all, e) in
       record { within = omega (arith, h.room); seen = λ z. (omega (arith, h.here), is) }
 
 -- the loop's turns, in its own values: the word that names the son, and the node after it
 module _ (T : List ℕ) (l p q s count w : ℕ) (h : Passing T l p q s) (q4 : q < 4) (c : ForkOf T count p) (named : w ≡ word T p (q + 1)) (is : w ≡ s) where
-  son-is : son T p q ≡ s
-  son-is = ap (λ (i : ℕ). get_or T i 0) {x = 6 * p + (1 + q)} {y = 6 * p + (q + 1)} (omega arith) ∙ sym named ∙ is
+  son_is : son T p q ≡ s
+  son_is = ap (λ (i : ℕ). get_or T i 0) {x = 6 * p + (1 + q)} {y = 6 * p + (q + 1)} (omega arith) ∙ sym named ∙ is
 
-  pub again-fork : (f r : ℕ) → f ≡ father T s → f ≡ p → Ordered T (l - 1) s r → (r ≡ 0 → ⊥) → r + 4 ≤ count + (q + 1) → Passing T l p (q + 1) r
-  again-fork f r e d o z le = passing-fork T l p q s h q4 son-is (sym e ∙ d) r o z (omega (arith, c.all))
+  pub again_fork : (f r : ℕ) → f ≡ father T s → f ≡ p → Ordered T (l - 1) s r → (r ≡ 0 → ⊥) → r + 4 ≤ count + (q + 1) → Passing T l p (q + 1) r
+  again_fork f r e d o z le = passing_fork T l p q s h q4 son_is (sym e ∙ d) r o z (omega (arith, c.all))
 
-  pub again-pixels : (f r : ℕ) → f ≡ father T s → f ≡ p → l ≡ 2 → (u : Bool) → (u ≡ true → Ordered T 1 s (s + 5)) → not u ≡ false → r ≡ s + 5
+  pub again_pixels : (f r : ℕ) → f ≡ father T s → f ≡ p → l ≡ 2 → (u : Bool) → (u ≡ true → Ordered T 1 s (s + 5)) → not u ≡ false → r ≡ s + 5
       → r + 4 ≤ count + (q + 1) → Passing T l p (q + 1) r
-  again-pixels f r e d two u o t er le = again-fork f r e d (rw (er, two) (o (on u u refl t))) (λ z. omega arith) le
+  again_pixels f r e d two u o t er le = again_fork f r e d (rw (er, two) (o (on u u refl t))) (λ z. omega arith) le
 
-  pub again-leaf : (u : Bool) → u ≡ leafFrom T (6 * s) p → not u ≡ false → Passing T l p (q + 1) (s + 1)
-  again-leaf u e t =
-      let x = leaf-told T s p (on u _ e t) in
-      passing-leaf T l p q s h q4 son-is x.2 (s + 1) refl x.0 x.1
+  pub again_leaf : (u : Bool) → u ≡ leaf_from T (6 * s) p → not u ≡ false → Passing T l p (q + 1) (s + 1)
+  again_leaf u e t =
+      let x = leaf_told T s p (on u _ e t) in
+      passing_leaf T l p q s h q4 son_is x.2 (s + 1) refl x.0 x.1
 
 -- a fork all of whose sons are passed
 module _ (T : List ℕ) (l p q next count : ℕ) (h : Passing T l p q next) (q4 : 4 ≤ q) (c : ForkOf T count p) where
-  pub passed-named : Named T p
-  passed-named = record {
+  pub passed_named : Named T p
+  passed_named = record {
     node = c.node;
     sons = record {
       nw = (h.sons 0 (omega arith)).node;
@@ -186,71 +186,71 @@ module _ (T : List ℕ) (l p q next count : ℕ) (h : Passing T l p q next) (q4 
   }
 
   -- a leaf adds one node
-  leaf-adds : (j : ℕ) → j < 4 → (type T (son T p j) ≡ forkType → ⊥) → sonsSeen T (l - 1) p j ≡ 1
-  leaf-adds j j4 z =
-      omega (arith, (h.sons j (omega arith)).some, leaf-most T (l - 1) (son T p j) (ne_eqb _ forkType z))
+  leaf_adds : (j : ℕ) → j < 4 → (node_type T (son T p j) ≡ fork_type → ⊥) → sons_seen T (l - 1) p j ≡ 1
+  leaf_adds j j4 z =
+      omega (arith, (h.sons j (omega arith)).some, leaf_most T (l - 1) (son T p j) (ne_eqb _ fork_type z))
 
   -- so like leaves end at the fifth node
-  like-fifth : likeLeaves T (son T p 0) (son T p 1) (son T p 2) (son T p 3) ≡ true → next ≡ p + 5
-  unfolding likeLeaves likeTypes
-  like-fifth e =
-      let x = past (eqb (type T (son T p 0)) forkType) _ e in
-      let y = through (eqb (type T (son T p 0)) (type T (son T p 1))) _ x.1 in
-      let z = through (eqb (type T (son T p 0)) (type T (son T p 2))) _ y.1 in
-      let k = eqb-false (type T (son T p 0)) forkType x.0 in
-      let a = leaf-adds 0 (omega arith) k in
-      let b = leaf-adds 1 (omega arith) (λ f. k (eqb-true _ _ y.0 ∙ f)) in
-      let c' = leaf-adds 2 (omega arith) (λ f. k (eqb-true _ _ z.0 ∙ f)) in
-      let d = leaf-adds 3 (omega arith) (λ f. k (eqb-true _ _ z.1 ∙ f)) in
-      let s = sum-four (sonsSeen T (l - 1) p) in
+  like_fifth : like_leaves T (son T p 0) (son T p 1) (son T p 2) (son T p 3) ≡ true → next ≡ p + 5
+  unfolding like_leaves like_types
+  like_fifth e =
+      let x = past (eqb (node_type T (son T p 0)) fork_type) _ e in
+      let y = through (eqb (node_type T (son T p 0)) (node_type T (son T p 1))) _ x.1 in
+      let z = through (eqb (node_type T (son T p 0)) (node_type T (son T p 2))) _ y.1 in
+      let k = eqb-false (node_type T (son T p 0)) fork_type x.0 in
+      let a = leaf_adds 0 (omega arith) k in
+      let b = leaf_adds 1 (omega arith) (λ f. k (eqb-true _ _ y.0 ∙ f)) in
+      let c' = leaf_adds 2 (omega arith) (λ f. k (eqb-true _ _ z.0 ∙ f)) in
+      let d = leaf_adds 3 (omega arith) (λ f. k (eqb-true _ _ z.1 ∙ f)) in
+      let s = sum_four (sons_seen T (l - 1) p) in
       let four : q ≡ 4 = omega (arith, h.few) in
-      let here : next ≡ p + 1 + sum (sonsSeen T (l - 1) p) 4 = rw four at h.here in
+      let here : next ≡ p + 1 + sum (sons_seen T (l - 1) p) 4 = rw four at h.here in
       omega (arith, here, a, b, c', d, s.0, s.1, s.2, s.3, s.4)
 
-  pub passed-told : (u : Bool) → 0 < l → u ≡ needlessFork T p next → u ≡ false → Ordered T l p next
-  unfolding needlessFork
-  passed-told u high e f =
+  pub passed_told : (u : Bool) → 0 < l → u ≡ needless_fork T p next → u ≡ false → Ordered T l p next
+  unfolding needless_fork
+  passed_told u high e f =
       let four : q ≡ 4 = omega (arith, h.few) in
-      passed T l p next (rw four at h) high c.fork (go (likeLeaves T (son T p 0) (son T p 1) (son T p 2) (son T p 3)) refl (sym e ∙ f))
+      passed T l p next (rw four at h) high c.fork (go (like_leaves T (son T p 0) (son T p 1) (son T p 2) (son T p 3)) refl (sym e ∙ f))
     where
-      go : (b : Bool) → likeLeaves T (son T p 0) (son T p 1) (son T p 2) (son T p 3) ≡ b → needlessFork T p next ≡ false → b ≡ false
+      go : (b : Bool) → like_leaves T (son T p 0) (son T p 1) (son T p 2) (son T p 3) ≡ b → needless_fork T p next ≡ false → b ≡ false
       go false d n = refl
-      go true d n = absurd (true≢false (sym (rw (eq-eqb next (p + 5) (like-fifth d), d) refl) ∙ n))
+      go true d n = absurd (true≢false (sym (rw (eq-eqb next (p + 5) (like_fifth d), d) refl) ∙ n))
 
-pub needless-words : (T : List ℕ) (p next a b c d : ℕ) (r : Bool) → next ≡ p + 5 → a ≡ son T p 0 → b ≡ son T p 1 → c ≡ son T p 2 → d ≡ son T p 3
-    → r ≡ likeLeaves T a b c d → r ≡ needlessFork T p next
-unfolding needlessFork
-needless-words T p next a b c d r e ea eb ec ed f = f ∙ rw (eq-eqb next (p + 5) e, ea, eb, ec, ed)
+pub needless_words : (T : List ℕ) (p next a b c d : ℕ) (r : Bool) → next ≡ p + 5 → a ≡ son T p 0 → b ≡ son T p 1 → c ≡ son T p 2 → d ≡ son T p 3
+    → r ≡ like_leaves T a b c d → r ≡ needless_fork T p next
+unfolding needless_fork
+needless_words T p next a b c d r e ea eb ec ed f = f ∙ rw (eq-eqb next (p + 5) e, ea, eb, ec, ed)
 
 -- a fork of four pixels that stand in order
-pub pixels-passed : (T : List ℕ) (p count : ℕ) → ForkOf T count p → p + 5 ≤ count
-    → (u v w x y z b : Bool) → u ≡ twoAre T (6 * p + 1) (p + 1) (p + 2) → not u ≡ false → v ≡ twoAre T (6 * p + 3) (p + 3) (p + 4) → not v ≡ false
-    → w ≡ leafFrom T (6 * p + 6) p → not w ≡ false → x ≡ leafFrom T (6 * p + 12) p → not x ≡ false → y ≡ leafFrom T (6 * p + 18) p → not y ≡ false
-    → z ≡ leafFrom T (6 * p + 24) p → not z ≡ false → b ≡ likeLeaves T (p + 1) (p + 2) (p + 3) (p + 4) → not b ≡ true → Ordered T 1 p (p + 5)
-pixels-passed T p count c room u v w x y z b eu hu ev hv ew hw ex hx ey hy ez hz eb hb =
-    let m = two-told T (6 * p + 1) _ _ (on u _ eu hu) in
-    let k = two-told T (6 * p + 3) _ _ (on v _ ev hv) in
+pub pixels_passed : (T : List ℕ) (p count : ℕ) → ForkOf T count p → p + 5 ≤ count
+    → (u v w x y z b : Bool) → u ≡ two_are T (6 * p + 1) (p + 1) (p + 2) → not u ≡ false → v ≡ two_are T (6 * p + 3) (p + 3) (p + 4) → not v ≡ false
+    → w ≡ leaf_from T (6 * p + 6) p → not w ≡ false → x ≡ leaf_from T (6 * p + 12) p → not x ≡ false → y ≡ leaf_from T (6 * p + 18) p → not y ≡ false
+    → z ≡ leaf_from T (6 * p + 24) p → not z ≡ false → b ≡ like_leaves T (p + 1) (p + 2) (p + 3) (p + 4) → not b ≡ true → Ordered T 1 p (p + 5)
+pixels_passed T p count c room u v w x y z b eu hu ev hv ew hw ex hx ey hy ez hz eb hb =
+    let m = two_told T (6 * p + 1) _ _ (on u _ eu hu) in
+    let k = two_told T (6 * p + 3) _ _ (on v _ ev hv) in
     let at : (i j : ℕ) → i ≡ j → get_or T i 0 ≡ get_or T j 0 = λ i j h. ap (λ (k : ℕ). get_or T k 0) h in
     let n1 : son T p 0 ≡ p + 1 = m.0 in
     let n2 : son T p 1 ≡ p + 2 = at (6 * p + 2) (6 * p + 1 + 1) (omega arith) ∙ m.1 in
     let n3 : son T p 2 ≡ p + 3 = k.0 in
     let n4 : son T p 3 ≡ p + 4 = at (6 * p + 4) (6 * p + 3 + 1) (omega arith) ∙ k.1 in
-    let told : (s i : ℕ) → 6 * s ≡ i → leafFrom T i p ≡ true → (isFork T s ≡ false) × (leafOk T s ≡ true) × (father T s ≡ p) =
-    λ s i h t. leaf-told T s p (rw h t) in
+    let told : (s i : ℕ) → 6 * s ≡ i → leaf_from T i p ≡ true → (is_fork T s ≡ false) × (leaf_ok T s ≡ true) × (father T s ≡ p) =
+    λ s i h t. leaf_told T s p (rw h t) in
     let a = told (p + 1) (6 * p + 6) (omega arith) (on w _ ew hw) in
     let b' = told (p + 2) (6 * p + 12) (omega arith) (on x _ ex hx) in
     let c' = told (p + 3) (6 * p + 18) (omega arith) (on y _ ey hy) in
     let d = told (p + 4) (6 * p + 24) (omega arith) (on z _ ez hz) in
-    let p0 = passing-none T 1 p (omega (arith, c.all)) in
-    let p1 = passing-leaf T 1 p 0 (p + 1) p0 (omega arith) n1 a.2 (p + 2) (omega arith) a.0 a.1 in
-    let p2 = passing-leaf T 1 p 1 (p + 2) p1 (omega arith) n2 b'.2 (p + 3) (omega arith) b'.0 b'.1 in
-    let p3 = passing-leaf T 1 p 2 (p + 3) p2 (omega arith) n3 c'.2 (p + 4) (omega arith) c'.0 c'.1 in
-    let p4 = passing-leaf T 1 p 3 (p + 4) p3 (omega arith) n4 d.2 (p + 5) (omega arith) d.0 d.1 in
+    let p0 = passing_none T 1 p (omega (arith, c.all)) in
+    let p1 = passing_leaf T 1 p 0 (p + 1) p0 (omega arith) n1 a.2 (p + 2) (omega arith) a.0 a.1 in
+    let p2 = passing_leaf T 1 p 1 (p + 2) p1 (omega arith) n2 b'.2 (p + 3) (omega arith) b'.0 b'.1 in
+    let p3 = passing_leaf T 1 p 2 (p + 3) p2 (omega arith) n3 c'.2 (p + 4) (omega arith) c'.0 c'.1 in
+    let p4 = passing_leaf T 1 p 3 (p + 4) p3 (omega arith) n4 d.2 (p + 5) (omega arith) d.0 d.1 in
     passed T 1 p (p + 5) p4 (omega arith) c.fork (rw (n1, n2, n3, n4) (off b _ eb hb))
 
 -- a root from which as many nodes are passed as there are
-pub order-whole : (T : List ℕ) (n count r : ℕ) → count ≡ nodes T → 0 < nodes T → Ordered T n 0 r → r ≡ count → true ≡ eqb (nodes T) (seenOf T n 0)
-order-whole T n count r c some o e = sym (eq-eqb (nodes T) (seenOf T n 0) (omega (arith, (o.seen (λ z. omega arith)).1)))
+pub order_whole : (T : List ℕ) (n count r : ℕ) → count ≡ nodes T → 0 < nodes T → Ordered T n 0 r → r ≡ count → true ≡ eqb (nodes T) (seen_of T n 0)
+order_whole T n count r c some o e = sym (eq-eqb (nodes T) (seen_of T n 0) (omega (arith, (o.seen (λ z. omega arith)).1)))
 
-pub seen-whole : (T : List ℕ) (n count x : ℕ) → count ≡ nodes T → x ≡ seenOf T n 0 → eqb count x ≡ eqb (nodes T) (seenOf T n 0)
-seen-whole T n count x c e = rw (c, e)
+pub seen_whole : (T : List ℕ) (n count x : ℕ) → count ≡ nodes T → x ≡ seen_of T n 0 → eqb count x ≡ eqb (nodes T) (seen_of T n 0)
+seen_whole T n count x c e = rw (c, e)

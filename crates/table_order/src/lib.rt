@@ -2,7 +2,7 @@
 // and each other son the one after all that is below its brother, so each node's number is known before it is read. A
 // table in another order, or of level 1, is left to `table_seen`.
 ghost use Rattle.std.specs.Prelude.{◌≡◌, true, ◌+◌, ◌*◌, ◌<◌, ◌≤◌, length};
-ghost use Rattle.table_order.specs.Order.{twoAre, leafFrom, ForkOf, Named, needlessFork, Ordered};
+ghost use Rattle.table_order.specs.Order.{two_are, leaf_from, ForkOf, Named, needless_fork, Ordered};
 
 use table_node::word_at;
 
@@ -16,7 +16,7 @@ fn joined(first: u32, second: u32) -> u64
 // Whether the two words from i on are these: one comparison for both.
 fn two_are(table: &[u32], i: usize, first: u32, second: u32) -> bool
     requires { i + 2 ≤ length table.now }
-    ensures { result ≡ twoAre table.now i first second }
+    ensures { result ≡ two_are table.now i first second }
 {
     joined(table[i], table[i + 1]) == joined(first, second)
 }
@@ -24,7 +24,7 @@ fn two_are(table: &[u32], i: usize, first: u32, second: u32) -> bool
 // Whether the six words from i on are those of a leaf of that father.
 fn is_leaf_of(table: &[u32], i: usize, father: u32) -> bool
     requires { i + 6 ≤ length table.now }
-    ensures { result ≡ leafFrom table.now i father }
+    ensures { result ≡ leaf_from table.now i father }
 {
     let none = quad::NONE as u32;
     let top = quad::TOP_COLOUR as u32;
@@ -75,7 +75,7 @@ fn pixels(table: &[u32], count: u32, p: u32) -> bool
 // fifth, one of them is a fork.
 fn needless(table: &[u32], p: u32, next: u32) -> bool
     requires { Named table.now p }
-    ensures { result ≡ needlessFork table.now p next }
+    ensures { result ≡ needless_fork table.now p next }
 {
     if next != p + 5 {
         return false;

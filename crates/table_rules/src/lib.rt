@@ -1,9 +1,9 @@
 // The check's slow way, which names the fault: the six rules of document 01 for each node, nodes in rising number.
 ghost use Rattle.std.specs.Prelude.{◌≡◌, true, ◌+◌, ◌<◌, ◌≤◌, eqb, length};
-ghost use Rattle.quad.specs.Numbers.{maxWords};
+ghost use Rattle.quad.specs.Numbers.{max_words};
 ghost use Rattle.table.specs.Table.{nodes, father, son};
-ghost use Rattle.table.specs.Rules.{all_of, one, typeOk, fatherOk, onceOk, sonOk, wordOk, sonsOk, depthOk, sonAlike};
-ghost use Rattle.table.specs.Rules.{mixedOk, faultAt, faulty, faultsOf};
+ghost use Rattle.table.specs.Rules.{all_of, one, type_ok, father_ok, once_ok, son_ok, word_ok, sons_ok, depth_ok, son_alike};
+ghost use Rattle.table.specs.Rules.{mixed_ok, fault_at, faulty, faults_of};
 ghost use Rattle.table.specs.Links.{Rising, SonsIn};
 
 use answer::Outcome;
@@ -12,7 +12,7 @@ use table_node::{depth_to, node_count, word_at};
 // Rule 1.
 fn type_ok(table: &[u32], p: usize) -> bool
     requires { p < nodes table.now }
-    ensures { result ≡ typeOk table.now p }
+    ensures { result ≡ type_ok table.now p }
 {
     quad::is_type(word_at(table, p, 5))
 }
@@ -20,7 +20,7 @@ fn type_ok(table: &[u32], p: usize) -> bool
 // Rule 2.
 fn father_ok(table: &[u32], p: usize) -> bool
     requires { p < nodes table.now }
-    ensures { result ≡ fatherOk table.now p }
+    ensures { result ≡ father_ok table.now p }
 {
     let father = word_at(table, p, 0);
     if p == 0 {
@@ -43,7 +43,7 @@ fn names(table: &[u32], father: usize, q: usize, p: usize) -> u32
 // Rule 3.
 fn once_ok(table: &[u32], p: usize) -> bool
     requires { (p < nodes table.now) × Rising table.now (p + 1) }
-    ensures { result ≡ onceOk table.now p }
+    ensures { result ≡ once_ok table.now p }
 {
     if p == 0 {
         return true;
@@ -59,7 +59,7 @@ fn once_ok(table: &[u32], p: usize) -> bool
 // Rule 4 for one son of a fork.
 fn son_ok(table: &[u32], p: usize, q: usize) -> bool
     requires { (p < nodes table.now) × (q < 4) }
-    ensures { result ≡ sonOk table.now p q }
+    ensures { result ≡ son_ok table.now p q }
 {
     let son = word_at(table, p, 1 + q);
     if son <= p {
@@ -74,7 +74,7 @@ fn son_ok(table: &[u32], p: usize, q: usize) -> bool
 // Rule 4 for one son word.
 fn word_ok(table: &[u32], p: usize, q: usize) -> bool
     requires { (p < nodes table.now) × (q < 4) }
-    ensures { result ≡ wordOk table.now p q }
+    ensures { result ≡ word_ok table.now p q }
 {
     if word_at(table, p, 5) == quad::FORK {
         return son_ok(table, p, q);
@@ -85,7 +85,7 @@ fn word_ok(table: &[u32], p: usize, q: usize) -> bool
 // Rule 4.
 fn sons_ok(table: &[u32], p: usize) -> bool
     requires { p < nodes table.now }
-    ensures { result ≡ sonsOk table.now p }
+    ensures { result ≡ sons_ok table.now p }
 {
     let mut q = 0;
     while q < 4 {
@@ -100,7 +100,7 @@ fn sons_ok(table: &[u32], p: usize) -> bool
 // Rule 5.
 fn depth_ok(n: u32, table: &[u32], p: usize) -> bool
     requires { (p < nodes table.now) × Rising table.now (p + 1) }
-    ensures { result ≡ depthOk n table.now p }
+    ensures { result ≡ depth_ok n table.now p }
 {
     if word_at(table, p, 5) != quad::FORK {
         return true;
@@ -111,7 +111,7 @@ fn depth_ok(n: u32, table: &[u32], p: usize) -> bool
 // Whether the four sons of a fork have the type of the first.
 fn sons_alike(table: &[u32], p: usize) -> bool
     requires { (p < nodes table.now) × SonsIn table.now p }
-    ensures { result ≡ all_of (sonAlike table.now p) 4 0 }
+    ensures { result ≡ all_of (son_alike table.now p) 4 0 }
 {
     let first = word_at(table, p, 1);
     let kind = word_at(table, first, 5);
@@ -128,8 +128,8 @@ fn sons_alike(table: &[u32], p: usize) -> bool
 
 // Rule 6.
 fn mixed_ok(table: &[u32], p: usize) -> bool
-    requires { (p < nodes table.now) × (sonsOk table.now p ≡ true) }
-    ensures { result ≡ mixedOk table.now p }
+    requires { (p < nodes table.now) × (sons_ok table.now p ≡ true) }
+    ensures { result ≡ mixed_ok table.now p }
 {
     if word_at(table, p, 5) != quad::FORK {
         return true;
@@ -144,7 +144,7 @@ fn mixed_ok(table: &[u32], p: usize) -> bool
 // The code of node p's first fault, or 0: rules 1 to 6 in their order.
 fn fault_at(n: u32, table: &[u32], p: usize) -> u32
     requires { (p < nodes table.now) × Rising table.now p }
-    ensures { result ≡ faultAt n table.now p }
+    ensures { result ≡ fault_at n table.now p }
 {
     if !type_ok(table, p) {
         return 3;
@@ -182,8 +182,8 @@ fn fault(code: u32, node: u32) -> Outcome
 
 // The six rules over all nodes in rising number: the first fault, or the node count.
 pub fn first_fault(n: u32, table: &[u32]) -> Outcome
-    requires { length table.now ≤ maxWords }
-    ensures { result ≡ faultsOf n table.now }
+    requires { length table.now ≤ max_words }
+    ensures { result ≡ faults_of n table.now }
 {
     let count = node_count(table);
     let mut p = 0;

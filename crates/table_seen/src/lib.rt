@@ -2,11 +2,11 @@
 // and its four sons are tested there. A node has one father word, so it is seen at most once; the table is sound if all
 // its nodes are seen.
 ghost use Rattle.std.specs.Prelude.{◌≡◌, true, ◌<◌, ◌≤◌, eqb};
-ghost use Rattle.quad.specs.Numbers.{topLevel};
-ghost use Rattle.table.specs.Table.{nodes, isFork};
+ghost use Rattle.quad.specs.Numbers.{top_level};
+ghost use Rattle.table.specs.Table.{nodes, is_fork};
 ghost use Rattle.table.specs.Rules.{Sized};
-ghost use Rattle.table_sound.specs.Seen.{Four, between, different, allAre, fatherOf, fits, forkOk, leafOk, seenOf};
-ghost use Rattle.table_sound.specs.Seen.{soundOf};
+ghost use Rattle.table_sound.specs.Seen.{Four, between, different, all_are, father_of, fits, fork_ok, leaf_ok, seen_of};
+ghost use Rattle.table_sound.specs.Seen.{sound_of};
 
 use table_node::word_at;
 use table_sound::are_like;
@@ -62,8 +62,8 @@ fn all_different(nw: usize, ne: usize, sw: usize, se: usize) -> bool
 }
 
 // Whether four numbers are all this one.
-fn all_are(k: usize, nw: usize, ne: usize, sw: usize, se: usize) -> bool
-    ensures { result ≡ allAre k nw ne sw se }
+fn all_are_lem(k: usize, nw: usize, ne: usize, sw: usize, se: usize) -> bool
+    ensures { result ≡ all_are k nw ne sw se }
 {
     if nw != k {
         return false;
@@ -80,9 +80,9 @@ fn all_are(k: usize, nw: usize, ne: usize, sw: usize, se: usize) -> bool
 // Whether p is the father of four nodes.
 fn is_father(table: &[u32], p: usize, nw: usize, ne: usize, sw: usize, se: usize) -> bool
     requires { Four (nodes table.now) nw ne sw se }
-    ensures { result ≡ fatherOf table.now p nw ne sw se }
+    ensures { result ≡ father_of table.now p nw ne sw se }
 {
-    all_are(
+    all_are_lem(
         p,
         word_at(table, nw, 0),
         word_at(table, ne, 0),
@@ -112,7 +112,7 @@ fn fit(table: &[u32], count: usize, p: usize, nw: usize, ne: usize, sw: usize, s
 // Whether a fork's sons are so.
 fn fork_ok(table: &[u32], count: usize, p: usize) -> bool
     requires { (p < nodes table.now) × (count ≡ nodes table.now) }
-    ensures { result ≡ forkOk table.now p }
+    ensures { result ≡ fork_ok table.now p }
 {
     fit(
         table,
@@ -128,12 +128,12 @@ fn fork_ok(table: &[u32], count: usize, p: usize) -> bool
 // Whether a node is a leaf as the rules want it: of a leaf's type, its son words None.
 fn leaf_ok(table: &[u32], p: usize) -> bool
     requires { p < nodes table.now }
-    ensures { result ≡ leafOk table.now p }
+    ensures { result ≡ leaf_ok table.now p }
 {
     if quad::TOP_COLOUR < word_at(table, p, 5) {
         return false;
     }
-    all_are(
+    all_are_lem(
         quad::NONE,
         word_at(table, p, 1),
         word_at(table, p, 2),
@@ -144,9 +144,9 @@ fn leaf_ok(table: &[u32], p: usize) -> bool
 
 // The nodes seen from a fork downwards, itself among them; 0 where something is wrong.
 fn seen(table: &[u32], count: usize, level: u32, p: usize) -> usize
-    requires { (p < nodes table.now) × (isFork table.now p ≡ true) × (count ≡ nodes table.now)
-        × (level ≤ topLevel) }
-    ensures { result ≡ seenOf table.now level p }
+    requires { (p < nodes table.now) × (is_fork table.now p ≡ true) × (count ≡ nodes table.now)
+        × (level ≤ top_level) }
+    ensures { result ≡ seen_of table.now level p }
 {
     if level == 0 {
         return 0;
@@ -178,8 +178,8 @@ fn seen(table: &[u32], count: usize, level: u32, p: usize) -> usize
 // Whether all nodes are seen from a root that is a fork. A table in preorder, above level 1, is gone through in order,
 // and any other link by link.
 fn all_seen(n: u32, table: &[u32], count: usize) -> bool
-    requires { Sized n table.now × (isFork table.now 0 ≡ true) × (count ≡ nodes table.now) }
-    ensures { result ≡ eqb (nodes table.now) (seenOf table.now n 0) }
+    requires { Sized n table.now × (is_fork table.now 0 ≡ true) × (count ≡ nodes table.now) }
+    ensures { result ≡ eqb (nodes table.now) (seen_of table.now n 0) }
 {
     let all = count as u32;
     if 2 <= n {
@@ -195,7 +195,7 @@ fn all_seen(n: u32, table: &[u32], count: usize) -> bool
 // Whether the table is sound: the root has no father, and all nodes are seen from it.
 pub fn sound(n: u32, table: &[u32]) -> bool
     requires { Sized n table.now }
-    ensures { result ≡ soundOf n table.now }
+    ensures { result ≡ sound_of n table.now }
 {
     if word_at(table, 0, 0) != quad::NONE {
         return false;

@@ -2,9 +2,9 @@
 -- table fast. That they accept exactly the tables with no fault is proved (SoundExactly); no outside statement speaks
 -- of them.
 use Rattle.std.specs.Prelude.{Bool, false, not, cond, List, ℕ, zero, suc, ◌+◌, ◌<◌, leb, ltb, eqb}
-use Rattle.quad.specs.Numbers.{topColour, none}
-use Rattle.quad.specs.Tree.{likeTypes}
-use Rattle.table.specs.Table.{nodes, father, son, type, isFork}
+use Rattle.quad.specs.Numbers.{top_colour, none}
+use Rattle.quad.specs.Tree.{like_types}
+use Rattle.table.specs.Table.{nodes, father, son, node_type, is_fork}
 
 -- four nodes
 pub record Four (N a b c d : ℕ) : Type 0 where
@@ -28,28 +28,28 @@ different a b c d =
     (cond (eqb a c) false (cond (eqb a d) false (cond (eqb b c) false (cond (eqb b d) false (not (eqb c d))))))
 
 -- four numbers that are all k
-unfoldable pub allAre : ℕ → ℕ → ℕ → ℕ → ℕ → Bool
-allAre k a b c d = cond (eqb a k) (cond (eqb b k) (cond (eqb c k) (eqb d k) false) false) false
+unfoldable pub all_are : ℕ → ℕ → ℕ → ℕ → ℕ → Bool
+all_are k a b c d = cond (eqb a k) (cond (eqb b k) (cond (eqb c k) (eqb d k) false) false) false
 
 -- p is the father of four nodes
-unfoldable pub fatherOf : List ℕ → ℕ → ℕ → ℕ → ℕ → ℕ → Bool
-fatherOf T p a b c d = allAre p (father T a) (father T b) (father T c) (father T d)
+unfoldable pub father_of : List ℕ → ℕ → ℕ → ℕ → ℕ → ℕ → Bool
+father_of T p a b c d = all_are p (father T a) (father T b) (father T c) (father T d)
 
 -- four nodes are like leaves
-unfoldable pub likeLeaves : List ℕ → ℕ → ℕ → ℕ → ℕ → Bool
-likeLeaves T a b c d = likeTypes (type T a) (type T b) (type T c) (type T d)
+unfoldable pub like_leaves : List ℕ → ℕ → ℕ → ℕ → ℕ → Bool
+like_leaves T a b c d = like_types (node_type T a) (node_type T b) (node_type T c) (node_type T d)
 
 -- what a fork's four sons must be: different nodes above it whose father it is, and not like leaves
 unfoldable pub fits : List ℕ → ℕ → ℕ → ℕ → ℕ → ℕ → ℕ → Bool
 fits T N p a b c d =
-    cond (between p N a b c d) (cond (different a b c d) (cond (fatherOf T p a b c d) (not (likeLeaves T a b c d)) false) false) false
+    cond (between p N a b c d) (cond (different a b c d) (cond (father_of T p a b c d) (not (like_leaves T a b c d)) false) false) false
 
-unfoldable pub forkOk : List ℕ → ℕ → Bool
-forkOk T p = fits T (nodes T) p (son T p 0) (son T p 1) (son T p 2) (son T p 3)
+unfoldable pub fork_ok : List ℕ → ℕ → Bool
+fork_ok T p = fits T (nodes T) p (son T p 0) (son T p 1) (son T p 2) (son T p 3)
 
 -- a leaf's type, and four son words that are None
-unfoldable pub leafOk : List ℕ → ℕ → Bool
-leafOk T p = cond (ltb topColour (type T p)) false (allAre none (son T p 0) (son T p 1) (son T p 2) (son T p 3))
+unfoldable pub leaf_ok : List ℕ → ℕ → Bool
+leaf_ok T p = cond (ltb top_colour (node_type T p)) false (all_are none (son T p 0) (son T p 1) (son T p 2) (son T p 3))
 
 -- what the k sons from q on add to `all`; 0 where one of them adds nothing
 unfoldable pub added : (ℕ → ℕ) → ℕ → ℕ → ℕ → ℕ
@@ -57,10 +57,10 @@ added g zero q all = all
 added g (suc k) q all = cond (eqb (g q) 0) 0 (added g k (q + 1) (all + g q))
 
 -- the nodes seen from p downwards, p at level l: 0 where something is wrong
-unfoldable pub seenOf : List ℕ → ℕ → ℕ → ℕ
-seenOf T zero p = cond (isFork T p) 0 (cond (leafOk T p) 1 0)
-seenOf T (suc l) p = cond (isFork T p) (cond (forkOk T p) (added (λ q. seenOf T l (son T p q)) 4 0 1) 0) (cond (leafOk T p) 1 0)
+unfoldable pub seen_of : List ℕ → ℕ → ℕ → ℕ
+seen_of T zero p = cond (is_fork T p) 0 (cond (leaf_ok T p) 1 0)
+seen_of T (suc l) p = cond (is_fork T p) (cond (fork_ok T p) (added (λ q. seen_of T l (son T p q)) 4 0 1) 0) (cond (leaf_ok T p) 1 0)
 
 -- the root has no father, and all nodes are seen from it
-unfoldable pub soundOf : ℕ → List ℕ → Bool
-soundOf n T = cond (eqb (father T 0) none) (eqb (nodes T) (seenOf T n 0)) false
+unfoldable pub sound_of : ℕ → List ℕ → Bool
+sound_of n T = cond (eqb (father T 0) none) (eqb (nodes T) (seen_of T n 0)) false

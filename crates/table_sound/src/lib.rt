@@ -2,14 +2,14 @@
 // accepted tables is proved here (`SoundExactly`).
 ghost use Rattle.std.specs.Prelude.{◌≡◌};
 ghost use Rattle.table.specs.Table.{nodes};
-ghost use Rattle.table_sound.specs.Seen.{Four, likeLeaves};
+ghost use Rattle.table_sound.specs.Seen.{Four, like_leaves};
 
 use table_node::word_at;
 
 // Whether four nodes are like leaves.
 pub fn are_like(table: &[u32], nw: usize, ne: usize, sw: usize, se: usize) -> bool
     requires { Four (nodes table.now) nw ne sw se }
-    ensures { result ≡ likeLeaves table.now nw ne sw se }
+    ensures { result ≡ like_leaves table.now nw ne sw se }
 {
     quad::like_leaves(
         word_at(table, nw, 5),

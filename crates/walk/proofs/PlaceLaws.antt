@@ -6,13 +6,13 @@ use Prim.Native.Nat.{ℕ, ◌+◌, ◌-◌, ◌%◌, ◌^◌, ◌≤◌, ◌<◌
 use native.Mathlib.Omega.{arith}
 use lib.Dec.{ltb, leb, eqb}
 use borrow.Author.Tests.{lt-ltb, le-ltb, le-leb, lt-leb, eq-eqb, ne_eqb, ltb-false, leb-false}
-use Rattle.quad.specs.Numbers.{topLevel}
+use Rattle.quad.specs.Numbers.{top_level}
 use Rattle.table.specs.Table.{nodes}
 use Rattle.table.specs.Rules.{Sized}
 use Rattle.walk.specs.declared.Place.{Place}
-use Rattle.walk.specs.Walk.{badPlace}
+use Rattle.walk.specs.Walk.{bad_place}
 use Rattle.walk.specs.Good.{Good}
-use Rattle.walk.proofs.NumberLaws.{same_test, side-le}
+use Rattle.walk.proofs.NumberLaws.{same_test, side_le}
 
 -- an 'or' that fails, fails in both
 pub neither : (a b : Bool) → a || b ≡ false → (a ≡ false) × (b ≡ false)
@@ -21,46 +21,46 @@ neither true b e = absurd (true≢false e)
 
 -- each return of `bad_place`
 module _ (count : ℕ) (p : Place) where
-  pub bad-level : p.n < p.level → true ≡ badPlace count p
-  unfolding badPlace
-  bad-level h = rw (lt-ltb _ _ h)
+  pub bad_level : p.n < p.level → true ≡ bad_place count p
+  unfolding bad_place
+  bad_level h = rw (lt-ltb _ _ h)
 
   module _ (deep : p.level ≤ p.n) where
-    pub bad-node : count ≤ p.node → true ≡ badPlace count p
-    unfolding badPlace
-    bad-node h = rw (le-ltb _ _ deep, le-leb _ _ h)
+    pub bad_node : count ≤ p.node → true ≡ bad_place count p
+    unfolding bad_place
+    bad_node h = rw (le-ltb _ _ deep, le-leb _ _ h)
 
     module _ (here : p.node < count) (whole : ℕ) (e : whole ≡ 2 ^ p.n) where
-      pub bad-x : whole < p.x → true ≡ badPlace count p
-      unfolding badPlace
-      bad-x h = rw (le-ltb _ _ deep, lt-leb _ _ here, ← e, lt-ltb _ _ h)
+      pub bad_x : whole < p.x → true ≡ bad_place count p
+      unfolding bad_place
+      bad_x h = rw (le-ltb _ _ deep, lt-leb _ _ here, ← e, lt-ltb _ _ h)
 
       module _ (xs : p.x ≤ whole) where
-        pub bad-y : whole < p.y → true ≡ badPlace count p
-        unfolding badPlace
-        bad-y h = rw (le-ltb _ _ deep, lt-leb _ _ here, ← e, le-ltb _ _ xs, lt-ltb _ _ h)
+        pub bad_y : whole < p.y → true ≡ bad_place count p
+        unfolding bad_place
+        bad_y h = rw (le-ltb _ _ deep, lt-leb _ _ here, ← e, le-ltb _ _ xs, lt-ltb _ _ h)
 
         module _ (ys : p.y ≤ whole) (own : ℕ) (f : own ≡ 2 ^ p.level) where
-          pub bad-left : (p.left % own ≡ 0 → ⊥) → true ≡ badPlace count p
-          unfolding badPlace
-          bad-left h = rw (le-ltb _ _ deep, lt-leb _ _ here, ← e, le-ltb _ _ xs, le-ltb _ _ ys, ← f, ne_eqb _ _ h)
+          pub bad_left : (p.left % own ≡ 0 → ⊥) → true ≡ bad_place count p
+          unfolding bad_place
+          bad_left h = rw (le-ltb _ _ deep, lt-leb _ _ here, ← e, le-ltb _ _ xs, le-ltb _ _ ys, ← f, ne_eqb _ _ h)
 
-          pub bad-room : p.left % own ≡ 0 → ltb (whole - own) p.left ≡ badPlace count p
-          unfolding badPlace
-          bad-room h =
-              let small = side-le p.n p.level whole own deep e f in
+          pub bad_room : p.left % own ≡ 0 → ltb (whole - own) p.left ≡ bad_place count p
+          unfolding bad_place
+          bad_room h =
+              let small = side_le p.n p.level whole own deep e f in
               rw (le-ltb _ _ deep, lt-leb _ _ here, ← e, le-ltb _ _ xs, le-ltb _ _ ys, ← f, eq-eqb _ _ h)
               (same_test (whole - own) p.left whole (p.left + own) (λ l. omega arith) (λ l. omega arith))
 
 -- what passing them says
-module _ (T : List ℕ) (p : Place) (z : Sized p.n T) (count : ℕ) (bad : Bool) (c : count ≡ nodes T) (b : bad ≡ badPlace count p) (ok : bad ≡ false) where
-  not-bad : badPlace (nodes T) p ≡ false
-  not-bad = rw c at (sym b ∙ ok)
+module _ (T : List ℕ) (p : Place) (z : Sized p.n T) (count : ℕ) (bad : Bool) (c : count ≡ nodes T) (b : bad ≡ bad_place count p) (ok : bad ≡ false) where
+  not_bad : bad_place (nodes T) p ≡ false
+  not_bad = rw c at (sym b ∙ ok)
 
   pub good : Good T p
-  unfolding badPlace
+  unfolding bad_place
   good =
-      let t₁ = neither (ltb p.n p.level) _ not-bad in
+      let t₁ = neither (ltb p.n p.level) _ not_bad in
       let t₂ = neither (leb (nodes T) p.node) _ t₁.1 in
       let t₃ = neither (ltb (2 ^ p.n) p.x) _ t₂.1 in
       let t₄ = neither (ltb (2 ^ p.n) p.y) _ t₃.1 in
@@ -73,8 +73,8 @@ module _ (T : List ℕ) (p : Place) (z : Sized p.n T) (count : ℕ) (bad : Bool)
         room = ltb-false _ _ t₅.1;
       }
 
-  pub level-small : p.level ≤ topLevel
-  level-small = let g = good in omega (arith, g.deep, g.sized.level)
+  pub level_small : p.level ≤ top_level
+  level_small = let g = good in omega (arith, g.deep, g.sized.level)
 
   pub row_in : (whole : ℕ) → whole ≡ 2 ^ p.n → (p.y ≡ whole → ⊥) → p.y < 2 ^ p.n
   row_in whole w ne = let g = good in omega (arith, g.rows)

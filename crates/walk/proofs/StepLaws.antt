@@ -11,14 +11,14 @@ use Rattle.base.proofs.BoolLaws.{and_right, off}
 use Rattle.answer.specs.declared.Outcome.{Outcome}
 use Rattle.answer.specs.declared.Outcome.TheVariants.{BadPlace}
 use Rattle.answer.specs.Numbers.{code_of, value_of, answers}
-use Rattle.quad.specs.Numbers.{topColour, forkType}
-use Rattle.table.specs.Table.{nodes, type, word}
-use Rattle.table.specs.Rules.{sizesOf, Sized}
-use Rattle.table.proofs.CheckLaws.{sizes-good}
+use Rattle.quad.specs.Numbers.{top_colour, fork_type}
+use Rattle.table.specs.Table.{nodes, node_type, word}
+use Rattle.table.specs.Rules.{sizes_of, Sized}
+use Rattle.table.proofs.CheckLaws.{sizes_good}
 use Rattle.walk.specs.declared.Place.{Place}
 use Rattle.walk.specs.declared.Stepped.{Stepped}
 use Rattle.walk.specs.declared.Answer.TheVariants.{Moved, Run, EndRow, Done, Refused}
-use Rattle.walk.specs.Walk.{refuse, badPlace, spans, insideOf, outsideOf, step_of}
+use Rattle.walk.specs.Walk.{refuse, bad_place, spans, inside_of, outside_of, step_of}
 use Rattle.walk.proofs.NumberLaws.{same_test}
 
 -- `refused`
@@ -26,86 +26,86 @@ pub refusal : (p : Place) (o : Outcome) (c v : ℕ) → c ≡ code_of o → v �
 refusal p o c v e f = rw (e, f)
 
 -- `spans_x`
-pub spans-west : (p : Place) → p.x < p.left → false ≡ spans p
-spans-west p h = rw (lt-leb _ _ h)
+pub spans_west : (p : Place) → p.x < p.left → false ≡ spans p
+spans_west p h = rw (lt-leb _ _ h)
 
-pub spans-east : (p : Place) (side : ℕ) → side ≡ 2 ^ p.level → p.left ≤ p.x → ltb (p.x - p.left) side ≡ spans p
-spans-east p side e h = rw (le-leb _ _ h, ← e) (same_test (p.x - p.left) side p.x (p.left + side) (λ l. omega arith) (λ l. omega arith))
+pub spans_east : (p : Place) (side : ℕ) → side ≡ 2 ^ p.level → p.left ≤ p.x → ltb (p.x - p.left) side ≡ spans p
+spans_east p side e h = rw (le-leb _ _ h, ← e) (same_test (p.x - p.left) side p.x (p.left + side) (λ l. omega arith) (λ l. omega arith))
 
 -- what a place whose columns hold x lets `inside` know
 pub held : (p : Place) (holds : Bool) → holds ≡ spans p → holds ≡ true → spans p ≡ true
 held p holds s h = sym s ∙ h
 
-pub before-end : (p : Place) (side k : ℕ) → side ≡ 2 ^ k → p.level ≤ k → spans p ≡ true → p.x ≤ p.left + side
-before-end p side k e d h =
+pub before_end : (p : Place) (side k : ℕ) → side ≡ 2 ^ k → p.level ≤ k → spans p ≡ true → p.x ≤ p.left + side
+before_end p side k e d h =
     let l : p.x < p.left + 2 ^ p.level = ltb-true p.x (p.left + 2 ^ p.level) (and_right (leb p.left p.x) (ltb p.x (p.left + 2 ^ p.level)) h) in
     omega (arith, pow_mono {i = p.level} {j = k} d)
 
 -- `down`
-module _ (T : List ℕ) (p : Place) (fork : type T p.node ≡ forkType) (deep : 0 < p.level) (half : ℕ) (e : half ≡ 2 ^ (p.level - 1)) where
-  pub down-refused : (r : Stepped) (count s : ℕ) → r ≡ refuse p BadPlace → count ≡ nodes T
-      → s ≡ word T p.node (1 + (p.x / half % 2 + 2 * (p.y / half % 2))) → count ≤ s → r ≡ insideOf T p
-  unfolding insideOf
-  down-refused r count s f c w h = rw (fork, ne_eqb p.level 0 (λ q. omega arith), ← e, ← w, ← c, le-leb _ _ h) f
+module _ (T : List ℕ) (p : Place) (fork : node_type T p.node ≡ fork_type) (deep : 0 < p.level) (half : ℕ) (e : half ≡ 2 ^ (p.level - 1)) where
+  pub down_refused : (r : Stepped) (count s : ℕ) → r ≡ refuse p BadPlace → count ≡ nodes T
+      → s ≡ word T p.node (1 + (p.x / half % 2 + 2 * (p.y / half % 2))) → count ≤ s → r ≡ inside_of T p
+  unfolding inside_of
+  down_refused r count s f c w h = rw (fork, ne_eqb p.level 0 (λ q. omega arith), ← e, ← w, ← c, le-leb _ _ h) f
 
-  pub down-moved : (count s : ℕ) → count ≡ nodes T → s ≡ word T p.node (1 + (p.x / half % 2 + 2 * (p.y / half % 2))) → s < count
-      → ◌≡◌ {A = Stepped} (record { place = record { n = p.n; node = s; level = p.level - 1; left = p.left + p.x / half % 2 * half; x = p.x; y = p.y }; answer = Moved }) (insideOf T p)
-  unfolding insideOf
-  down-moved count s c w h = rw (fork, ne_eqb p.level 0 (λ q. omega arith), ← e, ← w, ← c, lt-leb _ _ h)
+  pub down_moved : (count s : ℕ) → count ≡ nodes T → s ≡ word T p.node (1 + (p.x / half % 2 + 2 * (p.y / half % 2))) → s < count
+      → ◌≡◌ {A = Stepped} (record { place = record { n = p.n; node = s; level = p.level - 1; left = p.left + p.x / half % 2 * half; x = p.x; y = p.y }; answer = Moved }) (inside_of T p)
+  unfolding inside_of
+  down_moved count s c w h = rw (fork, ne_eqb p.level 0 (λ q. omega arith), ← e, ← w, ← c, lt-leb _ _ h)
 
 -- `inside`
-module _ (T : List ℕ) (p : Place) (kind : ℕ) (k : kind ≡ type T p.node) where
-  pub inside-run : (side : ℕ) → side ≡ 2 ^ p.level → kind ≤ topColour
-      → ◌≡◌ {A = Stepped} (record { place = record { n = p.n; node = p.node; level = p.level; left = p.left; x = p.left + side; y = p.y }; answer = Run kind (p.left + side - p.x) }) (insideOf T p)
-  unfolding insideOf
-  inside-run side e h = rw (← k, le-leb _ _ h, ← e)
+module _ (T : List ℕ) (p : Place) (kind : ℕ) (k : kind ≡ node_type T p.node) where
+  pub inside_run : (side : ℕ) → side ≡ 2 ^ p.level → kind ≤ top_colour
+      → ◌≡◌ {A = Stepped} (record { place = record { n = p.n; node = p.node; level = p.level; left = p.left; x = p.left + side; y = p.y }; answer = Run kind (p.left + side - p.x) }) (inside_of T p)
+  unfolding inside_of
+  inside_run side e h = rw (← k, le-leb _ _ h, ← e)
 
-  pub inside-no-type : (r : Stepped) → r ≡ refuse p BadPlace → topColour < kind → (kind ≡ forkType → ⊥) → r ≡ insideOf T p
-  unfolding insideOf
-  inside-no-type r f h ne = rw (← k, lt-leb _ _ h, ne_eqb _ _ ne) f
+  pub inside_no_type : (r : Stepped) → r ≡ refuse p BadPlace → top_colour < kind → (kind ≡ fork_type → ⊥) → r ≡ inside_of T p
+  unfolding inside_of
+  inside_no_type r f h ne = rw (← k, lt-leb _ _ h, ne_eqb _ _ ne) f
 
-  pub inside-too-deep : (r : Stepped) → r ≡ refuse p BadPlace → topColour < kind → kind ≡ forkType → p.level ≡ 0 → r ≡ insideOf T p
-  unfolding insideOf
-  inside-too-deep r f h q z = rw (← k, lt-leb _ _ h, eq-eqb _ _ q, eq-eqb _ _ z) f
+  pub inside_too_deep : (r : Stepped) → r ≡ refuse p BadPlace → top_colour < kind → kind ≡ fork_type → p.level ≡ 0 → r ≡ inside_of T p
+  unfolding inside_of
+  inside_too_deep r f h q z = rw (← k, lt-leb _ _ h, eq-eqb _ _ q, eq-eqb _ _ z) f
 
 -- `outside`
 module _ (T : List ℕ) (p : Place) where
-  pub outside-row : p.level ≡ p.n
-      → ◌≡◌ {A = Stepped} (record { place = record { n = p.n; node = p.node; level = p.level; left = p.left; x = 0; y = p.y + 1 }; answer = EndRow }) (outsideOf T p)
-  unfolding outsideOf
-  outside-row h = rw (eq-eqb _ _ h)
+  pub outside_row : p.level ≡ p.n
+      → ◌≡◌ {A = Stepped} (record { place = record { n = p.n; node = p.node; level = p.level; left = p.left; x = 0; y = p.y + 1 }; answer = EndRow }) (outside_of T p)
+  unfolding outside_of
+  outside_row h = rw (eq-eqb _ _ h)
 
   module _ (ne : p.level ≡ p.n → ⊥) (count f : ℕ) (c : count ≡ nodes T) (w : f ≡ word T p.node 0) where
-    pub outside-refused : (r : Stepped) → r ≡ refuse p BadPlace → count ≤ f → r ≡ outsideOf T p
-    unfolding outsideOf
-    outside-refused r q h = rw (ne_eqb _ _ ne, ← w, ← c, le-leb _ _ h) q
+    pub outside_refused : (r : Stepped) → r ≡ refuse p BadPlace → count ≤ f → r ≡ outside_of T p
+    unfolding outside_of
+    outside_refused r q h = rw (ne_eqb _ _ ne, ← w, ← c, le-leb _ _ h) q
 
-    pub outside-moved : (above : ℕ) → above ≡ 2 ^ (p.level + 1) → f < count
-        → ◌≡◌ {A = Stepped} (record { place = record { n = p.n; node = f; level = p.level + 1; left = p.left - p.left % above; x = p.x; y = p.y }; answer = Moved }) (outsideOf T p)
-    unfolding outsideOf
-    outside-moved above e h = rw (ne_eqb _ _ ne, ← w, ← c, lt-leb _ _ h, e)
+    pub outside_moved : (above : ℕ) → above ≡ 2 ^ (p.level + 1) → f < count
+        → ◌≡◌ {A = Stepped} (record { place = record { n = p.n; node = f; level = p.level + 1; left = p.left - p.left % above; x = p.x; y = p.y }; answer = Moved }) (outside_of T p)
+    unfolding outside_of
+    outside_moved above e h = rw (ne_eqb _ _ ne, ← w, ← c, lt-leb _ _ h, e)
 
 -- `step` where the sizes are refused
-pub step-sizes : (T : List ℕ) (p : Place) (o : Outcome) (u : Bool) (r : Stepped) → o ≡ sizesOf p.n T → u ≡ answers o → not u ≡ true → r ≡ refuse p o → r ≡ step_of T p
+pub step_sizes : (T : List ℕ) (p : Place) (o : Outcome) (u : Bool) (r : Stepped) → o ≡ sizes_of p.n T → u ≡ answers o → not u ≡ true → r ≡ refuse p o → r ≡ step_of T p
 unfolding step_of
-step-sizes T p o u r e a h f = rw (← e, off u (answers o) a h) f
+step_sizes T p o u r e a h f = rw (← e, off u (answers o) a h) f
 
 -- `step_in`
-module _ (T : List ℕ) (p : Place) (z : Sized p.n T) (count : ℕ) (bad : Bool) (c : count ≡ nodes T) (b : bad ≡ badPlace count p) where
-  pub step-bad : (r : Stepped) → bad ≡ true → r ≡ refuse p BadPlace → r ≡ step_of T p
+module _ (T : List ℕ) (p : Place) (z : Sized p.n T) (count : ℕ) (bad : Bool) (c : count ≡ nodes T) (b : bad ≡ bad_place count p) where
+  pub step_bad : (r : Stepped) → bad ≡ true → r ≡ refuse p BadPlace → r ≡ step_of T p
   unfolding step_of
-  step-bad r h f = rw (sizes-good p.n T z, ← c, ← b, h) f
+  step_bad r h f = rw (sizes_good p.n T z, ← c, ← b, h) f
 
   module _ (ok : bad ≡ false) (whole : ℕ) (w : whole ≡ 2 ^ p.n) where
-    pub step-done : p.y ≡ whole → ◌≡◌ {A = Stepped} (record { place = p; answer = Done }) (step_of T p)
+    pub step_done : p.y ≡ whole → ◌≡◌ {A = Stepped} (record { place = p; answer = Done }) (step_of T p)
     unfolding step_of
-    step-done h = rw (sizes-good p.n T z, ← c, ← b, ok, ← w, eq-eqb _ _ h)
+    step_done h = rw (sizes_good p.n T z, ← c, ← b, ok, ← w, eq-eqb _ _ h)
 
     module _ (more : p.y ≡ whole → ⊥) (r : Stepped) (holds : Bool) (s : holds ≡ spans p) where
-      pub step-inside : holds ≡ true → r ≡ insideOf T p → r ≡ step_of T p
+      pub step_inside : holds ≡ true → r ≡ inside_of T p → r ≡ step_of T p
       unfolding step_of
-      step-inside h f = rw (sizes-good p.n T z, ← c, ← b, ok, ← w, ne_eqb _ _ more, ← s, h) f
+      step_inside h f = rw (sizes_good p.n T z, ← c, ← b, ok, ← w, ne_eqb _ _ more, ← s, h) f
 
-      pub step-outside : holds ≡ false → r ≡ outsideOf T p → r ≡ step_of T p
+      pub step_outside : holds ≡ false → r ≡ outside_of T p → r ≡ step_of T p
       unfolding step_of
-      step-outside h f = rw (sizes-good p.n T z, ← c, ← b, ok, ← w, ne_eqb _ _ more, ← s, h) f
+      step_outside h f = rw (sizes_good p.n T z, ← c, ← b, ok, ← w, ne_eqb _ _ more, ← s, h) f

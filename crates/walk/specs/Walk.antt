@@ -3,10 +3,10 @@ use Rattle.std.specs.Prelude.{Bool, not, cond, ◌&&◌, ◌||◌, List, ◌≡�
 use Rattle.answer.specs.declared.Outcome.{Outcome}
 use Rattle.answer.specs.declared.Outcome.TheVariants.{BadPlace}
 use Rattle.answer.specs.Numbers.{code_of, value_of, answers}
-use Rattle.quad.specs.Numbers.{topColour, forkType}
-use Rattle.quad.specs.Block.{quadrantOf}
-use Rattle.table.specs.Table.{nodes, father, son, type}
-use Rattle.table.specs.Rules.{sizesOf}
+use Rattle.quad.specs.Numbers.{top_colour, fork_type}
+use Rattle.quad.specs.Block.{quadrant_of}
+use Rattle.table.specs.Table.{nodes, father, son, node_type}
+use Rattle.table.specs.Rules.{sizes_of}
 use Rattle.walk.specs.declared.Place.{Place}
 use Rattle.walk.specs.declared.Stepped.{Stepped}
 use Rattle.walk.specs.declared.Answer.TheVariants.{Moved, Run, EndRow, Done, Refused}
@@ -20,8 +20,8 @@ abbrev pub refuse : Place → Outcome → Stepped
 refuse p o = record { place = p; answer = Refused (code_of o) (value_of o) }
 
 -- level above n, node at or above N, x or y above 2^n, left not a multiple of 2^level, or left + 2^level above 2^n
-unfoldable pub badPlace : ℕ → Place → Bool
-badPlace count p =
+unfoldable pub bad_place : ℕ → Place → Bool
+bad_place count p =
     ltb p.n p.level
     || (leb count p.node
     || (ltb (2 ^ p.n) p.x
@@ -38,27 +38,27 @@ abbrev pub half : Place → ℕ
 half p = 2 ^ (p.level - 1)
 
 -- the son whose quarter holds (x, y): east if x / 2^(level - 1) is odd, south likewise by y
-abbrev pub nextSon : List ℕ → Place → ℕ
-nextSon T p = son T p.node (quadrantOf (p.x / half p) (p.y / half p))
+abbrev pub next_son : List ℕ → Place → ℕ
+next_son T p = son T p.node (quadrant_of (p.x / half p) (p.y / half p))
 
 -- at a node whose columns hold x: a leaf's run, or down to a son
-unfoldable pub insideOf : List ℕ → Place → Stepped
-insideOf T p =
-    cond (leb (type T p.node) topColour)
+unfoldable pub inside_of : List ℕ → Place → Stepped
+inside_of T p =
+    cond (leb (node_type T p.node) top_colour)
     (record {
       place = record { n = p.n; node = p.node; level = p.level; left = p.left; x = p.left + 2 ^ p.level; y = p.y };
-      answer = Run (type T p.node) (p.left + 2 ^ p.level - p.x);
+      answer = Run (node_type T p.node) (p.left + 2 ^ p.level - p.x);
     })
-    (cond (not (eqb (type T p.node) forkType) || (eqb p.level 0 || leb (nodes T) (nextSon T p)))
+    (cond (not (eqb (node_type T p.node) fork_type) || (eqb p.level 0 || leb (nodes T) (next_son T p)))
     (refuse p BadPlace)
     (record {
-      place = record { n = p.n; node = nextSon T p; level = p.level - 1; left = p.left + p.x / half p % 2 * half p; x = p.x; y = p.y };
+      place = record { n = p.n; node = next_son T p; level = p.level - 1; left = p.left + p.x / half p % 2 * half p; x = p.x; y = p.y };
       answer = Moved;
     }))
 
 -- at a node whose columns do not hold x: the row's end at the root's level, else up to the father
-unfoldable pub outsideOf : List ℕ → Place → Stepped
-outsideOf T p =
+unfoldable pub outside_of : List ℕ → Place → Stepped
+outside_of T p =
     cond (eqb p.level p.n)
     (record {
       place = record { n = p.n; node = p.node; level = p.level; left = p.left; x = 0; y = p.y + 1 };
@@ -73,13 +73,13 @@ outsideOf T p =
 
 unfoldable pub step_of : List ℕ → Place → Stepped
 step_of T p =
-    cond (answers (sizesOf p.n T))
-    (cond (badPlace (nodes T) p)
+    cond (answers (sizes_of p.n T))
+    (cond (bad_place (nodes T) p)
     (refuse p BadPlace)
     (cond (eqb p.y (2 ^ p.n))
     (record { place = p; answer = Done })
-    (cond (spans p) (insideOf T p) (outsideOf T p))))
-    (refuse p (sizesOf p.n T))
+    (cond (spans p) (inside_of T p) (outside_of T p))))
+    (refuse p (sizes_of p.n T))
 
 -- the step's promise: r is what the step from p gives
 abbrev pub Steps : List ℕ → Place → Stepped → Type 0

@@ -1,9 +1,9 @@
 // The row walk: a place goes in by value, and the next place comes back beside the answer.
 ghost use Rattle.std.specs.Prelude.{◌≡◌, true, ◌<◌, ◌≤◌, ◌^◌};
-ghost use Rattle.quad.specs.Numbers.{topLevel, forkType};
-ghost use Rattle.table.specs.Table.{type};
+ghost use Rattle.quad.specs.Numbers.{top_level, fork_type};
+ghost use Rattle.table.specs.Table.{node_type};
 ghost use Rattle.table.specs.Rules.{Sized};
-ghost use Rattle.walk.specs.Walk.{start, refuse, badPlace, spans, insideOf, outsideOf, step_of, Steps};
+ghost use Rattle.walk.specs.Walk.{start, refuse, bad_place, spans, inside_of, outside_of, step_of, Steps};
 ghost use Rattle.walk.specs.Good.{Good};
 
 use answer::Outcome;
@@ -11,7 +11,7 @@ use table_check::sizes;
 use table_node::{node_count, word_at};
 
 // Where a walk stands: the sheet's level, a node with its level and the left column of its block, and the next pixel.
-#[derive(Drop)]
+#[derive(Clone, Copy)]
 pub struct Place {
     pub n: u32,
     pub node: u32,
@@ -22,7 +22,7 @@ pub struct Place {
 }
 
 // A step's answer is one of five kinds.
-#[derive(Drop)]
+#[derive(Clone, Copy)]
 pub enum Answer {
     // To the next place's node, along a father or a son link.
     Moved,
@@ -35,7 +35,7 @@ pub enum Answer {
     Refused { code: u32, value: u32 },
 }
 
-#[derive(Drop)]
+#[derive(Clone, Copy)]
 pub struct Stepped {
     pub place: Place,
     pub answer: Answer,
@@ -70,8 +70,8 @@ fn refused(p: Place, o: Outcome) -> Stepped
 
 // Whether the place is none, for a table of count nodes.
 fn bad_place(p: Place, count: usize) -> bool
-    requires { p.n ≤ topLevel }
-    ensures { result ≡ badPlace count p }
+    requires { p.n ≤ top_level }
+    ensures { result ≡ bad_place count p }
 {
     let level = p.level;
     if p.n < level {
@@ -96,7 +96,7 @@ fn bad_place(p: Place, count: usize) -> bool
 
 // Whether the columns of the place's block hold x.
 fn spans_x(p: Place) -> bool
-    requires { p.level ≤ topLevel }
+    requires { p.level ≤ top_level }
     ensures { result ≡ spans p }
 {
     if p.x < p.left {
@@ -107,8 +107,8 @@ fn spans_x(p: Place) -> bool
 
 // At a fork whose columns hold x: to the son whose quarter holds (x, y).
 fn down(p: Place, table: &[u32]) -> Stepped
-    requires { Good table.now p × (type table.now p.node ≡ forkType) × (0 < p.level) }
-    ensures { result ≡ insideOf table.now p }
+    requires { Good table.now p × (node_type table.now p.node ≡ fork_type) × (0 < p.level) }
+    ensures { result ≡ inside_of table.now p }
 {
     let level = p.level - 1;
     let half = quad::side(level);
@@ -134,7 +134,7 @@ fn down(p: Place, table: &[u32]) -> Stepped
 // At a node whose columns hold x: a leaf's run, or down to a son.
 fn inside(p: Place, table: &[u32]) -> Stepped
     requires { Good table.now p × (spans p ≡ true) }
-    ensures { result ≡ insideOf table.now p }
+    ensures { result ≡ inside_of table.now p }
 {
     let kind = word_at(table, p.node as usize, 5);
     if kind <= quad::TOP_COLOUR {
@@ -166,7 +166,7 @@ fn inside(p: Place, table: &[u32]) -> Stepped
 // Past its columns: the row's end at the root's level, else up to the father.
 fn outside(p: Place, table: &[u32]) -> Stepped
     requires { Good table.now p × (p.y < 2 ^ p.n) }
-    ensures { result ≡ outsideOf table.now p }
+    ensures { result ≡ outside_of table.now p }
 {
     let level = p.level;
     if level == p.n {

@@ -4,10 +4,10 @@
 -- with the place that it comes with: nothing here speaks of how a step is worked out.
 use Rattle.std.specs.Prelude.{false, ◌⊎◌, ◌≡◌, ℕ, ◌+◌, ◌*◌, ◌^◌, ◌≤◌, ◌<◌, replicate}
 use mathlib.Core.List.{List, [], ◌∷◌, ◌++◌, map, Memᴰ}
-use Rattle.quad.specs.Numbers.{topColour}
-use Rattle.quad.specs.Tree.{sidesOf}
-use Rattle.table.specs.Table.{nodes, father, son, type, isFork}
-use Rattle.table.specs.Nodes.{treeAt, side_of, left_of, top_of}
+use Rattle.quad.specs.Numbers.{top_colour}
+use Rattle.quad.specs.Tree.{sides_of}
+use Rattle.table.specs.Table.{nodes, father, son, node_type, is_fork}
+use Rattle.table.specs.Nodes.{tree_at, side_of, left_of, top_of}
 use Rattle.walk.specs.declared.Place.{Place}
 use Rattle.walk.specs.declared.Stepped.{Stepped}
 use Rattle.walk.specs.declared.Answer.{Answer}
@@ -21,7 +21,7 @@ In p ps = Memᴰ p ps
 -- p is a leaf whose block row y crosses: the block's rows contain y
 pub record Crossed (n : ℕ) (T : List ℕ) (y p : ℕ) : Type 0 where
   pub node : p < nodes T
-  pub leaf : isFork T p ≡ false
+  pub leaf : is_fork T p ≡ false
   pub from : top_of n T p ≤ y
   pub to : y < top_of n T p + side_of n T p
 
@@ -38,7 +38,7 @@ pub record RowLeaves (n : ℕ) (T : List ℕ) (y : ℕ) (ps : List ℕ) : Type 0
 
 -- a leaf's run: its colour, and for its width its side
 abbrev pub run_of : ℕ → List ℕ → ℕ → Answer
-run_of n T p = Run (type T p) (side_of n T p)
+run_of n T p = Run (node_type T p) (side_of n T p)
 
 -- these are the runs of row y: one for each of its leaves
 pub record RowRuns (n : ℕ) (T : List ℕ) (y : ℕ) (row : List Answer) : Type 0 where
@@ -53,23 +53,23 @@ EachRow P n y [] = y ≡ 2 ^ n
 EachRow P n y (row ∷ rows) = (y < 2 ^ n) × P y row × EachRow P n (y + 1) rows
 
 -- the runs among a walk's answers, row by row, where `row` holds those of the row so far: a row ends with EndRow
-unfoldable pub rowsIn : List Answer → List Answer → List (List Answer)
-rowsIn row [] = []
-rowsIn row (Moved ∷ more) = rowsIn row more
-rowsIn row (Run c w ∷ more) = rowsIn (row ++ (Run c w ∷ [])) more
-rowsIn row (EndRow ∷ more) = row ∷ rowsIn [] more
-rowsIn row (Done ∷ more) = rowsIn row more
-rowsIn row (Refused c v ∷ more) = rowsIn row more
+unfoldable pub rows_in : List Answer → List Answer → List (List Answer)
+rows_in row [] = []
+rows_in row (Moved ∷ more) = rows_in row more
+rows_in row (Run c w ∷ more) = rows_in (row ++ (Run c w ∷ [])) more
+rows_in row (EndRow ∷ more) = row ∷ rows_in [] more
+rows_in row (Done ∷ more) = rows_in row more
+rows_in row (Refused c v ∷ more) = rows_in row more
 
 -- the nodes where the walk stands when it tells a run, row by row
-unfoldable pub leavesIn : List ℕ → List Stepped → List (List ℕ)
-leavesIn row [] = []
-leavesIn row (s ∷ more) = elim s.answer [
-  | Moved ↦ leavesIn row more
-  | Run c w ↦ leavesIn (row ++ (s.place.node ∷ [])) more
-  | EndRow ↦ row ∷ leavesIn [] more
-  | Done ↦ leavesIn row more
-  | Refused c v ↦ leavesIn row more
+unfoldable pub leaves_in : List ℕ → List Stepped → List (List ℕ)
+leaves_in row [] = []
+leaves_in row (s ∷ more) = elim s.answer [
+  | Moved ↦ leaves_in row more
+  | Run c w ↦ leaves_in (row ++ (s.place.node ∷ [])) more
+  | EndRow ↦ row ∷ leaves_in [] more
+  | Done ↦ leaves_in row more
+  | Refused c v ↦ leaves_in row more
 ]
 
 -- what runs spell out: each colour as often as its run is wide
@@ -96,12 +96,12 @@ runs EndRow = 0
 runs Done = 0
 runs (Refused c v) = 0
 
-abbrev pub rowEnds : Answer → ℕ
-rowEnds Moved = 0
-rowEnds (Run c w) = 0
-rowEnds EndRow = 1
-rowEnds Done = 0
-rowEnds (Refused c v) = 0
+abbrev pub row_ends : Answer → ℕ
+row_ends Moved = 0
+row_ends (Run c w) = 0
+row_ends EndRow = 1
+row_ends Done = 0
+row_ends (Refused c v) = 0
 
 -- Done, or refused
 abbrev pub stops : Answer → ℕ
@@ -132,7 +132,7 @@ Linked T p q = (q ≡ father T p) ⊎ ((k : ℕ) × (k < 4) × (q ≡ son T p k)
 -- table's and so never None, and nothing else changes the node; a Run has the colour of the leaf where the walk stands
 abbrev pub Tells : List ℕ → Place → Answer → Place → Type 0
 Tells T p Moved q = Linked T p.node q.node × (q.node < nodes T)
-Tells T p (Run c w) q = (q.node ≡ p.node) × (type T p.node ≡ c) × (c ≤ topColour)
+Tells T p (Run c w) q = (q.node ≡ p.node) × (node_type T p.node ≡ c) × (c ≤ top_colour)
 Tells T p EndRow q = q.node ≡ p.node
 Tells T p Done q = q.node ≡ p.node
 Tells T p (Refused c v) q = q.node ≡ p.node
@@ -142,20 +142,20 @@ unfoldable pub Honest : List ℕ → Place → List Stepped → Type 0
 Honest T p [] = Unit {0}
 Honest T p (s ∷ more) = Tells T p s.answer s.place × Honest T s.place more
 
-abbrev pub answersOf : List Stepped → List Answer
-answersOf told = map (λ s. s.answer) told
+abbrev pub answers_of : List Stepped → List Answer
+answers_of told = map (λ s. s.answer) told
 
 -- H, the sum of the sides of all leaves: added up over the tree, and the same over the table's own leaves
--- (`sides-summed`, proofs/CountLaws)
+-- (`sides_summed`, proofs/CountLaws)
 abbrev pub sides : ℕ → List ℕ → ℕ
-sides n T = sidesOf n (treeAt T n 0)
+sides n T = sides_of n (tree_at T n 0)
 
 -- demand 3, of the steps before the first Done that someone claims for a walk from the start place
 pub record Demanded (n : ℕ) (T : List ℕ) (told : List Stepped) : Type 0 where
   pub honest : Honest T (start n) told
-  pub rows : EachRow (RowRuns n T) n 0 (rowsIn [] (answersOf told))
-  pub stood : EachRow (RowLeaves n T) n 0 (leavesIn [] told)
-  pub moved : tally moves (answersOf told) + 4 * 2 ^ n ≡ 4 * sides n T
-  pub ran : tally runs (answersOf told) ≡ sides n T
-  pub ended : tally rowEnds (answersOf told) ≡ 2 ^ n
-  pub unbroken : tally stops (answersOf told) ≡ 0
+  pub rows : EachRow (RowRuns n T) n 0 (rows_in [] (answers_of told))
+  pub stood : EachRow (RowLeaves n T) n 0 (leaves_in [] told)
+  pub moved : tally moves (answers_of told) + 4 * 2 ^ n ≡ 4 * sides n T
+  pub ran : tally runs (answers_of told) ≡ sides n T
+  pub ended : tally row_ends (answers_of told) ≡ 2 ^ n
+  pub unbroken : tally stops (answers_of told) ≡ 0

@@ -2,9 +2,9 @@
 -- block crossed from left to right, then its end (document 003, the second algorithm). In document 01's words
 -- specs/Rows says what these answers must be.
 use Rattle.std.specs.Prelude.{List, [], ◌∷◌, ◌++◌, ◌≡◌, ℕ, zero, suc, ◌+◌, ◌-◌, ◌/◌, ◌^◌}
-use Rattle.quad.specs.Block.{quadrantOf}
-use Rattle.quad.specs.Tree.{Tree, leaf, fork, colour, sonOf}
-use Rattle.table.specs.Nodes.{treeAt}
+use Rattle.quad.specs.Block.{quadrant_of}
+use Rattle.quad.specs.Tree.{Tree, leaf, fork, colour, son_of}
+use Rattle.table.specs.Nodes.{tree_at}
 use Rattle.walk.specs.declared.Place.{Place}
 use Rattle.walk.specs.declared.Stepped.{Stepped}
 use Rattle.walk.specs.declared.Answer.{Answer}
@@ -48,18 +48,18 @@ crossing zero t y = Run (colour t) 1 ∷ []
 crossing (suc l) t y = elim t [
   | leaf c ↦ Run c (2 ^ suc l) ∷ []
   | fork a b c d ↦
-      through (crossing l (sonOf (fork a b c d) (quadrantOf 0 (y / 2 ^ l))) y)
-      ++ through (crossing l (sonOf (fork a b c d) (quadrantOf 1 (y / 2 ^ l))) y)
+      through (crossing l (son_of (fork a b c d) (quadrant_of 0 (y / 2 ^ l))) y)
+      ++ through (crossing l (son_of (fork a b c d) (quadrant_of 1 (y / 2 ^ l))) y)
 ]
 
 -- the answers of k rows from row y on
-unfoldable pub rowsWalk : ℕ → Tree → ℕ → ℕ → List Answer
-rowsWalk n t zero y = []
-rowsWalk n t (suc k) y = crossing n t y ++ (EndRow ∷ rowsWalk n t k (y + 1))
+unfoldable pub rows_walk : ℕ → Tree → ℕ → ℕ → List Answer
+rows_walk n t zero y = []
+rows_walk n t (suc k) y = crossing n t y ++ (EndRow ∷ rows_walk n t k (y + 1))
 
 -- the answers of a walk over the sheet from row y on, before the first Done; and of the whole walk
-abbrev pub walkFrom : ℕ → List ℕ → ℕ → List Answer
-walkFrom n T y = rowsWalk n (treeAt T n 0) (2 ^ n - y) y
+abbrev pub walk_from : ℕ → List ℕ → ℕ → List Answer
+walk_from n T y = rows_walk n (tree_at T n 0) (2 ^ n - y) y
 
-abbrev pub wholeWalk : ℕ → List ℕ → List Answer
-wholeWalk n T = rowsWalk n (treeAt T n 0) (2 ^ n) 0
+abbrev pub whole_walk : ℕ → List ℕ → List Answer
+whole_walk n T = rows_walk n (tree_at T n 0) (2 ^ n) 0

@@ -3,8 +3,8 @@
 -- sons left. Assumes nothing.
 use mathlib.Core.Path.{refl}
 use native.Mathlib.Omega.{arith}
-use Rattle.table.proofs.AcceptedLaws.{fork-above}
-use Rattle.distance_fill.proofs.HandedLaws.{Filling, filling-none, filling-all, fork-son, filling-fork, filling-leaf, handed-nodes, son-fork-at, son-handed-at, fills-at, handed-half, son-fork, son-leaf}
+use Rattle.table.proofs.AcceptedLaws.{fork_above}
+use Rattle.distance_fill.proofs.HandedLaws.{Filling, filling_none, filling_all, fork_son, filling_fork, filling_leaf, handed_nodes, son_fork_at, son_handed_at, fills_at, handed_half, son_fork, son_leaf}
 use Prim.Native.Nat.{ℕ, ◌+◌, ◌-◌, ◌*◌, ◌<◌}
 use borrow.Fn.Kinds.{In}
 use borrow.Fn.PlainCycle.{Measures, is, falls, and}
@@ -54,29 +54,29 @@ below-word-at-requires t c κs = (c.before.before.requires.1.0.at.place.node, om
 below-four-pixels-requires : (t : ℕ) → below-lts.Need-four-pixels-requires (below-calls t) (below_at t) below.Post
 below-four-pixels-requires t c κs =
     let s = c.before.before.before.before.before in
-    (son-fork-at s.args.level s.requires.1.0 s.args.quadrant s.requires.1.1 s.requires.1.2 _ _ c.before.before.word_at.ensures c.before.if1.true, s.requires.1.3)
+    (son_fork_at s.args.level s.requires.1.0 s.args.quadrant s.requires.1.1 s.requires.1.2 _ _ c.before.before.word_at.ensures c.before.if1.true, s.requires.1.3)
 
 below-same-length : (t : ℕ) → below-lts.Need-same-length (below-calls t) (below_at t) below.Post
 below-same-length t c = c.before.before.four-pixels.ensures.same
 
 below-returns : (t : ℕ) → below-lts.Need-returns (below-calls t) (below_at t) below.Post
-below-returns t c = fills-at _ _ _ _ _ _ _ _ c.before.before.before.before.before.word_at.ensures c.before.before.before.before.if1.true c.before.before.four-pixels.ensures
+below-returns t c = fills_at _ _ _ _ _ _ _ _ c.before.before.before.before.before.word_at.ensures c.before.before.before.before.if1.true c.before.before.four-pixels.ensures
 
 below-of-son-requires : (t : ℕ) → below-lts.Need-of-son-requires (below-calls t) (below_at t) below.Post
 below-of-son-requires t c κs =
     let s = c.before.before.before.before.before in
-    (s.requires.1.0.at.place.node, s.requires.1.1, handed-nodes _ s.requires.1.0, refl)
+    (s.requires.1.0.at.place.node, s.requires.1.1, handed_nodes _ s.requires.1.0, refl)
 
 below-sons-requires : (t : ℕ) → below-lts.Need-sons-requires (below-calls t) (below_at t) below.Post
 below-sons-requires t c κs =
     let s = c.before.before.before.before.before.before.before.before in
-    (omega (arith, s.requires.0), (son-handed-at s.args.level s.requires.1.0 s.args.quadrant s.requires.1.1 s.requires.1.2 _ _ c.before.before.before.before.before.word_at.ensures c.before.before.of-son.ensures, s.requires.1.3))
+    (omega (arith, s.requires.0), (son_handed_at s.args.level s.requires.1.0 s.args.quadrant s.requires.1.1 s.requires.1.2 _ _ c.before.before.before.before.before.word_at.ensures c.before.before.of-son.ensures, s.requires.1.3))
 
 below-same-length-2 : (t : ℕ) → below-lts.Need-same-length-2 (below-calls t) (below_at t) below.Post
 below-same-length-2 t c = c.before.before.sons.ensures.same
 
 below-returns-2 : (t : ℕ) → below-lts.Need-returns-2 (below-calls t) (below_at t) below.Post
-below-returns-2 t c = fills-at _ _ _ _ _ _ _ _ c.before.before.before.before.before.before.before.before.word_at.ensures refl c.before.before.sons.ensures
+below-returns-2 t c = fills_at _ _ _ _ _ _ _ _ c.before.before.before.before.before.before.before.before.word_at.ensures refl c.before.before.sons.ensures
 
 abbrev sons-Inv-loop : sons-lts.invariant-loop
 sons-Inv-loop n table p level near out₀ half q₀ out q = Filling n table out₀ out level p q
@@ -91,10 +91,10 @@ sons-slice-write-out : (t : ℕ) → sons-lts.Need-slice-write-out (sons-calls t
 sons-slice-write-out t c = omega (arith, c.before.before.requires.1.0.at.place.node, c.before.before.requires.1.1)
 
 sons-sub-half : (t : ℕ) → sons-lts.Need-overflow-sub-half (sons-calls t) (sons-at t) sons.Post sons-Inv-loop sons-μ-loop
-sons-sub-half t c = omega (arith, fork-above c.before.before.requires.1.0.at.place c.before.before.requires.1.0.at.fork)
+sons-sub-half t c = omega (arith, fork_above c.before.before.requires.1.0.at.place c.before.before.requires.1.0.at.fork)
 
 sons-loop-holds : (t : ℕ) → sons-lts.Need-loop-init (sons-calls t) (sons-at t) sons.Post sons-Inv-loop sons-μ-loop
-sons-loop-holds t c = filling-none _ _ c.before.before.args.out.now _ _ c.before.before.requires.1.0.at c.before.before.requires.1.1
+sons-loop-holds t c = filling_none _ _ c.before.before.args.out.now _ _ c.before.before.requires.1.0.at c.before.before.requires.1.1
 
 sons-add-q : (t : ℕ) → sons-lts.Need-overflow-add-q (sons-calls t) (sons-at t) sons.Post sons-Inv-loop sons-μ-loop
 sons-add-q t c = omega arith
@@ -106,32 +106,32 @@ sons-word-at-requires : (t : ℕ) → sons-lts.Need-word-at-requires (sons-calls
 sons-word-at-requires t c κs = (c.before.before.before.before.requires.1.0.at.place.node, omega arith)
 
 sons-word-at-requires-2 : (t : ℕ) → sons-lts.Need-word-at-requires-2 (sons-calls t) (sons-at t) sons.Post sons-Inv-loop sons-μ-loop
-sons-word-at-requires-2 t c κs = (fork-son c.before.before.before.before.before.requires.1.0.at c.before.before.loop.q _ (omega arith) c.word_at.ensures, omega arith)
+sons-word-at-requires-2 t c κs = (fork_son c.before.before.before.before.before.requires.1.0.at c.before.before.loop.q _ (omega arith) c.word_at.ensures, omega arith)
 
 sons-below-requires : (t : ℕ) → sons-lts.Need-below-requires (sons-calls t) (sons-at t) sons.Post sons-Inv-loop sons-μ-loop
 sons-below-requires t c κs =
     let s = c.before.before.before.before.before.before.before.before in
     let l = c.before.before.before.before.before in
-    (omega (arith, s.requires.0, fork-above s.requires.1.0.at.place s.requires.1.0.at.fork), (handed-half s.requires.1.0, omega arith, son-fork s.args.table.now s.args.p l.loop.q _ _ c.before.before.before.word_at.ensures c.before.before.word-at2.ensures c.before.if1.true, l.loop.invariant.long))
+    (omega (arith, s.requires.0, fork_above s.requires.1.0.at.place s.requires.1.0.at.fork), (handed_half s.requires.1.0, omega arith, son_fork s.args.table.now s.args.p l.loop.q _ _ c.before.before.before.word_at.ensures c.before.before.word-at2.ensures c.before.if1.true, l.loop.invariant.long))
 
 sons-loop-less : (t : ℕ) → sons-lts.Need-loop-smaller (sons-calls t) (sons-at t) sons.Post sons-Inv-loop sons-μ-loop
 sons-loop-less t c = omega arith
 
 sons-loop-again : (t : ℕ) → sons-lts.Need-loop-preserved (sons-calls t) (sons-at t) sons.Post sons-Inv-loop sons-μ-loop
-sons-loop-again t c = filling-fork c.before.before.before.before.before.before.before.before.before.before.before.requires.1.0.at c.before.before.before.before.before.before.before.before.loop.invariant (omega arith) _ c.before.before.below.ensures
+sons-loop-again t c = filling_fork c.before.before.before.before.before.before.before.before.before.before.before.requires.1.0.at c.before.before.before.before.before.before.before.before.loop.invariant (omega arith) _ c.before.before.below.ensures
 
 sons-leaf-distance-requires : (t : ℕ) → sons-lts.Need-leaf-distance-requires (sons-calls t) (sons-at t) sons.Post sons-Inv-loop sons-μ-loop
 sons-leaf-distance-requires t c κs =
     let s = c.before.before.before.before.before.before.before in
-    (handed-half s.requires.1.0, omega arith, son-leaf s.args.table.now s.args.p c.before.before.before.before.loop.q _ _ c.before.before.word_at.ensures c.before.word-at2.ensures c.if1.false)
+    (handed_half s.requires.1.0, omega arith, son_leaf s.args.table.now s.args.p c.before.before.before.before.loop.q _ _ c.before.before.word_at.ensures c.before.word-at2.ensures c.if1.false)
 
 sons-mul-out-2 : (t : ℕ) → sons-lts.Need-overflow-mul-out-2 (sons-calls t) (sons-at t) sons.Post sons-Inv-loop sons-μ-loop
-sons-mul-out-2 t c = omega (arith, fork-son c.before.before.before.before.before.before.before.before.requires.1.0.at c.before.before.before.before.before.loop.q _ (omega arith) c.before.before.before.word_at.ensures)
+sons-mul-out-2 t c = omega (arith, fork_son c.before.before.before.before.before.before.before.before.requires.1.0.at c.before.before.before.before.before.loop.q _ (omega arith) c.before.before.before.word_at.ensures)
 
 sons-slice-write-out-2 : (t : ℕ) → sons-lts.Need-slice-write-out-2 (sons-calls t) (sons-at t) sons.Post sons-Inv-loop sons-μ-loop
 sons-slice-write-out-2 t c =
     let s = c.before.before.before.before.before in
-    omega (arith, fork-son c.before.before.before.before.before.before.before.before.requires.1.0.at s.loop.q _ (omega arith) c.before.before.before.word_at.ensures, s.loop.invariant.long)
+    omega (arith, fork_son c.before.before.before.before.before.before.before.before.requires.1.0.at s.loop.q _ (omega arith) c.before.before.before.word_at.ensures, s.loop.invariant.long)
 
 sons-loop-less-2 : (t : ℕ) → sons-lts.Need-loop-smaller-2 (sons-calls t) (sons-at t) sons.Post sons-Inv-loop sons-μ-loop
 sons-loop-less-2 t c = omega arith
@@ -140,13 +140,13 @@ sons-loop-again-2 : (t : ℕ) → sons-lts.Need-loop-preserved-2 (sons-calls t) 
 sons-loop-again-2 t c =
     let s = c.before.before.before.before.before.before.before.before in
     let l = c.before.before.before.before.before in
-    filling-leaf s.requires.1.0.at l.loop.invariant (omega arith) _ _ c.before.before.before.word_at.ensures (son-leaf s.args.table.now s.args.p l.loop.q _ _ c.before.before.before.word_at.ensures c.before.before.word-at2.ensures c.before.if1.false) c.leaf-distance.ensures
+    filling_leaf s.requires.1.0.at l.loop.invariant (omega arith) _ _ c.before.before.before.word_at.ensures (son_leaf s.args.table.now s.args.p l.loop.q _ _ c.before.before.before.word_at.ensures c.before.before.word-at2.ensures c.before.if1.false) c.leaf-distance.ensures
 
 sons-same-length : (t : ℕ) → sons-lts.Need-same-length (sons-calls t) (sons-at t) sons.Post sons-Inv-loop sons-μ-loop
 sons-same-length t c = omega (arith, c.before.loop.invariant.long, c.before.before.before.before.requires.1.1)
 
 sons-returns : (t : ℕ) → sons-lts.Need-returns (sons-calls t) (sons-at t) sons.Post sons-Inv-loop sons-μ-loop
-sons-returns t c = filling-all _ _ _ _ _ c.before.before.before.before.requires.1.0.at c.before.before.before.before.requires.1.1 _ _ (omega arith) c.before.loop.invariant
+sons-returns t c = filling_all _ _ _ _ _ c.before.before.before.before.requires.1.0.at c.before.before.before.before.requires.1.1 _ _ (omega arith) c.before.loop.invariant
 
 pub +below-sons-spec : {M : Type 1} → statement M
 +below-sons-spec = close μ-below μ-sons (λ t. below-lts.spec (below-calls t)

@@ -1,6 +1,6 @@
 -- `distance_fill::distances`: the tests, and the words only where they are passed. Assumes nothing.
 use borrow.Author.Rules.{rules}
-use Rattle.table.proofs.CheckLaws.{each-node-call}
+use Rattle.table.proofs.CheckLaws.{each_node_call}
 use Rattle.distance_fill.proofs.CallLaws.{refused, filled}
 use Rattle.distance_fill.proofs.distances.Statement.{statement}
 use Rattle.distance_fill.proofs.distances.Tie as tie
@@ -15,7 +15,7 @@ returns : tie.Need-returns
 returns c = search (refused, rules)
 
 fill-requires : tie.Need-fill-requires
-fill-requires c κs = each-node-call _ _ _ _ _ c.before.before.before.each-node.ensures c.before.before.answered.ensures c.before.if1.false
+fill-requires c κs = each_node_call _ _ _ _ _ c.before.before.before.each-node.ensures c.before.before.answered.ensures c.before.if1.false
 
 same_length : tie.Need-same-length
 same_length c = search rules

@@ -2,7 +2,7 @@
 -- the distance. Assumes nothing.
 use mathlib.Core.Path.{refl}
 use native.Mathlib.Omega.{arith}
-use Rattle.distance_fill.proofs.HandedLaws.{fork-son, handed-nodes, leaf-white, leaf-asks, leaf-edge, leaf-word}
+use Rattle.distance_fill.proofs.HandedLaws.{fork_son, handed_nodes, leaf_white, leaf_asks, leaf_edge, leaf_word}
 use borrow.Author.Rules.{rules}
 use Rattle.distance_fill.proofs.leaf_distance.Statement.{statement}
 use Rattle.distance_fill.proofs.leaf_distance.Tie as tie
@@ -14,17 +14,17 @@ word-at-requires : tie.Need-word-at-requires
 word-at-requires c κs = search rules
 
 word-at-requires-2 : tie.Need-word-at-requires-2
-word-at-requires-2 c κs = (fork-son c.before.before.requires.0.at c.before.before.args.quadrant _ c.before.before.requires.1 c.word_at.ensures, omega arith)
+word-at-requires-2 c κs = (fork_son c.before.before.requires.0.at c.before.before.args.quadrant _ c.before.before.requires.1 c.word_at.ensures, omega arith)
 
 returns : tie.Need-returns
 returns c =
     let s = c.before.before.before.before in
-    leaf-white _ s.requires.0 _ s.requires.1 s.requires.2 _ _ c.before.before.word_at.ensures c.before.word-at2.ensures c.if1.true
+    leaf_white _ s.requires.0 _ s.requires.1 s.requires.2 _ _ c.before.before.word_at.ensures c.before.word-at2.ensures c.if1.true
 
 of-son-requires : tie.Need-of-son-requires
 of-son-requires c κs =
     let s = c.before.before.before.before.before in
-    (s.requires.0.at.place.node, s.requires.1, handed-nodes _ s.requires.0, refl)
+    (s.requires.0.at.place.node, s.requires.1, handed_nodes _ s.requires.0, refl)
 
 side-requires : tie.Need-side-requires
 side-requires c κs = search rules
@@ -32,17 +32,17 @@ side-requires c κs = search rules
 around-requires : tie.Need-around-requires
 around-requires c κs =
     let s = c.before.before.before.before.before.before.before.before in
-    leaf-asks _ s.requires.0 _ s.requires.1 s.requires.2 _ _ c.before.before.before.before.before.before.word_at.ensures c.before.before.before.before.before.word-at2.ensures c.before.before.before.before.if1.false _ c.before.before.of-son.ensures
+    leaf_asks _ s.requires.0 _ s.requires.1 s.requires.2 _ _ c.before.before.before.before.before.before.word_at.ensures c.before.before.before.before.before.word-at2.ensures c.before.before.before.before.if1.false _ c.before.before.of-son.ensures
 
 to-edge-requires : tie.Need-to-edge-requires
 to-edge-requires c κs =
     let s = c.before.before.before.before.before.before.before.before.before in
-    leaf-edge _ s.requires.0 _ s.requires.1 s.requires.2 _ _ c.before.before.before.before.before.before.before.word_at.ensures c.before.before.before.before.before.before.word-at2.ensures c.before.before.before.before.before.if1.false _ c.before.before.before.of-son.ensures _ _ c.around.ensures c.before.before.side.ensures
+    leaf_edge _ s.requires.0 _ s.requires.1 s.requires.2 _ _ c.before.before.before.before.before.before.before.word_at.ensures c.before.before.before.before.before.before.word-at2.ensures c.before.before.before.before.before.if1.false _ c.before.before.before.of-son.ensures _ _ c.around.ensures c.before.before.side.ensures
 
 returns-2 : tie.Need-returns-2
 returns-2 c =
     let s = c.before.before.before.before.before.before.before.before.before.before in
-    leaf-word _ s.requires.0 _ s.requires.1 s.requires.2 _ _ c.before.before.before.before.before.before.before.before.word_at.ensures c.before.before.before.before.before.before.before.word-at2.ensures c.before.before.before.before.before.before.if1.false _ c.before.before.before.before.of-son.ensures _ _ c.before.around.ensures c.before.before.before.side.ensures _ c.to-edge.ensures
+    leaf_word _ s.requires.0 _ s.requires.1 s.requires.2 _ _ c.before.before.before.before.before.before.before.before.word_at.ensures c.before.before.before.before.before.before.before.word-at2.ensures c.before.before.before.before.before.before.if1.false _ c.before.before.before.before.of-son.ensures _ _ c.before.around.ensures c.before.before.before.side.ensures _ c.to-edge.ensures
 
 pub leaf-distance-spec : {M : Type 1} → statement M
 leaf-distance-spec =

@@ -5,13 +5,13 @@ use mathlib.Core.Path.{◌≡◌}
 use native.Mathlib.Omega.{arith}
 use borrow.Author.Rules.{rules}
 use Rattle.quad.specs.Numbers.{black}
-use Rattle.table.specs.Table.{type}
-use Rattle.distance_fill.proofs.HandedLaws.{land-black, land_last, none_more}
+use Rattle.table.specs.Table.{node_type}
+use Rattle.distance_fill.proofs.HandedLaws.{land_black, land_last, none_more}
 use Rattle.distance_fill.proofs.outside.Statement.{statement}
 use Rattle.distance_fill.proofs.outside.Tie as tie
 
 abbrev invariant-loop : tie.invariant-loop
-invariant-loop n table last p₀ p = (p ≤ last) × ((j : ℕ) → j < p → type table j ≡ black → ⊥)
+invariant-loop n table last p₀ p = (p ≤ last) × ((j : ℕ) → j < p → node_type table j ≡ black → ⊥)
 
 abbrev decreases-loop : tie.decreases-loop
 decreases-loop n table last p₀ p = last - p
@@ -32,7 +32,7 @@ cast-result : tie.Need-overflow-cast-result invariant-loop decreases-loop
 cast-result c = omega (arith, c.before.before.before.before.node-count.ensures, c.before.before.before.before.before.before.requires.sized.few)
 
 returns : tie.Need-returns invariant-loop decreases-loop
-returns c = land-black _ _ c.before.before.before.before.before.before.requires _ _ (omega (arith, c.before.before.before.before.node-count.ensures)) c.before.word_at.ensures c.if1.true
+returns c = land_black _ _ c.before.before.before.before.before.before.requires _ _ (omega (arith, c.before.before.before.before.node-count.ensures)) c.before.word_at.ensures c.if1.true
 
 add-p : tie.Need-overflow-add-p invariant-loop decreases-loop
 add-p c = omega arith

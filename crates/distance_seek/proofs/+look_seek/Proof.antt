@@ -6,10 +6,10 @@ use mathlib.Core.Path.{sym, ◌∙◌}
 use native.Mathlib.Omega.{arith}
 use borrow.Author.Rules.{rules}
 use borrow.Author.Tests.{eq-eqb}
-use Rattle.quad.specs.Direction.{eastStep, southStep}
-use Rattle.table.proofs.AcceptedLaws.{level-top, fork-above}
-use Rattle.distance_seek.proofs.SearchLaws.{near-lt, next-lt, at-white, at-black, halves}
-use Rattle.distance_seek.proofs.TurnLaws.{edge-room, look-asks, stop-1, stop-2, stop-3, all-four}
+use Rattle.quad.specs.Direction.{east_step, south_step}
+use Rattle.table.proofs.AcceptedLaws.{level_top, fork_above}
+use Rattle.distance_seek.proofs.SearchLaws.{near_lt, next_lt, at_white, at_black, halves}
+use Rattle.distance_seek.proofs.TurnLaws.{edge_room, look_asks, stop_1, stop_2, stop_3, all_four}
 use borrow.Fn.Kinds.{In}
 use borrow.Fn.PlainCycle.{Measures, is, falls, and}
 use Rattle.distance_seek.proofs.look.Reads as look
@@ -75,10 +75,10 @@ module _ (t : ℕ) where
   look-word-at-requires c κs = (c.before.requires.1.0.place.node, omega arith)
 
   look-returns : look-lts.Need-returns (in-look t) (look_at t) look.Post
-  look-returns c = let o = c.before.before.before in at-white _ _ _ _ _ _ _ c.before.word_at.ensures o.requires.1.2 c.if1.true
+  look-returns c = let o = c.before.before.before in at_white _ _ _ _ _ _ _ c.before.word_at.ensures o.requires.1.2 c.if1.true
 
   look-returns-2 : look-lts.Need-returns-2 (in-look t) (look_at t) look.Post
-  look-returns-2 c = let o = c.before.before.before.before in at-black _ _ _ _ _ _ _ c.before.before.word_at.ensures (omega (arith, o.ranges.best)) c.before.if1.false c.if2.true
+  look-returns-2 c = let o = c.before.before.before.before in at_black _ _ _ _ _ _ _ c.before.before.word_at.ensures (omega (arith, o.ranges.best)) c.before.if1.false c.if2.true
 
   look-seek-requires : look-lts.Need-seek-requires (in-look t) (look_at t) look.Post
   look-seek-requires c κs = let o = c.before.before.before.before in (omega arith, (o.requires.1.0, eq-eqb _ _ (sym c.before.before.word_at.ensures ∙ c.if2.false), o.requires.1.1, o.requires.1.2))
@@ -87,10 +87,10 @@ module _ (t : ℕ) where
   look-returns-3 c = c.seek.ensures
 
   seek-sub-m : seek-lts.Need-overflow-sub-m (in-seek t) (seek-at t) seek.Post
-  seek-sub-m c = fork-above c.before.requires.1.0.place c.before.requires.1.1
+  seek-sub-m c = fork_above c.before.requires.1.0.place c.before.requires.1.1
 
   seek-side-requires : seek-lts.Need-side-requires (in-seek t) (seek-at t) seek.Post
-  seek-side-requires c κs = omega (arith, level-top c.before.requires.1.0.place)
+  seek-side-requires c κs = omega (arith, level_top c.before.requires.1.0.place)
 
   seek-add-far : seek-lts.Need-overflow-add-far (in-seek t) (seek-at t) seek.Post
   seek-add-far c = let o = c.before.before in omega (arith, c.side.ensures, halves o.requires.1.0 o.requires.1.1, o.requires.1.0.room)
@@ -99,70 +99,70 @@ module _ (t : ℕ) where
   seek-near-quarter-requires c κs = let o = c.before.before in o.requires.1.2
 
   seek-add-word-at : seek-lts.Need-overflow-add-word-at (in-seek t) (seek-at t) seek.Post
-  seek-add-word-at c = let o = c.before.before.before in omega (arith, near-lt (eastStep o.args.direction) (southStep o.args.direction) c.near-quarter.ensures)
+  seek-add-word-at c = let o = c.before.before.before in omega (arith, near_lt (east_step o.args.direction) (south_step o.args.direction) c.near-quarter.ensures)
 
   seek-word-at-requires : seek-lts.Need-word-at-requires (in-seek t) (seek-at t) seek.Post
-  seek-word-at-requires c κs = let o = c.before.before.before in (o.requires.1.0.place.node, omega (arith, near-lt (eastStep o.args.direction) (southStep o.args.direction) c.near-quarter.ensures))
+  seek-word-at-requires c κs = let o = c.before.before.before in (o.requires.1.0.place.node, omega (arith, near_lt (east_step o.args.direction) (south_step o.args.direction) c.near-quarter.ensures))
 
   seek-look-requires : seek-lts.Need-look-requires (in-seek t) (seek-at t) seek.Post
-  seek-look-requires c κs = let o = c.before.before.before.before in look-asks o.requires.1.0 o.requires.1.1 t o.requires.0 (near-lt (eastStep o.args.direction) (southStep o.args.direction) c.before.near-quarter.ensures) c.word_at.ensures o.requires.1.2 c.before.before.side.ensures (omega arith) o.requires.1.3
+  seek-look-requires c κs = let o = c.before.before.before.before in look_asks o.requires.1.0 o.requires.1.1 t o.requires.0 (near_lt (east_step o.args.direction) (south_step o.args.direction) c.before.near-quarter.ensures) c.word_at.ensures o.requires.1.2 c.before.before.side.ensures (omega arith) o.requires.1.3
 
   seek-next-edge-requires : seek-lts.Need-next-edge-requires (in-seek t) (seek-at t) seek.Post
   seek-next-edge-requires c κs = search rules
 
   seek-returns : seek-lts.Need-returns (in-seek t) (seek-at t) seek.Post
-  seek-returns c = let o = c.before.before.before.before.before.before.before in stop-1 o.requires.1.0 o.requires.1.1 _ o.requires.1.2 _ _ (omega (arith, o.ranges.best)) c.before.before.before.before.before.side.ensures c.before.before.before.before.near-quarter.ensures c.before.before.before.word_at.ensures c.before.before.look.ensures c.before.next_edge.ensures c.if1.true
+  seek-returns c = let o = c.before.before.before.before.before.before.before in stop_1 o.requires.1.0 o.requires.1.1 _ o.requires.1.2 _ _ (omega (arith, o.ranges.best)) c.before.before.before.before.before.side.ensures c.before.before.before.before.near-quarter.ensures c.before.before.before.word_at.ensures c.before.before.look.ensures c.before.next_edge.ensures c.if1.true
 
   seek-next-quarter-requires : seek-lts.Need-next-quarter-requires (in-seek t) (seek-at t) seek.Post
   seek-next-quarter-requires c κs = let o = c.before.before.before.before.before.before.before in o.requires.1.2
 
   seek-add-word-at-2 : seek-lts.Need-overflow-add-word-at-2 (in-seek t) (seek-at t) seek.Post
-  seek-add-word-at-2 c = let o = c.before.before.before.before.before.before.before.before in omega (arith, next-lt (eastStep o.args.direction) (southStep o.args.direction) c.next-quarter.ensures)
+  seek-add-word-at-2 c = let o = c.before.before.before.before.before.before.before.before in omega (arith, next_lt (east_step o.args.direction) (south_step o.args.direction) c.next-quarter.ensures)
 
   seek-word-at-requires-2 : seek-lts.Need-word-at-requires-2 (in-seek t) (seek-at t) seek.Post
-  seek-word-at-requires-2 c κs = let o = c.before.before.before.before.before.before.before.before in (o.requires.1.0.place.node, omega (arith, next-lt (eastStep o.args.direction) (southStep o.args.direction) c.next-quarter.ensures))
+  seek-word-at-requires-2 c κs = let o = c.before.before.before.before.before.before.before.before in (o.requires.1.0.place.node, omega (arith, next_lt (east_step o.args.direction) (south_step o.args.direction) c.next-quarter.ensures))
 
   seek-next-way-requires : seek-lts.Need-next-way-requires (in-seek t) (seek-at t) seek.Post
   seek-next-way-requires c κs = let o = c.before.before.before.before.before.before.before.before.before in o.requires.1.2
 
   seek-look-requires-2 : seek-lts.Need-look-requires-2 (in-seek t) (seek-at t) seek.Post
-  seek-look-requires-2 c κs = let o = c.before.before.before.before.before.before.before.before.before.before in look-asks o.requires.1.0 o.requires.1.1 t o.requires.0 (next-lt (eastStep o.args.direction) (southStep o.args.direction) c.before.before.next-quarter.ensures) c.before.word-at2.ensures c.next_Way.ensures.below c.before.before.before.before.before.before.before.before.side.ensures (edge-room o.args.direction _ _ _ c.before.before.before.before.next_edge.ensures) (omega (arith, c.before.before.before.if1.false))
+  seek-look-requires-2 c κs = let o = c.before.before.before.before.before.before.before.before.before.before in look_asks o.requires.1.0 o.requires.1.1 t o.requires.0 (next_lt (east_step o.args.direction) (south_step o.args.direction) c.before.before.next-quarter.ensures) c.before.word-at2.ensures c.next_Way.ensures.below c.before.before.before.before.before.before.before.before.side.ensures (edge_room o.args.direction _ _ _ c.before.before.before.before.next_edge.ensures) (omega (arith, c.before.before.before.if1.false))
 
   seek-returns-2 : seek-lts.Need-returns-2 (in-seek t) (seek-at t) seek.Post
-  seek-returns-2 c = let o = c.before.before.before.before.before.before.before.before.before.before.before.before in stop-2 o.requires.1.0 o.requires.1.1 _ o.requires.1.2 _ _ (omega (arith, o.ranges.best)) c.before.before.before.before.before.before.before.before.before.before.side.ensures c.before.before.before.before.before.before.before.before.before.near-quarter.ensures c.before.before.before.before.before.before.before.before.word_at.ensures c.before.before.before.before.before.before.before.look.ensures c.before.before.before.before.before.before.next_edge.ensures _ c.before.before.before.before.next-quarter.ensures c.before.before.next_Way.ensures c.before.before.before.word-at2.ensures c.before.look2.ensures c.if2.true
+  seek-returns-2 c = let o = c.before.before.before.before.before.before.before.before.before.before.before.before in stop_2 o.requires.1.0 o.requires.1.1 _ o.requires.1.2 _ _ (omega (arith, o.ranges.best)) c.before.before.before.before.before.before.before.before.before.before.side.ensures c.before.before.before.before.before.before.before.before.before.near-quarter.ensures c.before.before.before.before.before.before.before.before.word_at.ensures c.before.before.before.before.before.before.before.look.ensures c.before.before.before.before.before.before.next_edge.ensures _ c.before.before.before.before.next-quarter.ensures c.before.before.next_Way.ensures c.before.before.before.word-at2.ensures c.before.look2.ensures c.if2.true
 
   seek-sub-word-at : seek-lts.Need-overflow-sub-word-at (in-seek t) (seek-at t) seek.Post
-  seek-sub-word-at c = let o = c.before.before.before.before.before.before.before.before.before.before.before.before in omega (arith, next-lt (eastStep o.args.direction) (southStep o.args.direction) c.before.before.before.before.next-quarter.ensures)
+  seek-sub-word-at c = let o = c.before.before.before.before.before.before.before.before.before.before.before.before in omega (arith, next_lt (east_step o.args.direction) (south_step o.args.direction) c.before.before.before.before.next-quarter.ensures)
 
   seek-add-word-at-3 : seek-lts.Need-overflow-add-word-at-3 (in-seek t) (seek-at t) seek.Post
-  seek-add-word-at-3 c = let o = c.before.before.before.before.before.before.before.before.before.before.before.before in omega (arith, next-lt (eastStep o.args.direction) (southStep o.args.direction) c.before.before.before.before.next-quarter.ensures)
+  seek-add-word-at-3 c = let o = c.before.before.before.before.before.before.before.before.before.before.before.before in omega (arith, next_lt (east_step o.args.direction) (south_step o.args.direction) c.before.before.before.before.next-quarter.ensures)
 
   seek-word-at-requires-3 : seek-lts.Need-word-at-requires-3 (in-seek t) (seek-at t) seek.Post
-  seek-word-at-requires-3 c κs = let o = c.before.before.before.before.before.before.before.before.before.before.before.before in (o.requires.1.0.place.node, omega (arith, next-lt (eastStep o.args.direction) (southStep o.args.direction) c.before.before.before.before.next-quarter.ensures))
+  seek-word-at-requires-3 c κs = let o = c.before.before.before.before.before.before.before.before.before.before.before.before in (o.requires.1.0.place.node, omega (arith, next_lt (east_step o.args.direction) (south_step o.args.direction) c.before.before.before.before.next-quarter.ensures))
 
   seek-other-way-requires : seek-lts.Need-other-way-requires (in-seek t) (seek-at t) seek.Post
   seek-other-way-requires c κs = let o = c.before.before.before.before.before.before.before.before.before.before.before.before.before in o.requires.1.2
 
   seek-look-requires-3 : seek-lts.Need-look-requires-3 (in-seek t) (seek-at t) seek.Post
-  seek-look-requires-3 c κs = let o = c.before.before.before.before.before.before.before.before.before.before.before.before.before.before in look-asks o.requires.1.0 o.requires.1.1 t o.requires.0 (omega (arith, next-lt (eastStep o.args.direction) (southStep o.args.direction) c.before.before.before.before.before.before.next-quarter.ensures)) c.before.word-at3.ensures c.other_way.ensures.below c.before.before.before.before.before.before.before.before.before.before.before.before.side.ensures (omega arith) (omega (arith, c.before.before.if2.false))
+  seek-look-requires-3 c κs = let o = c.before.before.before.before.before.before.before.before.before.before.before.before.before.before in look_asks o.requires.1.0 o.requires.1.1 t o.requires.0 (omega (arith, next_lt (east_step o.args.direction) (south_step o.args.direction) c.before.before.before.before.before.before.next-quarter.ensures)) c.before.word-at3.ensures c.other_way.ensures.below c.before.before.before.before.before.before.before.before.before.before.before.before.side.ensures (omega arith) (omega (arith, c.before.before.if2.false))
 
   seek-returns-3 : seek-lts.Need-returns-3 (in-seek t) (seek-at t) seek.Post
-  seek-returns-3 c = let o = c.before.before.before.before.before.before.before.before.before.before.before.before.before.before.before.before in stop-3 o.requires.1.0 o.requires.1.1 _ o.requires.1.2 _ _ (omega (arith, o.ranges.best)) c.before.before.before.before.before.before.before.before.before.before.before.before.before.before.side.ensures c.before.before.before.before.before.before.before.before.before.before.before.before.before.near-quarter.ensures c.before.before.before.before.before.before.before.before.before.before.before.before.word_at.ensures c.before.before.before.before.before.before.before.before.before.before.before.look.ensures c.before.before.before.before.before.before.before.before.before.before.next_edge.ensures _ c.before.before.before.before.before.before.before.before.next-quarter.ensures c.before.before.before.before.before.before.next_Way.ensures c.before.before.before.before.before.before.before.word-at2.ensures c.before.before.before.before.before.look2.ensures _ c.before.before.other_way.ensures c.before.before.before.word-at3.ensures c.before.look3.ensures c.if3.true
+  seek-returns-3 c = let o = c.before.before.before.before.before.before.before.before.before.before.before.before.before.before.before.before in stop_3 o.requires.1.0 o.requires.1.1 _ o.requires.1.2 _ _ (omega (arith, o.ranges.best)) c.before.before.before.before.before.before.before.before.before.before.before.before.before.before.side.ensures c.before.before.before.before.before.before.before.before.before.before.before.before.before.near-quarter.ensures c.before.before.before.before.before.before.before.before.before.before.before.before.word_at.ensures c.before.before.before.before.before.before.before.before.before.before.before.look.ensures c.before.before.before.before.before.before.before.before.before.before.next_edge.ensures _ c.before.before.before.before.before.before.before.before.next-quarter.ensures c.before.before.before.before.before.before.next_Way.ensures c.before.before.before.before.before.before.before.word-at2.ensures c.before.before.before.before.before.look2.ensures _ c.before.before.other_way.ensures c.before.before.before.word-at3.ensures c.before.look3.ensures c.if3.true
 
   seek-sub-word-at-2 : seek-lts.Need-overflow-sub-word-at-2 (in-seek t) (seek-at t) seek.Post
-  seek-sub-word-at-2 c = let o = c.before.before.before.before.before.before.before.before.before.before.before.before.before.before.before.before in omega (arith, near-lt (eastStep o.args.direction) (southStep o.args.direction) c.before.before.before.before.before.before.before.before.before.before.before.before.before.near-quarter.ensures)
+  seek-sub-word-at-2 c = let o = c.before.before.before.before.before.before.before.before.before.before.before.before.before.before.before.before in omega (arith, near_lt (east_step o.args.direction) (south_step o.args.direction) c.before.before.before.before.before.before.before.before.before.before.before.before.before.near-quarter.ensures)
 
   seek-add-word-at-4 : seek-lts.Need-overflow-add-word-at-4 (in-seek t) (seek-at t) seek.Post
-  seek-add-word-at-4 c = let o = c.before.before.before.before.before.before.before.before.before.before.before.before.before.before.before.before in omega (arith, near-lt (eastStep o.args.direction) (southStep o.args.direction) c.before.before.before.before.before.before.before.before.before.before.before.before.before.near-quarter.ensures)
+  seek-add-word-at-4 c = let o = c.before.before.before.before.before.before.before.before.before.before.before.before.before.before.before.before in omega (arith, near_lt (east_step o.args.direction) (south_step o.args.direction) c.before.before.before.before.before.before.before.before.before.before.before.before.before.near-quarter.ensures)
 
   seek-word-at-requires-4 : seek-lts.Need-word-at-requires-4 (in-seek t) (seek-at t) seek.Post
-  seek-word-at-requires-4 c κs = let o = c.before.before.before.before.before.before.before.before.before.before.before.before.before.before.before.before in (o.requires.1.0.place.node, omega (arith, near-lt (eastStep o.args.direction) (southStep o.args.direction) c.before.before.before.before.before.before.before.before.before.before.before.before.before.near-quarter.ensures))
+  seek-word-at-requires-4 c κs = let o = c.before.before.before.before.before.before.before.before.before.before.before.before.before.before.before.before in (o.requires.1.0.place.node, omega (arith, near_lt (east_step o.args.direction) (south_step o.args.direction) c.before.before.before.before.before.before.before.before.before.before.before.before.before.near-quarter.ensures))
 
   seek-look-requires-4 : seek-lts.Need-look-requires-4 (in-seek t) (seek-at t) seek.Post
-  seek-look-requires-4 c κs = let o = c.before.before.before.before.before.before.before.before.before.before.before.before.before.before.before.before.before in look-asks o.requires.1.0 o.requires.1.1 t o.requires.0 (omega (arith, near-lt (eastStep o.args.direction) (southStep o.args.direction) c.before.before.before.before.before.before.before.before.before.before.before.before.before.before.near-quarter.ensures)) c.word-at4.ensures o.requires.1.2 c.before.before.before.before.before.before.before.before.before.before.before.before.before.before.before.side.ensures (omega arith) (omega (arith, c.before.if3.false))
+  seek-look-requires-4 c κs = let o = c.before.before.before.before.before.before.before.before.before.before.before.before.before.before.before.before.before in look_asks o.requires.1.0 o.requires.1.1 t o.requires.0 (omega (arith, near_lt (east_step o.args.direction) (south_step o.args.direction) c.before.before.before.before.before.before.before.before.before.before.before.before.before.before.near-quarter.ensures)) c.word-at4.ensures o.requires.1.2 c.before.before.before.before.before.before.before.before.before.before.before.before.before.before.before.side.ensures (omega arith) (omega (arith, c.before.if3.false))
 
   seek-returns-4 : seek-lts.Need-returns-4 (in-seek t) (seek-at t) seek.Post
-  seek-returns-4 c = let o = c.before.before.before.before.before.before.before.before.before.before.before.before.before.before.before.before.before.before in all-four o.requires.1.0 o.requires.1.1 _ o.requires.1.2 _ _ (omega (arith, o.ranges.best)) c.before.before.before.before.before.before.before.before.before.before.before.before.before.before.before.before.side.ensures c.before.before.before.before.before.before.before.before.before.before.before.before.before.before.before.near-quarter.ensures c.before.before.before.before.before.before.before.before.before.before.before.before.before.before.word_at.ensures c.before.before.before.before.before.before.before.before.before.before.before.before.before.look.ensures c.before.before.before.before.before.before.before.before.before.before.before.before.next_edge.ensures _ c.before.before.before.before.before.before.before.before.before.before.next-quarter.ensures c.before.before.before.before.before.before.before.before.next_Way.ensures c.before.before.before.before.before.before.before.before.before.word-at2.ensures c.before.before.before.before.before.before.before.look2.ensures _ c.before.before.before.before.other_way.ensures c.before.before.before.before.before.word-at3.ensures c.before.before.before.look3.ensures _ c.before.word-at4.ensures c.look4.ensures
+  seek-returns-4 c = let o = c.before.before.before.before.before.before.before.before.before.before.before.before.before.before.before.before.before.before in all_four o.requires.1.0 o.requires.1.1 _ o.requires.1.2 _ _ (omega (arith, o.ranges.best)) c.before.before.before.before.before.before.before.before.before.before.before.before.before.before.before.before.side.ensures c.before.before.before.before.before.before.before.before.before.before.before.before.before.before.before.near-quarter.ensures c.before.before.before.before.before.before.before.before.before.before.before.before.before.before.word_at.ensures c.before.before.before.before.before.before.before.before.before.before.before.before.before.look.ensures c.before.before.before.before.before.before.before.before.before.before.before.before.next_edge.ensures _ c.before.before.before.before.before.before.before.before.before.before.next-quarter.ensures c.before.before.before.before.before.before.before.before.next_Way.ensures c.before.before.before.before.before.before.before.before.before.word-at2.ensures c.before.before.before.before.before.before.before.look2.ensures _ c.before.before.before.before.other_way.ensures c.before.before.before.before.before.word-at3.ensures c.before.before.before.look3.ensures _ c.before.word-at4.ensures c.look4.ensures
 
 pub +look-seek-spec : {M : Type 1} → statement M
 +look-seek-spec =

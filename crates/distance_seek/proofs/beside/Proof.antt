@@ -3,7 +3,7 @@
 use mathlib.Core.Path.{sym, ◌∙◌}
 use native.Mathlib.Omega.{arith}
 use borrow.Author.Tests.{eq-eqb}
-use Rattle.distance_seek.proofs.SearchLaws.{at-white, at-black}
+use Rattle.distance_seek.proofs.SearchLaws.{at_white, at_black}
 use borrow.Author.Rules.{rules}
 use Rattle.distance_seek.proofs.beside.Statement.{statement}
 use Rattle.distance_seek.proofs.beside.Tie as tie
@@ -12,10 +12,10 @@ word-at-requires : tie.Need-word-at-requires
 word-at-requires c κs = search rules
 
 returns : tie.Need-returns
-returns c = search (at-white, rules)
+returns c = search (at_white, rules)
 
 returns-2 : tie.Need-returns-2
-returns-2 c = at-black _ _ _ _ _ _ _ c.before.before.word_at.ensures (omega arith) c.before.if1.false c.if2.true
+returns-2 c = at_black _ _ _ _ _ _ _ c.before.before.word_at.ensures (omega arith) c.before.if1.false c.if2.true
 
 seek-requires : tie.Need-seek-requires
 seek-requires c κs = let f = eq-eqb _ _ (sym c.before.before.word_at.ensures ∙ c.if2.false) in (c.before.before.before.before.requires.0.spot f, f, c.before.before.before.before.requires.1, omega arith)

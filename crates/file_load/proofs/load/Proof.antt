@@ -1,5 +1,5 @@
 -- `load`: 15 for a sheet that is too large, else as the file is read. Assumes nothing.
-use Rattle.file_load.proofs.LoadLaws.{load-large, load_read}
+use Rattle.file_load.proofs.LoadLaws.{load_large, load_read}
 use borrow.Author.Rules.{rules}
 use Rattle.file_load.proofs.load.Statement.{statement}
 use Rattle.file_load.proofs.load.Tie as tie
@@ -8,7 +8,7 @@ too-large-requires : tie.Need-too-large-requires
 too-large-requires c κs = search rules
 
 returns : tie.Need-returns
-returns c = search (load-large, rules)
+returns c = search (load_large, rules)
 
 read-requires : tie.Need-read-requires
 read-requires c κs = search rules

@@ -3,9 +3,9 @@
 use mathlib.Core.Path.{refl}
 use Prim.Native.Nat.{ℕ, ◌-◌, ◌<◌}
 use native.Mathlib.Omega.{arith}
-use Rattle.table.proofs.WritingLaws.{node-room, node-fits, put-length, InTurn, none-put, number-room, type-room, sons-put}
-use Rattle.file_read.specs.Linking.{treeOn}
-use Rattle.file_read.proofs.LinkLaws.{type-asks, kind-le, links-leaf, its-fork, deeper, son-to-link, son-forked, son-linked}
+use Rattle.table.proofs.WritingLaws.{node_room, node_fits, put_length, InTurn, none_put, number_room, type_room, sons_put}
+use Rattle.file_read.specs.Linking.{tree_on}
+use Rattle.file_read.proofs.LinkLaws.{type_asks, kind_le, links_leaf, its_fork, deeper, son_to_link, son_forked, son_linked}
 use borrow.Fn.Kinds.{In}
 use borrow.Fn.PlainCycle.{Measures, is, falls, and}
 use Rattle.file_read.proofs.link_fork.Reads as link-fork
@@ -41,40 +41,40 @@ calls t = (
 
 abbrev link-fork-Inv-loop : link-fork-lts.invariant-loop
 link-fork-Inv-loop file level table₀ p father own next₀ q₀ table next q =
-    InTurn (treeOn file.now level p) p q next table₀ table
+    InTurn (tree_on file.now level p) p q next table₀ table
 
 abbrev link-fork-μ-loop : link-fork-lts.decreases-loop
 link-fork-μ-loop file level table₀ p father own next₀ q₀ table next q = 4 - q
 
 link-fork-mul-own : (t : ℕ) → link-fork-lts.Need-overflow-mul-own (calls t) (link-fork-at t) link-fork.Post link-fork-Inv-loop link-fork-μ-loop
-link-fork-mul-own t c = omega (arith, node-room c.before.requires.1.block.ready)
+link-fork-mul-own t c = omega (arith, node_room c.before.requires.1.block.ready)
 
 link-fork-mul-table : (t : ℕ) → link-fork-lts.Need-overflow-mul-table (calls t) (link-fork-at t) link-fork.Post link-fork-Inv-loop link-fork-μ-loop
-link-fork-mul-table t c = omega (arith, node-room c.before.requires.1.block.ready, c.before.well-formed)
+link-fork-mul-table t c = omega (arith, node_room c.before.requires.1.block.ready, c.before.well-formed)
 
 link-fork-slice-write-table : (t : ℕ) → link-fork-lts.Need-slice-write-table (calls t) (link-fork-at t) link-fork.Post link-fork-Inv-loop link-fork-μ-loop
-link-fork-slice-write-table t c = omega (arith, node-room c.before.requires.1.block.ready)
+link-fork-slice-write-table t c = omega (arith, node_room c.before.requires.1.block.ready)
 
 link-fork-add-next : (t : ℕ) → link-fork-lts.Need-overflow-add-next (calls t) (link-fork-at t) link-fork.Post link-fork-Inv-loop link-fork-μ-loop
-link-fork-add-next t c = omega (arith, node-fits c.before.requires.1.block.ready)
+link-fork-add-next t c = omega (arith, node_fits c.before.requires.1.block.ready)
 
 link-fork-loop-holds : (t : ℕ) → link-fork-lts.Need-loop-init (calls t) (link-fork-at t) link-fork.Post link-fork-Inv-loop link-fork-μ-loop
-link-fork-loop-holds t c = none-put _ _ _
+link-fork-loop-holds t c = none_put _ _ _
 
 link-fork-add-table : (t : ℕ) → link-fork-lts.Need-overflow-add-table (calls t) (link-fork-at t) link-fork.Post link-fork-Inv-loop link-fork-μ-loop
-link-fork-add-table t c = omega (arith, node-room c.before.before.before.requires.1.block.ready)
+link-fork-add-table t c = omega (arith, node_room c.before.before.before.requires.1.block.ready)
 
 link-fork-add-table-2 : (t : ℕ) → link-fork-lts.Need-overflow-add-table-2 (calls t) (link-fork-at t) link-fork.Post link-fork-Inv-loop link-fork-μ-loop
-link-fork-add-table-2 t c = omega (arith, node-room c.before.before.before.requires.1.block.ready)
+link-fork-add-table-2 t c = omega (arith, node_room c.before.before.before.requires.1.block.ready)
 
 link-fork-mul-table-2 : (t : ℕ) → link-fork-lts.Need-overflow-mul-table-2 (calls t) (link-fork-at t) link-fork.Post link-fork-Inv-loop link-fork-μ-loop
-link-fork-mul-table-2 t c = omega (arith, node-room c.before.before.before.requires.1.block.ready, c.before.before.before.well-formed)
+link-fork-mul-table-2 t c = omega (arith, node_room c.before.before.before.requires.1.block.ready, c.before.before.before.well-formed)
 
 link-fork-slice-write-table-2 : (t : ℕ) → link-fork-lts.Need-slice-write-table-2 (calls t) (link-fork-at t) link-fork.Post link-fork-Inv-loop link-fork-μ-loop
 link-fork-slice-write-table-2 t c =
     let l = c.before in
     let s = l.before.before in
-    omega (arith, number-room (its-fork s.requires.1) s.args.table.now s.requires.1.block.ready s.args.father l.loop.invariant (omega arith))
+    omega (arith, number_room (its_fork s.requires.1) s.args.table.now s.requires.1.block.ready s.args.father l.loop.invariant (omega arith))
 
 link-fork-add-q : (t : ℕ) → link-fork-lts.Need-overflow-add-q (calls t) (link-fork-at t) link-fork.Post link-fork-Inv-loop link-fork-μ-loop
 link-fork-add-q t c = omega arith
@@ -83,14 +83,14 @@ link-fork-type-of-requires : (t : ℕ) → link-fork-lts.Need-type-of-requires (
 link-fork-type-of-requires t c κs =
     let l = c.before.before in
     let s = l.before.before in
-    type-asks (son-to-link s.args.table.now s.requires.1 s.args.father l.loop.invariant (omega arith)
+    type_asks (son_to_link s.args.table.now s.requires.1 s.args.father l.loop.invariant (omega arith)
     _ refl)
 
 link-fork-link-pixels-requires : (t : ℕ) → link-fork-lts.Need-link-pixels-requires (calls t) (link-fork-at t) link-fork.Post link-fork-Inv-loop link-fork-μ-loop
 link-fork-link-pixels-requires t c κs =
     let l = c.before.before.before.before.before.before.before in
     let s = l.before.before in
-    son-forked s.args.table.now s.requires.1 s.args.father l.loop.invariant (omega arith) 1
+    son_forked s.args.table.now s.requires.1 s.args.father l.loop.invariant (omega arith) 1
     (omega (arith, c.before.before.if2.true)) c.before.before.before.before.type-of.ensures c.before.before.before.if1.true
 
 link-fork-loop-less : (t : ℕ) → link-fork-lts.Need-loop-smaller (calls t) (link-fork-at t) link-fork.Post link-fork-Inv-loop link-fork-μ-loop
@@ -100,7 +100,7 @@ link-fork-loop-again : (t : ℕ) → link-fork-lts.Need-loop-preserved (calls t)
 link-fork-loop-again t c =
     let l = c.before.before.before.before.before.before.before.before.before.before in
     let s = l.before.before in
-    son-linked s.args.table.now s.requires.1 s.args.father l.loop.invariant (omega arith) 1
+    son_linked s.args.table.now s.requires.1 s.args.father l.loop.invariant (omega arith) 1
     (omega (arith, c.before.before.before.before.before.if2.true)) c.before.before.link-pixels.ensures
 
 link-fork-sub-link-fork : (t : ℕ) → link-fork-lts.Need-overflow-sub-link-fork (calls t) (link-fork-at t) link-fork.Post link-fork-Inv-loop link-fork-μ-loop
@@ -111,7 +111,7 @@ link-fork-link-fork-requires t c κs =
     let l = c.before.before.before.before.before.before in
     let s = l.before.before in (
       omega (arith, s.requires.0, deeper s.requires.1),
-      son-forked s.args.table.now s.requires.1 s.args.father l.loop.invariant (omega arith) _ refl
+      son_forked s.args.table.now s.requires.1 s.args.father l.loop.invariant (omega arith) _ refl
           c.before.before.before.type-of.ensures c.before.before.if1.true,
     )
 
@@ -122,36 +122,36 @@ link-fork-loop-again-2 : (t : ℕ) → link-fork-lts.Need-loop-preserved-2 (call
 link-fork-loop-again-2 t c =
     let l = c.before.before.before.before.before.before.before.before.before in
     let s = l.before.before in
-    son-linked s.args.table.now s.requires.1 s.args.father l.loop.invariant (omega arith) _ refl
+    son_linked s.args.table.now s.requires.1 s.args.father l.loop.invariant (omega arith) _ refl
     c.before.before.link-fork.ensures
 
 link-fork-cast-put-leaf : (t : ℕ) → link-fork-lts.Need-overflow-cast-put-leaf (calls t) (link-fork-at t) link-fork.Post link-fork-Inv-loop link-fork-μ-loop
 link-fork-cast-put-leaf t c =
     let l = c.before.before.before.before.before in
     let s = l.before.before in
-    let b = son-to-link s.args.table.now s.requires.1 s.args.father l.loop.invariant (omega arith) _ refl in
-    omega (arith, node-fits b.ready)
+    let b = son_to_link s.args.table.now s.requires.1 s.args.father l.loop.invariant (omega arith) _ refl in
+    omega (arith, node_fits b.ready)
 
 link-fork-cast-put-leaf-2 : (t : ℕ) → link-fork-lts.Need-overflow-cast-put-leaf-2 (calls t) (link-fork-at t) link-fork.Post link-fork-Inv-loop link-fork-μ-loop
 link-fork-cast-put-leaf-2 t c =
     let l = c.before.before.before.before.before in
     let s = l.before.before in
-    let b = son-to-link s.args.table.now s.requires.1 s.args.father l.loop.invariant (omega arith) _ refl in
-    omega (arith, kind-le b c.before.before.type-of.ensures)
+    let b = son_to_link s.args.table.now s.requires.1 s.args.father l.loop.invariant (omega arith) _ refl in
+    omega (arith, kind_le b c.before.before.type-of.ensures)
 
 link-fork-put-leaf-requires : (t : ℕ) → link-fork-lts.Need-put-leaf-requires (calls t) (link-fork-at t) link-fork.Post link-fork-Inv-loop link-fork-μ-loop
 link-fork-put-leaf-requires t c κs =
     let l = c.before.before.before.before.before in
     let s = l.before.before in
-    let b = son-to-link s.args.table.now s.requires.1 s.args.father l.loop.invariant (omega arith) _ refl in
-    node-room b.ready
+    let b = son_to_link s.args.table.now s.requires.1 s.args.father l.loop.invariant (omega arith) _ refl in
+    node_room b.ready
 
 link-fork-add-next-2 : (t : ℕ) → link-fork-lts.Need-overflow-add-next-2 (calls t) (link-fork-at t) link-fork.Post link-fork-Inv-loop link-fork-μ-loop
 link-fork-add-next-2 t c =
     let l = c.before.before.before.before.before.before.before.before in
     let s = l.before.before in
-    let b = son-to-link s.args.table.now s.requires.1 s.args.father l.loop.invariant (omega arith) _ refl in
-    omega (arith, node-fits b.ready)
+    let b = son_to_link s.args.table.now s.requires.1 s.args.father l.loop.invariant (omega arith) _ refl in
+    omega (arith, node_fits b.ready)
 
 link-fork-loop-less-3 : (t : ℕ) → link-fork-lts.Need-loop-smaller-3 (calls t) (link-fork-at t) link-fork.Post link-fork-Inv-loop link-fork-μ-loop
 link-fork-loop-less-3 t c = omega arith
@@ -160,36 +160,36 @@ link-fork-loop-again-3 : (t : ℕ) → link-fork-lts.Need-loop-preserved-3 (call
 link-fork-loop-again-3 t c =
     let l = c.before.before.before.before.before.before.before.before in
     let s = l.before.before in
-    let b = son-to-link s.args.table.now s.requires.1 s.args.father l.loop.invariant (omega arith) _ refl in
-    son-linked s.args.table.now s.requires.1 s.args.father l.loop.invariant (omega arith) _ refl
-    (links-leaf b c.before.before.before.before.before.type-of.ensures c.before.before.before.before.if1.false c.before.before.put-leaf.ensures)
+    let b = son_to_link s.args.table.now s.requires.1 s.args.father l.loop.invariant (omega arith) _ refl in
+    son_linked s.args.table.now s.requires.1 s.args.father l.loop.invariant (omega arith) _ refl
+    (links_leaf b c.before.before.before.before.before.type-of.ensures c.before.before.before.before.if1.false c.before.before.put-leaf.ensures)
 
 link-fork-cast-table : (t : ℕ) → link-fork-lts.Need-overflow-cast-table (calls t) (link-fork-at t) link-fork.Post link-fork-Inv-loop link-fork-μ-loop
 link-fork-cast-table t c = omega arith
 
 link-fork-add-table-3 : (t : ℕ) → link-fork-lts.Need-overflow-add-table-3 (calls t) (link-fork-at t) link-fork.Post link-fork-Inv-loop link-fork-μ-loop
-link-fork-add-table-3 t c = omega (arith, node-room c.before.before.before.requires.1.block.ready)
+link-fork-add-table-3 t c = omega (arith, node_room c.before.before.before.requires.1.block.ready)
 
 link-fork-mul-table-3 : (t : ℕ) → link-fork-lts.Need-overflow-mul-table-3 (calls t) (link-fork-at t) link-fork.Post link-fork-Inv-loop link-fork-μ-loop
-link-fork-mul-table-3 t c = omega (arith, node-room c.before.before.before.requires.1.block.ready, c.before.before.before.well-formed)
+link-fork-mul-table-3 t c = omega (arith, node_room c.before.before.before.requires.1.block.ready, c.before.before.before.well-formed)
 
 link-fork-slice-write-table-3 : (t : ℕ) → link-fork-lts.Need-slice-write-table-3 (calls t) (link-fork-at t) link-fork.Post link-fork-Inv-loop link-fork-μ-loop
 link-fork-slice-write-table-3 t c =
     let l = c.before in
     let s = l.before.before in
-    type-room (its-fork s.requires.1) s.args.table.now s.requires.1.block.ready s.args.father l.loop.invariant
+    type_room (its_fork s.requires.1) s.args.table.now s.requires.1.block.ready s.args.father l.loop.invariant
 
 link-fork-same-length : (t : ℕ) → link-fork-lts.Need-same-length (calls t) (link-fork-at t) link-fork.Post link-fork-Inv-loop link-fork-μ-loop
 link-fork-same-length t c =
     let l = c.before in
     let s = l.before.before in
-    put-length (sons-put (its-fork s.requires.1) s.args.table.now s.requires.1.block.ready s.args.father l.loop.invariant (omega arith))
+    put_length (sons_put (its_fork s.requires.1) s.args.table.now s.requires.1.block.ready s.args.father l.loop.invariant (omega arith))
 
 link-fork-returns : (t : ℕ) → link-fork-lts.Need-returns (calls t) (link-fork-at t) link-fork.Post link-fork-Inv-loop link-fork-μ-loop
 link-fork-returns t c =
     let l = c.before in
     let s = l.before.before in
-    sons-put (its-fork s.requires.1) s.args.table.now s.requires.1.block.ready s.args.father l.loop.invariant (omega arith)
+    sons_put (its_fork s.requires.1) s.args.table.now s.requires.1.block.ready s.args.father l.loop.invariant (omega arith)
 
 pub +link-fork-spec : {M : Type 1} → statement M
 +link-fork-spec = close μ-link-fork λ t. link-fork-lts.spec (calls t)

@@ -1,13 +1,13 @@
 -- `file_read::link_block`: a fork, or a leaf's six words. Assumes nothing.
 use native.Mathlib.Omega.{arith}
-use Rattle.table.proofs.WritingLaws.{node-room}
-use Rattle.file_read.proofs.LinkLaws.{type-asks, kind-le, links-leaf}
+use Rattle.table.proofs.WritingLaws.{node_room}
+use Rattle.file_read.proofs.LinkLaws.{type_asks, kind_le, links_leaf}
 use borrow.Author.Rules.{rules}
 use Rattle.file_read.proofs.link_block.Statement.{statement}
 use Rattle.file_read.proofs.link_block.Tie as tie
 
 type-of-requires : tie.Need-type-of-requires
-type-of-requires c κs = search (type-asks, rules)
+type-of-requires c κs = search (type_asks, rules)
 
 link-fork-requires : tie.Need-link-fork-requires
 link-fork-requires c κs = search rules
@@ -19,10 +19,10 @@ returns : tie.Need-returns
 returns c = search rules
 
 cast-put-leaf : tie.Need-overflow-cast-put-leaf
-cast-put-leaf c = omega (arith, kind-le c.before.before.before.before.before.requires c.before.before.type-of.ensures)
+cast-put-leaf c = omega (arith, kind_le c.before.before.before.before.before.requires c.before.before.type-of.ensures)
 
 put-leaf-requires : tie.Need-put-leaf-requires
-put-leaf-requires c κs = node-room c.before.before.before.before.before.requires.ready
+put-leaf-requires c κs = node_room c.before.before.before.before.before.requires.ready
 
 add-result : tie.Need-overflow-add-result
 add-result c = search rules
@@ -31,7 +31,7 @@ same-length-2 : tie.Need-same-length-2
 same-length-2 c = search rules
 
 returns-2 : tie.Need-returns-2
-returns-2 c = search (links-leaf, rules)
+returns-2 c = search (links_leaf, rules)
 
 pub link-block-spec : {M : Type 1} → statement M
 link-block-spec =

@@ -2,7 +2,7 @@
 use mathlib.Core.Path.{refl}
 use native.Mathlib.Omega.{arith}
 use Rattle.base.proofs.BoolLaws.{on, off}
-use Rattle.file_scan.proofs.PixelLaws.{short_none, first-none, second_none, third-none, types-none, pixels-there}
+use Rattle.file_scan.proofs.PixelLaws.{short_none, first_none, second_none, third_none, types_none, pixels_there}
 use borrow.Author.Rules.{rules}
 use Rattle.file_scan.proofs.scan_pixels.Statement.{statement}
 use Rattle.file_scan.proofs.scan_pixels.Tie as tie
@@ -35,7 +35,7 @@ add-if2 : tie.Need-overflow-add-if2
 add-if2 c = search rules
 
 returns-2 : tie.Need-returns-2
-returns-2 c = (first-none _ _ _ _ _ _ _ _ _ c.before.before.before.four_bytes.ensures c.before.before.four-bytes2.ensures c.before.four-bytes3.ensures refl refl refl refl c.if2.true, omega arith)
+returns-2 c = (first_none _ _ _ _ _ _ _ _ _ c.before.before.before.four_bytes.ensures c.before.before.four-bytes2.ensures c.before.four-bytes3.ensures refl refl refl refl c.if2.true, omega arith)
 
 mul-if3 : tie.Need-overflow-mul-if3
 mul-if3 c = search rules
@@ -56,7 +56,7 @@ add-if4-2 : tie.Need-overflow-add-if4-2
 add-if4-2 c = search rules
 
 returns-4 : tie.Need-returns-4
-returns-4 c = (third-none _ _ _ _ _ _ _ _ _ c.before.before.before.before.before.four_bytes.ensures c.before.before.before.before.four-bytes2.ensures c.before.before.before.four-bytes3.ensures refl refl refl refl c.if4.true, omega arith)
+returns-4 c = (third_none _ _ _ _ _ _ _ _ _ c.before.before.before.before.before.four_bytes.ensures c.before.before.before.before.four-bytes2.ensures c.before.before.before.four-bytes3.ensures refl refl refl refl c.if4.true, omega arith)
 
 cast-are-pixels : tie.Need-overflow-cast-are-pixels
 cast-are-pixels c = search rules
@@ -74,7 +74,7 @@ are-pixels-requires : tie.Need-are-pixels-requires
 are-pixels-requires c κs = search rules
 
 returns-5 : tie.Need-returns-5
-returns-5 c = (types-none _ _ _ _ _ _ _ _ _ c.before.before.before.before.before.before.before.four_bytes.ensures c.before.before.before.before.before.before.four-bytes2.ensures c.before.before.before.before.before.four-bytes3.ensures refl refl refl refl (off _ _ c.before.are-pixels.ensures c.if5.true), omega arith)
+returns-5 c = (types_none _ _ _ _ _ _ _ _ _ c.before.before.before.before.before.before.before.four_bytes.ensures c.before.before.before.before.before.before.four-bytes2.ensures c.before.before.before.before.before.four-bytes3.ensures refl refl refl refl (off _ _ c.before.are-pixels.ensures c.if5.true), omega arith)
 
 add-result : tie.Need-overflow-add-result
 add-result c = search rules
@@ -82,7 +82,7 @@ add-result c = search rules
 returns-6 : tie.Need-returns-6
 returns-6 c =
     let s = c.before.before.before.before.before.before.before.before in
-    (pixels-there _ _ _ _ _ _ _ _ _ c.before.before.before.before.before.before.before.four_bytes.ensures c.before.before.before.before.before.before.four-bytes2.ensures c.before.before.before.before.before.four-bytes3.ensures refl refl refl refl (omega (arith, s.if1.false)) c.before.before.before.before.if2.false c.before.before.before.if3.false c.before.before.if4.false (on _ _ c.before.are-pixels.ensures c.if5.false), omega (arith, s.if1.false))
+    (pixels_there _ _ _ _ _ _ _ _ _ c.before.before.before.before.before.before.before.four_bytes.ensures c.before.before.before.before.before.before.four-bytes2.ensures c.before.before.before.before.before.four-bytes3.ensures refl refl refl refl (omega (arith, s.if1.false)) c.before.before.before.before.if2.false c.before.before.before.if3.false c.before.before.if4.false (on _ _ c.before.are-pixels.ensures c.if5.false), omega (arith, s.if1.false))
 
 pub scan-pixels-spec : {M : Type 1} → statement M
 scan-pixels-spec =

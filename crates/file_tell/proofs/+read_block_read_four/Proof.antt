@@ -1,7 +1,7 @@
 -- Reading a block and reading four blocks call each other; twice the level, and one more for four, falls at each call.
 use borrow.Author.Rules.{rules}
 use native.Mathlib.Omega.{arith}
-use Rattle.file.proofs.ReadLaws.{some_block, block-wrong, block-leaf, block-deep, block-fork, four-lower, four-reach, reach-1, reach-2, reach-3, reach-4, four-1, four-2, four-3, four-4, four-like, four-read}
+use Rattle.file.proofs.ReadLaws.{some_block, block_wrong, block_leaf, block_deep, block_fork, four_lower, four_reach, reach_1, reach_2, reach_3, reach_4, four_1, four_2, four_3, four_4, four_like, four_read}
 use Prim.Native.Nat.{ℕ, ◌+◌, ◌*◌, ◌<◌}
 use borrow.Fn.Kinds.{In}
 use borrow.Fn.PlainCycle.{Measures, is, falls, and}
@@ -53,28 +53,28 @@ read-block-enum-told : (t : ℕ) → read-block-lts.Need-enum-told (block-calls 
 read-block-enum-told t c = search rules
 
 read-block-returns : (t : ℕ) → read-block-lts.Need-returns (block-calls t) (read-block-at t) read-block.Post
-read-block-returns t c = search (block-wrong, rules)
+read-block-returns t c = search (block_wrong, rules)
 
 read-block-returns-2 : (t : ℕ) → read-block-lts.Need-returns-2 (block-calls t) (read-block-at t) read-block.Post
-read-block-returns-2 t c = search (block-leaf, rules)
+read-block-returns-2 t c = search (block_leaf, rules)
 
 read-block-add-t8 : (t : ℕ) → read-block-lts.Need-overflow-add-t8 (block-calls t) (read-block-at t) read-block.Post
 read-block-add-t8 t c = omega (arith, some_block c.before.before.before.before.before.before.before.args.level)
 
 read-block-returns-3 : (t : ℕ) → read-block-lts.Need-returns-3 (block-calls t) (read-block-at t) read-block.Post
-read-block-returns-3 t c = search (block-deep, rules)
+read-block-returns-3 t c = search (block_deep, rules)
 
 read-block-sub-read-four : (t : ℕ) → read-block-lts.Need-overflow-sub-read-four (block-calls t) (read-block-at t) read-block.Post
 read-block-sub-read-four t c = search rules
 
 read-block-read-four-requires : (t : ℕ) → read-block-lts.Need-read-four-requires (block-calls t) (read-block-at t) read-block.Post
-read-block-read-four-requires t c κs = (search (four-lower, rules), search (four-reach, rules))
+read-block-read-four-requires t c κs = (search (four_lower, rules), search (four_reach, rules))
 
 read-block-returns-4 : (t : ℕ) → read-block-lts.Need-returns-4 (block-calls t) (read-block-at t) read-block.Post
-read-block-returns-4 t c = search (block-fork, rules)
+read-block-returns-4 t c = search (block_fork, rules)
 
 read-four-read-block-requires : (t : ℕ) → read-four-lts.Need-read-block-requires (four-calls t) (read-four-at t) read-four.Post
-read-four-read-block-requires t c κs = (omega arith, search (reach-1, rules))
+read-four-read-block-requires t c κs = (omega arith, search (reach_1, rules))
 
 read-four-enum-known-nw : (t : ℕ) → read-four-lts.Need-enum-known-nw (four-calls t) (read-four-at t) read-four.Post
 read-four-enum-known-nw t c = search rules
@@ -83,10 +83,10 @@ read-four-enum-told : (t : ℕ) → read-four-lts.Need-enum-told (four-calls t) 
 read-four-enum-told t c = search rules
 
 read-four-returns : (t : ℕ) → read-four-lts.Need-returns (four-calls t) (read-four-at t) read-four.Post
-read-four-returns t c = search (four-1, rules)
+read-four-returns t c = search (four_1, rules)
 
 read-four-read-block-requires-2 : (t : ℕ) → read-four-lts.Need-read-block-requires-2 (four-calls t) (read-four-at t) read-four.Post
-read-four-read-block-requires-2 t c κs = (omega arith, search (reach-2, rules))
+read-four-read-block-requires-2 t c κs = (omega arith, search (reach_2, rules))
 
 read-four-enum-known-ne : (t : ℕ) → read-four-lts.Need-enum-known-ne (four-calls t) (read-four-at t) read-four.Post
 read-four-enum-known-ne t c = search rules
@@ -95,10 +95,10 @@ read-four-enum-told-2 : (t : ℕ) → read-four-lts.Need-enum-told-2 (four-calls
 read-four-enum-told-2 t c = search rules
 
 read-four-returns-2 : (t : ℕ) → read-four-lts.Need-returns-2 (four-calls t) (read-four-at t) read-four.Post
-read-four-returns-2 t c = search (four-2, rules)
+read-four-returns-2 t c = search (four_2, rules)
 
 read-four-read-block-requires-3 : (t : ℕ) → read-four-lts.Need-read-block-requires-3 (four-calls t) (read-four-at t) read-four.Post
-read-four-read-block-requires-3 t c κs = (omega arith, search (reach-3, rules))
+read-four-read-block-requires-3 t c κs = (omega arith, search (reach_3, rules))
 
 read-four-enum-known-sw : (t : ℕ) → read-four-lts.Need-enum-known-sw (four-calls t) (read-four-at t) read-four.Post
 read-four-enum-known-sw t c = search rules
@@ -107,14 +107,14 @@ read-four-enum-told-3 : (t : ℕ) → read-four-lts.Need-enum-told-3 (four-calls
 read-four-enum-told-3 t c = search rules
 
 read-four-returns-3 : (t : ℕ) → read-four-lts.Need-returns-3 (four-calls t) (read-four-at t) read-four.Post
-read-four-returns-3 t c = search (four-3, rules)
+read-four-returns-3 t c = search (four_3, rules)
 
 read-four-read-block-requires-4 : (t : ℕ) → read-four-lts.Need-read-block-requires-4 (four-calls t) (read-four-at t) read-four.Post
 read-four-read-block-requires-4 t c κs =
     let third = c.before in
     let second = third.before.before.before.before in
     let first = second.before.before.before.before in
-    (search rules, reach-4 _ _ _ _ first.before.before.read-block.ensures _ _ first.nw.given.1 _ second.before.before.read-block2.ensures _ _ second.ne.given.1 _ third.before.before.read-block3.ensures _ _ third.sw.given.1 first.before.before.before.before.requires.1)
+    (search rules, reach_4 _ _ _ _ first.before.before.read-block.ensures _ _ first.nw.given.1 _ second.before.before.read-block2.ensures _ _ second.ne.given.1 _ third.before.before.read-block3.ensures _ _ third.sw.given.1 first.before.before.before.before.requires.1)
 
 read-four-enum-known-se : (t : ℕ) → read-four-lts.Need-enum-known-se (four-calls t) (read-four-at t) read-four.Post
 read-four-enum-known-se t c = search rules
@@ -123,7 +123,7 @@ read-four-enum-told-4 : (t : ℕ) → read-four-lts.Need-enum-told-4 (four-calls
 read-four-enum-told-4 t c = search rules
 
 read-four-returns-4 : (t : ℕ) → read-four-lts.Need-returns-4 (four-calls t) (read-four-at t) read-four.Post
-read-four-returns-4 t c = search (four-4, rules)
+read-four-returns-4 t c = search (four_4, rules)
 
 read-four-like-leaves-requires : (t : ℕ) → read-four-lts.Need-like-leaves-requires (four-calls t) (read-four-at t) read-four.Post
 read-four-like-leaves-requires t c κs = search rules
@@ -133,13 +133,13 @@ read-four-add-t17 t c =
     let third = c.before.before.before.before.before.before.before in
     let second = third.before.before.before.before in
     let first = second.before.before.before.before in
-    omega (arith, some_block first.before.before.before.before.args.level, reach-3 _ _ _ _ first.before.before.read-block.ensures _ _ first.nw.given.1 _ second.before.before.read-block2.ensures _ _ second.ne.given.1 first.before.before.before.before.requires.1, reach-4 _ _ _ _ first.before.before.read-block.ensures _ _ first.nw.given.1 _ second.before.before.read-block2.ensures _ _ second.ne.given.1 _ third.before.before.read-block3.ensures _ _ third.sw.given.1 first.before.before.before.before.requires.1)
+    omega (arith, some_block first.before.before.before.before.args.level, reach_3 _ _ _ _ first.before.before.read-block.ensures _ _ first.nw.given.1 _ second.before.before.read-block2.ensures _ _ second.ne.given.1 first.before.before.before.before.requires.1, reach_4 _ _ _ _ first.before.before.read-block.ensures _ _ first.nw.given.1 _ second.before.before.read-block2.ensures _ _ second.ne.given.1 _ third.before.before.read-block3.ensures _ _ third.sw.given.1 first.before.before.before.before.requires.1)
 
 read-four-returns-5 : (t : ℕ) → read-four-lts.Need-returns-5 (four-calls t) (read-four-at t) read-four.Post
-read-four-returns-5 t c = search (four-like, rules)
+read-four-returns-5 t c = search (four_like, rules)
 
 read-four-returns-6 : (t : ℕ) → read-four-lts.Need-returns-6 (four-calls t) (read-four-at t) read-four.Post
-read-four-returns-6 t c = search (four-read, rules)
+read-four-returns-6 t c = search (four_read, rules)
 
 pub +read-block-read-four-spec : {M : Type 1} → statement M
 +read-block-read-four-spec = close μ-read-block μ-read-four (λ t. read-block-lts.spec (block-calls t)

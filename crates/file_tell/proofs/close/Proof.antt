@@ -1,6 +1,6 @@
 -- The count, then the bytes left over: each return is one test of the definition.
 use Rattle.base.proofs.CaseLaws.{cases}
-use Rattle.file.specs.Reading.{closingOf}
+use Rattle.file.specs.Reading.{closing_of}
 use borrow.Author.Rules.{rules}
 use Rattle.file_tell.proofs.close.Statement.{statement}
 use Rattle.file_tell.proofs.close.Tie as tie
@@ -12,15 +12,15 @@ header-count-requires : tie.Need-header-count-requires
 header-count-requires c κs = search rules
 
 returns : tie.Need-returns
-unfolding closingOf
+unfolding closing_of
 returns c = search (cases, rules)
 
 returns-2 : tie.Need-returns-2
-unfolding closingOf
+unfolding closing_of
 returns-2 c = search (cases, rules)
 
 returns-3 : tie.Need-returns-3
-unfolding closingOf
+unfolding closing_of
 returns-3 c = search (cases, rules)
 
 pub close_spec : {M : Type 1} → statement M

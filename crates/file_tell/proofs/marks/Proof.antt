@@ -1,19 +1,19 @@
 -- Each return is one test of the definition: absent or wrong, the first mark byte and then the second.
 use Rattle.base.proofs.CaseLaws.{cases}
-use Rattle.file.specs.Reading.{marksOf}
+use Rattle.file.specs.Reading.{marks_of}
 use borrow.Author.Rules.{rules}
 use Rattle.file_tell.proofs.marks.Statement.{statement}
 use Rattle.file_tell.proofs.marks.Tie as tie
 
 returns : tie.Need-returns
-unfolding marksOf
+unfolding marks_of
 returns c = search (cases, rules)
 
 shared-slice-read-if2 : tie.Need-shared-slice-read-if2
 shared-slice-read-if2 c = search rules
 
 returns-2 : tie.Need-returns-2
-unfolding marksOf
+unfolding marks_of
 returns-2 c = search (cases, rules)
 
 add-next : tie.Need-overflow-add-next
@@ -23,18 +23,18 @@ cast-second-at : tie.Need-overflow-cast-second-at
 cast-second-at c = search rules
 
 returns-3 : tie.Need-returns-3
-unfolding marksOf
+unfolding marks_of
 returns-3 c = search (cases, rules)
 
 shared-slice-read-if4 : tie.Need-shared-slice-read-if4
 shared-slice-read-if4 c = search rules
 
 returns-4 : tie.Need-returns-4
-unfolding marksOf
+unfolding marks_of
 returns-4 c = search (cases, rules)
 
 returns-5 : tie.Need-returns-5
-unfolding marksOf
+unfolding marks_of
 returns-5 c = search (cases, rules)
 
 pub marks-spec : {M : Type 1} → statement M

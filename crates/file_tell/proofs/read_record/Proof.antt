@@ -1,7 +1,7 @@
 -- The marks, then the type byte: each return is one test of the definition.
 use Rattle.base.proofs.CaseLaws.{cases}
-use Rattle.file.specs.Reading.{recordOf}
-use Rattle.file_tell.proofs.RecordLaws.{marks-stop, marks-go, kind-stop, kind-go}
+use Rattle.file.specs.Reading.{record_of}
+use Rattle.file_tell.proofs.RecordLaws.{marks_stop, marks_go, kind_stop, kind_go}
 use borrow.Author.Rules.{rules}
 use Rattle.file_tell.proofs.read_record.Statement.{statement}
 use Rattle.file_tell.proofs.read_record.Tie as tie
@@ -13,8 +13,8 @@ answered-requires : tie.Need-answered-requires
 answered-requires c κs = search rules
 
 returns : tie.Need-returns
-unfolding recordOf
-returns c = search (marks-stop, rules)
+unfolding record_of
+returns c = search (marks_stop, rules)
 
 add-place : tie.Need-overflow-add-place
 add-place c = search rules
@@ -23,8 +23,8 @@ cast-type-at : tie.Need-overflow-cast-type-at
 cast-type-at c = search rules
 
 returns-2 : tie.Need-returns-2
-unfolding recordOf
-returns-2 c = search (marks-go, cases, rules)
+unfolding record_of
+returns-2 c = search (marks_go, cases, rules)
 
 shared-slice-read-wide : tie.Need-shared-slice-read-wide
 shared-slice-read-wide c = search rules
@@ -36,15 +36,15 @@ is-type-requires : tie.Need-is-type-requires
 is-type-requires c κs = search rules
 
 returns-3 : tie.Need-returns-3
-unfolding recordOf
-returns-3 c = search (marks-go, kind-stop, cases, rules)
+unfolding record_of
+returns-3 c = search (marks_go, kind_stop, cases, rules)
 
 add-t14 : tie.Need-overflow-add-t14
 add-t14 c = search rules
 
 returns-4 : tie.Need-returns-4
-unfolding recordOf
-returns-4 c = search (marks-go, kind-go, cases, rules)
+unfolding record_of
+returns-4 c = search (marks_go, kind_go, cases, rules)
 
 pub read-record-spec : {M : Type 1} → statement M
 read-record-spec =

@@ -1,6 +1,6 @@
 -- The check, then the room; nothing is written before both have passed.
 use native.Mathlib.Omega.{arith}
-use Rattle.file_write.proofs.WriteCallLaws.{writes-refused, count_fits, writes-full, header-asks, root_ok, writes-sheet}
+use Rattle.file_write.proofs.WriteCallLaws.{writes_refused, count_fits, writes_full, header_asks, root_ok, writes_sheet}
 use borrow.Author.Rules.{rules}
 use Rattle.file_write.proofs.write.Statement.{statement}
 use Rattle.file_write.proofs.write.Tie as tie
@@ -12,7 +12,7 @@ answered-requires : tie.Need-answered-requires
 answered-requires c κs = search rules
 
 returns : tie.Need-returns
-returns c = search (writes-refused, rules)
+returns c = search (writes_refused, rules)
 
 value-requires : tie.Need-value-requires
 value-requires c κs = search rules
@@ -27,10 +27,10 @@ cast-if2 : tie.Need-overflow-cast-if2
 cast-if2 c = search rules
 
 returns-2 : tie.Need-returns-2
-returns-2 c = search (writes-full, rules)
+returns-2 c = search (writes_full, rules)
 
 put-header-requires : tie.Need-put-header-requires
-put-header-requires c κs = header-asks _ _ c.before.before.before.before.before.before.before.before.args.file.now _ _ c.before.before.before.before.before.check.ensures c.before.before.before.before.answered.ensures c.before.before.before.if1.false _ c.before.before.value.ensures c.before.if2.false
+put-header-requires c κs = header_asks _ _ c.before.before.before.before.before.before.before.before.args.file.now _ _ c.before.before.before.before.before.check.ensures c.before.before.before.before.answered.ensures c.before.before.before.if1.false _ c.before.before.value.ensures c.before.if2.false
 
 write-block-requires : tie.Need-write-block-requires
 write-block-requires c κs = search (root_ok, rules)
@@ -39,7 +39,7 @@ same_length : tie.Need-same-length
 same_length c = search rules
 
 returns-3 : tie.Need-returns-3
-returns-3 c = search (writes-sheet, rules)
+returns-3 c = search (writes_sheet, rules)
 
 pub write_spec : {M : Type 1} → statement M
 write_spec =

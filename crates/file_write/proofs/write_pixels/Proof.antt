@@ -1,6 +1,6 @@
 -- `file_write::write_pixels`: five records, each right behind the one before. Assumes nothing.
 use native.Mathlib.Omega.{arith}
-use Rattle.file.proofs.WriteLaws.{pixels-wrote}
+use Rattle.file.proofs.WriteLaws.{pixels_wrote}
 use borrow.Author.Rules.{rules}
 use Rattle.file_write.proofs.write_pixels.Statement.{statement}
 use Rattle.file_write.proofs.write_pixels.Tie as tie
@@ -57,7 +57,7 @@ same_length c = search rules
 
 returns : tie.Need-returns
 returns c =
-    pixels-wrote _ _ c.before.before.before.before.before.before.before.before.before.before.before.before.before.before.before.before.before.before.before.before.before.before.before.before.before.before.requires.0 _ _ _ _ _ _ _ _ _ _ _ c.before.before.before.before.before.before.before.before.before.before.before.before.before.before.before.before.before.before.before.before.before.before.before.pixel-type.ensures c.before.before.before.before.before.before.before.before.before.before.before.before.before.before.before.before.before.before.before.before.before.before.pixel-type2.ensures c.before.before.before.before.before.before.before.before.before.before.before.before.before.before.before.before.before.before.before.before.before.pixel-type3.ensures c.before.before.before.before.before.before.before.before.before.before.before.before.before.before.before.before.before.before.before.before.pixel-type4.ensures
+    pixels_wrote _ _ c.before.before.before.before.before.before.before.before.before.before.before.before.before.before.before.before.before.before.before.before.before.before.before.before.before.before.requires.0 _ _ _ _ _ _ _ _ _ _ _ c.before.before.before.before.before.before.before.before.before.before.before.before.before.before.before.before.before.before.before.before.before.before.before.pixel-type.ensures c.before.before.before.before.before.before.before.before.before.before.before.before.before.before.before.before.before.before.before.before.before.before.pixel-type2.ensures c.before.before.before.before.before.before.before.before.before.before.before.before.before.before.before.before.before.before.before.before.before.pixel-type3.ensures c.before.before.before.before.before.before.before.before.before.before.before.before.before.before.before.before.before.before.before.before.pixel-type4.ensures
     c.before.before.before.before.before.before.before.before.before.before.before.before.before.before.before.before.before.before.put_record.ensures c.before.before.before.before.before.before.before.before.before.before.before.before.before.before.put-record2.ensures c.before.before.before.before.before.before.before.before.before.before.put-record3.ensures c.before.before.before.before.before.before.put-record4.ensures c.before.before.put-record5.ensures
 
 pub write-pixels-spec : {M : Type 1} → statement M

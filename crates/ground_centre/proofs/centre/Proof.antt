@@ -1,7 +1,7 @@
 -- `ground_centre::centre`: the refusals in their order, then two stores; nothing is written before the last test.
 -- Assumes nothing.
-use Rattle.ground_centre.proofs.CentreLaws.{centre-asked, centre-range, centre-room, centre-put}
-use Rattle.table.proofs.CheckLaws.{asked-call}
+use Rattle.ground_centre.proofs.CentreLaws.{centre_asked, centre_range, centre_room, centre_put}
+use Rattle.table.proofs.CheckLaws.{asked_call}
 use lib.ListN.{length-set}
 use native.Mathlib.Omega.{arith}
 use borrow.Author.Rules.{rules}
@@ -15,7 +15,7 @@ answered-requires : tie.Need-answered-requires
 answered-requires c κs = search rules
 
 returns : tie.Need-returns
-returns c = search (centre-asked, rules)
+returns c = search (centre_asked, rules)
 
 range-requires : tie.Need-range-requires
 range-requires c κs = search rules
@@ -24,13 +24,13 @@ answered-requires-2 : tie.Need-answered-requires-2
 answered-requires-2 c κs = search rules
 
 returns-2 : tie.Need-returns-2
-returns-2 c = search (centre-range, rules)
+returns-2 c = search (centre_range, rules)
 
 returns-3 : tie.Need-returns-3
-returns-3 c = search (centre-room, rules)
+returns-3 c = search (centre_room, rules)
 
 middle-of-requires : tie.Need-middle-of-requires
-middle-of-requires c κs = search (asked-call, rules)
+middle-of-requires c κs = search (asked_call, rules)
 
 east-of-requires : tie.Need-east-of-requires
 east-of-requires c κs = search rules
@@ -48,7 +48,7 @@ same_length : tie.Need-same-length
 same_length c = search rules
 
 returns-4 : tie.Need-returns-4
-returns-4 c = search (centre-put, rules)
+returns-4 c = search (centre_put, rules)
 
 pub centre-spec : {M : Type 1} → statement M
 centre-spec =

@@ -1,5 +1,5 @@
 -- `ground_centre::half_pixels`: the shift is exact, since index and level are a sheet's. Assumes nothing.
-use Rattle.ground_centre.proofs.GroundLaws.{half-pixels-is}
+use Rattle.ground_centre.proofs.GroundLaws.{half_pixels_is}
 use borrow.Author.Rules.{rules}
 use Rattle.ground_centre.proofs.half_pixels.Statement.{statement}
 use Rattle.ground_centre.proofs.half_pixels.Tie as tie
@@ -14,7 +14,7 @@ shl-result : tie.Need-overflow-shl-result
 shl-result c = search rules
 
 returns : tie.Need-returns
-returns c = search (half-pixels-is, rules)
+returns c = search (half_pixels_is, rules)
 
 pub half-pixels-spec : {M : Type 1} → statement M
 half-pixels-spec = tie.close (tie.spec mul-result add-result shl-result returns)

@@ -1,7 +1,7 @@
 -- `neighbour_around::of_son`: three brothers, and five parts of what stands around their father. Assumes nothing.
 use Prim.Native.Nat.{◌+◌, ◌-◌, ◌*◌, ◌/◌, ◌%◌}
 use native.Mathlib.Omega.{arith}
-use Rattle.neighbour_around.proofs.SurroundLaws.{sons-placed}
+use Rattle.neighbour_around.proofs.SurroundLaws.{sons_placed}
 use borrow.Author.Rules.{rules}
 use Rattle.neighbour_around.proofs.of_son.Statement.{statement}
 use Rattle.neighbour_around.proofs.of_son.Tie as tie
@@ -188,7 +188,7 @@ element-write-own-8 : tie.Need-element-write-own-8
 element-write-own-8 c = search rules
 
 returns : tie.Need-returns
-returns c = search (sons-placed, rules)
+returns c = search (sons_placed, rules)
 
 pub of-son-spec : {M : Type 1} → statement M
 of-son-spec =

@@ -1,5 +1,5 @@
 -- `neighbour_around::quarter`: the type picks the son or the leaf itself. Assumes nothing.
-use Rattle.neighbour_around.proofs.SurroundLaws.{quarter-picked}
+use Rattle.neighbour_around.proofs.SurroundLaws.{quarter_picked}
 use borrow.Author.Rules.{rules}
 use Rattle.neighbour_around.proofs.quarter.Statement.{statement}
 use Rattle.neighbour_around.proofs.quarter.Tie as tie
@@ -32,7 +32,7 @@ array-read-result : tie.Need-array-read-result
 array-read-result c = search rules
 
 returns : tie.Need-returns
-returns c = search (quarter-picked, rules)
+returns c = search (quarter_picked, rules)
 
 pub quarter-spec : {M : Type 1} → statement M
 quarter-spec =

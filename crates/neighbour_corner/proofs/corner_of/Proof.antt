@@ -5,16 +5,16 @@ use Prim.Native.Nat.{◌-◌, ◌<◌}
 use native.Mathlib.Omega.{arith}
 use borrow.Author.Tests.{eq-eqb, ne_eqb}
 use Rattle.table.specs.Table.{nodes}
-use Rattle.table.specs.Nodes.{levelOf}
-use Rattle.table.proofs.AcceptedLaws.{sons-of}
-use Rattle.neighbour.specs.Search.{cornerUnder}
-use Rattle.neighbour.proofs.CornerLaws.{level-down, corner-fork, corner-leaf}
+use Rattle.table.specs.Nodes.{level_of}
+use Rattle.table.proofs.AcceptedLaws.{sons_of}
+use Rattle.neighbour.specs.Search.{corner_under}
+use Rattle.neighbour.proofs.CornerLaws.{level_down, corner_fork, corner_leaf}
 use Rattle.neighbour_corner.proofs.corner_of.Statement.{statement}
 use Rattle.neighbour_corner.proofs.corner_of.Tie as tie
 
 abbrev invariant-loop : tie.invariant-loop
 invariant-loop n table node level quadrant p₀ its₀ p its =
-    (p < nodes table) × (its ≡ levelOf n table p) × (cornerUnder n table quadrant p ≡ cornerUnder n table quadrant node)
+    (p < nodes table) × (its ≡ level_of n table p) × (corner_under n table quadrant p ≡ corner_under n table quadrant node)
 
 abbrev decreases-loop : tie.decreases-loop
 decreases-loop n table node level quadrant p₀ its₀ p its = nodes table - p
@@ -35,12 +35,12 @@ sub-its : tie.Need-overflow-sub-its invariant-loop decreases-loop
 sub-its c =
     let z = c.before.before.before.before.before.requires in
     let v = c.before.before.before.loop.invariant in
-    omega (arith, v.1, level-down _ _ z.0 _ _ v.0 z.3 (eq-eqb _ _ (sym c.before.before.word_at.ensures ∙ c.before.if1.true)))
+    omega (arith, v.1, level_down _ _ z.0 _ _ v.0 z.3 (eq-eqb _ _ (sym c.before.before.word_at.ensures ∙ c.before.if1.true)))
 
 loop-less : tie.Need-loop-smaller invariant-loop decreases-loop
 loop-less c =
     let z = c.before.before.before.before.before.requires in
-    let i = sons-of _ _ z.0 _ c.before.before.before.loop.invariant.0 (eq-eqb _ _ (sym c.before.before.word_at.ensures ∙ c.before.if1.true)) _ z.3 in
+    let i = sons_of _ _ z.0 _ c.before.before.before.loop.invariant.0 (eq-eqb _ _ (sym c.before.before.word_at.ensures ∙ c.before.if1.true)) _ z.3 in
     omega (arith, i.above, i.below, c.word-at2.ensures)
 
 loop-again : tie.Need-loop-preserved invariant-loop decreases-loop
@@ -49,15 +49,15 @@ loop-again c =
     let v = c.before.before.before.loop.invariant in
     let f = eq-eqb _ _ (sym c.before.before.word_at.ensures ∙ c.before.if1.true) in
     rw c.word-at2.ensures (
-      (sons-of _ _ z.0 _ v.0 f _ z.3).below,
-      omega (arith, v.1, level-down _ _ z.0 _ _ v.0 z.3 f),
-      corner-fork _ _ z.0 _ _ v.0 z.3 f ∙ v.2,
+      (sons_of _ _ z.0 _ v.0 f _ z.3).below,
+      omega (arith, v.1, level_down _ _ z.0 _ _ v.0 z.3 f),
+      corner_fork _ _ z.0 _ _ v.0 z.3 f ∙ v.2,
     )
 
 returns : tie.Need-returns invariant-loop decreases-loop
 returns c =
     let v = c.before.before.loop.invariant in
-    corner-leaf _ _ c.before.before.before.before.requires.0 _ _ _ _ (ne_eqb _ _ (λ e. c.if1.false (c.before.word_at.ensures ∙ e))) v.1 v.2
+    corner_leaf _ _ c.before.before.before.before.requires.0 _ _ _ _ (ne_eqb _ _ (λ e. c.if1.false (c.before.word_at.ensures ∙ e))) v.1 v.2
 
 pub corner-of-spec : {M : Type 1} → statement M
 corner-of-spec =

@@ -5,7 +5,7 @@ use mathlib.Core.Path.{refl}
 use native.Mathlib.Omega.{arith}
 use Rattle.table.specs.Table.{father}
 use Rattle.neighbour.specs.Search.{Climbed}
-use Rattle.neighbour_find.proofs.ClimbLaws.{climbAt, set_out, Turn, turn}
+use Rattle.neighbour_find.proofs.ClimbLaws.{climb_at, set_out, Turn, turn}
 use Rattle.neighbour_find.proofs.ascend.Statement.{statement}
 use Rattle.neighbour_find.proofs.ascend.Tie as tie
 use Rattle.neighbour_find.proofs.ascend.Reads as reads
@@ -16,7 +16,7 @@ use Rattle.table_node.proofs.son_type.Reads as son-type
 use Rattle.table_node.proofs.word_at.Reads as word_at
 
 abbrev invariant-loop : tie.invariant-loop
-invariant-loop n table p level direction node₀ above₀ way₀ moves₀ node above way moves = Climbed n table p level direction (climbAt node above way moves)
+invariant-loop n table p level direction node₀ above₀ way₀ moves₀ node above way moves = Climbed n table p level direction (climb_at node above way moves)
 
 abbrev decreases-loop : tie.decreases-loop
 decreases-loop n table p level direction node₀ above₀ way₀ moves₀ node above way moves = node

@@ -5,21 +5,21 @@ use Prim.Native.Nat.{◌-◌}
 use native.Mathlib.Omega.{arith}
 use borrow.Author.Rules.{rules}
 use borrow.Author.Tests.{eq-eqb, ne_eqb}
-use Rattle.table.specs.Nodes.{pathTo}
+use Rattle.table.specs.Nodes.{path_to}
 use Rattle.neighbour.specs.Search.{block, inward}
-use Rattle.neighbour_find.proofs.ClimbLaws.{Under, go-down, one_down, arrived, stopped}
+use Rattle.neighbour_find.proofs.ClimbLaws.{Under, go_down, one_down, arrived, stopped}
 use Rattle.neighbour_find.proofs.descend.Statement.{statement}
 use Rattle.neighbour_find.proofs.descend.Tie as tie
 
 abbrev invariant-loop : tie.invariant-loop
 invariant-loop n table level node₀ its₀ moves₀ node its moves =
-    Under n table (inward (its₀ - level) moves₀ (block (pathTo table n node₀))) level node its moves
+    Under n table (inward (its₀ - level) moves₀ (block (path_to table n node₀))) level node its moves
 
 abbrev decreases-loop : tie.decreases-loop
 decreases-loop n table level node₀ its₀ moves₀ node its moves = its - level
 
 loop-holds : tie.Need-loop-init invariant-loop decreases-loop
-loop-holds c = let z = c.before.requires in go-down _ _ z.accepted _ _ c.before.args.from z.node z.low refl
+loop-holds c = let z = c.before.requires in go_down _ _ z.accepted _ _ c.before.args.from z.node z.low refl
 
 word-at-requires : tie.Need-word-at-requires invariant-loop decreases-loop
 word-at-requires c κs = (c.before.loop.invariant.below, omega arith)

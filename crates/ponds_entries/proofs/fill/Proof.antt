@@ -56,16 +56,16 @@ use denote.Triple.Walked.{says, needs, Stays, stay_none, stay_none_slice, stay_s
 use denote.Triple.Walked.{walk_of, Walks, ends_at, walked, walk_Meets}
 use denote.Exit.{yes}
 use Rattle.base.specs.Tab.{overlay}
-use Rattle.base.proofs.BoolLaws.{lt-or-ge}
+use Rattle.base.proofs.BoolLaws.{lt_or_ge}
 use Rattle.table.specs.Table.{nodes}
 use Rattle.table.specs.Rules.{Asked}
 use Rattle.table.specs.Blocks.{block_of}
 use Rattle.ponds.specs.declared.Pond.{Pond}
 use Rattle.ponds.specs.Entries.{entries}
-use Rattle.ponds_entry.specs.Gathered.{emptyPond, grownOf, Fitting, Numbers}
-use Rattle.ponds_entries.proofs.SliceLaws.{some-pond, no-pond, cleared, cleared-none, cleared-length, cleared_more}
-use Rattle.ponds_entries.proofs.SliceLaws.{filled, filled_none, filled-length, filled-all, filled-same, filled_more, filled-fits}
-use Rattle.ponds_entries.proofs.WalkLaws.{Upto, Nearer, nearer-wf, rooms, deaths, frees_all, cell, its, begins, lends, gets_back, hears, asks}
+use Rattle.ponds_entry.specs.Gathered.{empty_pond, grown_of, Fitting, Numbers}
+use Rattle.ponds_entries.proofs.SliceLaws.{some_pond, no_pond, cleared, cleared_none, cleared_length, cleared_more}
+use Rattle.ponds_entries.proofs.SliceLaws.{filled, filled_none, filled_length, filled_all, filled_same, filled_more, filled_fits}
+use Rattle.ponds_entries.proofs.WalkLaws.{Upto, Nearer, nearer_wf, rooms, deaths, frees_all, cell, its, begins, lends, gets_back, hears, asks}
 use Rattle.ponds.specs.contracts.Pond as T
 use Rattle.ponds.proofs.Pond.TheLaws as T'
 use Rattle.ponds_entry.specs.contracts.empty as empty
@@ -247,7 +247,7 @@ module _ {M : Type 1} {𝓤 : Ura M} (𝓛 : Logic 𝓤) (at_mem : Memory → SP
           tt,
         )
 
-        asks-grow : i < 2 ^ 64 → p < 2 ^ 64 → (i < length zs) × (Asked n table.now p × Fitting (get_or zs i emptyPond) (block_of n table.now p))
+        asks-grow : i < 2 ^ 64 → p < 2 ^ 64 → (i < length zs) × (Asked n table.now p × Fitting (get_or zs i empty_pond) (block_of n table.now p))
             → ent 𝓤 (⋆ 𝓛 (‵ (flft κ₀ q₀) ∷ ‵ (flft (α ∷ []) full_share) ∷ ‵ tab ∷ ‵ (lent-reg (named 1) α δ zs) ∷ [])) (Growing.pre to-grow)
         asks-grow small less fits =
             qed 𝓛 (‵ (flft κ₀ q₀) ∷ ‵ (flft (α ∷ []) full_share) ∷ ‵ tab ∷ ‵ (lent-reg (named 1) α δ zs) ∷ []) ∵ says ! fits $
@@ -264,7 +264,7 @@ module _ {M : Type 1} {𝓤 : Ura M} (𝓛 : Logic 𝓤) (at_mem : Memory → SP
     reg p = filled n table.now numbers.now count ys p
 
     long : (p : ℕ) → length (reg p) ≡ length ys
-    long p = filled-length n table.now numbers.now count ys p enough
+    long p = filled_length n table.now numbers.now count ys p enough
 
     -- the next node, p, has the number k of a pond
     module _ (p k : ℕ) (less : p < length numbers.now) (is : k ≡ get_or numbers.now p 0) (pond : Holds (not (eqb k 0))) where
@@ -272,16 +272,16 @@ module _ {M : Type 1} {𝓤 : Ura M} (𝓛 : Logic 𝓤) (at_mem : Memory → SP
       node = omega (arith, sheet.words)
 
       few : k - 1 < count
-      few = omega (arith, is, some-pond k pond, sheet.few p node)
+      few = omega (arith, is, some_pond k pond, sheet.few p node)
 
-      grown-fits : (k - 1 < length (reg p)) × (Asked n table.now p × Fitting (get_or (reg p) (k - 1) emptyPond) (block_of n table.now p))
+      grown-fits : (k - 1 < length (reg p)) × (Asked n table.now p × Fitting (get_or (reg p) (k - 1) empty_pond) (block_of n table.now p))
       grown-fits = (
         omega (arith, few, long p),
-        (record { accepted = sheet.accepted; node = node }, filled-fits n table.now numbers.now count ys p (k - 1) few sheet node),
+        (record { accepted = sheet.accepted; node = node }, filled_fits n table.now numbers.now count ys p (k - 1) few sheet node),
       )
 
-      grown-in : set (reg p) (k - 1) (grownOf (get_or (reg p) (k - 1) emptyPond) (block_of n table.now p)) ≡ reg (p + 1)
-      grown-in = filled_more n table.now numbers.now count ys p (k - 1) few (omega (arith, is, some-pond k pond))
+      grown-in : set (reg p) (k - 1) (grown_of (get_or (reg p) (k - 1) empty_pond) (block_of n table.now p)) ≡ reg (p + 1)
+      grown-in = filled_more n table.now numbers.now count ys p (k - 1) few (omega (arith, is, some_pond k pond))
 
     module _ (𝓣 : Tables 𝓤 H) (known : Known 𝓣.C) (l₀ l₁ l₂ l₃ l₄ l₅ l₆ l₇ l₈ l₉ l₁₀ l₁₁ l₁₂ l₁₃ l₁₄ l₁₅ l₁₆ l₁₇ l₁₈ l₁₉ : ℕ) where
       abbrev C : Calls 𝓤 H
@@ -364,7 +364,7 @@ module _ {M : Type 1} {𝓤 : Ura M} (𝓛 : Logic 𝓤) (at_mem : Memory → SP
           (λ pond. begins ! 16 (addr ! (from ! (fld ! refl (hop ! (look_in ! 22 (sub ! 0 refl (whole !))) (stop !))))) refl (tt, tt) $
           begins ! 17 (agg ! (and_then ! (its ! 16 refl) (and_then ! (load ! (from ! (fld ! refl (stop !))) (look_in ! 22 (sub ! 1 refl (whole !))))
           (no_more !)))) refl (tt, (tt, (record { fits = room.0 }, tt))) $
-          begins ! 18 (bin ! (its ! 7 refl) (lit ! tt) (some-pond k pond)) refl (tt, record { fits = below k g.1 }) $
+          begins ! 18 (bin ! (its ! 7 refl) (lit ! tt) (some_pond k pond)) refl (tt, record { fits = below k g.1 }) $
           rewrite ! 17 (λ (m : ℕ). cell (lent erased) l₁₈ (slice_val (b, o) m)) (sym (long p.0)) refl $
           lends ! tt T.the_row (named 1) (reg p.0) b o (subst (Room T.the_row) (sym (long p.0)) room) (λ α δ.
           move ! (6 ∷ []) $ use1 𝓛 (‵ tab ⊛ ‵ tab) ((shr_slice_copy 𝓛 (named 0) κ₀ u32).twice table (shr_slice_vals table)) $ split ! $
@@ -375,7 +375,7 @@ module _ {M : Type 1} {𝓤 : Ura M} (𝓛 : Logic 𝓤) (at_mem : Memory → SP
           (and_then ! (its ! 19 refl) (and_then ! (its ! 20 refl) (and_then ! (its ! 6 refl) (and_then ! (its ! 17 refl) (and_then ! (its ! 18 refl)
           (no_more !))))))
           (λ w. hears ! tt w grow.ended (grow.clauses 𝓛 at_mem run) (to-grow α δ (reg p.0) (k - 1) p.0)
-          (λ _ zs. zs.1.1.1.0 ≡ set (reg p.0) (k - 1) (grownOf (get_or (reg p.0) (k - 1) emptyPond) (block_of n table.now p.0))) (λ _ zs. id⊢ 𝓤 _)
+          (λ _ zs. zs.1.1.1.0 ≡ set (reg p.0) (k - 1) (grown_of (get_or (reg p.0) (k - 1) empty_pond) (block_of n table.now p.0))) (λ _ zs. id⊢ 𝓤 _)
           (λ _ zs grew e.
           use1 𝓛 (‵ (flft κ₀ q₀) ⊛ (‵ (flft (α ∷ []) full_share) ⊛ ‵ ftrue)) (id⊢ 𝓤 _) $ split ! $ move ! (1 ∷ []) $ split ! $
           -- [α's token; true; κ₀'s token; what is said of the last values; the table; the lender's part; κ₁'s token;
@@ -386,7 +386,7 @@ module _ {M : Type 1} {𝓤 : Ura M} (𝓛 : Logic 𝓤) (at_mem : Memory → SP
           forget ! 7 refl $ forget ! 13 refl $ forget ! 14 refl $ forget ! 15 refl $ forget ! 16 refl $ forget ! 17 refl $ forget ! 18 refl $
           rewrite ! 0 Row (grew ∙ grown-in p.0 k less is pond) refl $ exec ! C Λ En onward (any_q (Gathers p)) $ goes_on p less))))
           (λ none. skips ! $ forget ! 7 refl $ forget ! 13 refl $ forget ! 14 refl $
-          rewrite ! 0 Row (filled-same n table.now numbers.now count ys p.0 k is (no-pond k none)) refl $ exec ! C Λ En onward (any_q (Gathers p)) $
+          rewrite ! 0 Row (filled_same n table.now numbers.now count ys p.0 k is (no_pond k none)) refl $ exec ! C Λ En onward (any_q (Gathers p)) $
           goes_on p less))
         where
           small : p.0 < 2 ^ 64
@@ -413,13 +413,13 @@ module _ {M : Type 1} {𝓤 : Ura M} (𝓛 : Logic 𝓤) (at_mem : Memory → SP
           frees_all 𝓛 En (AtEnd (reg p.0)) (prop (Post vunit)) (by ! (exits (reg p.0) is (long p.0)))
         where
           is : reg p.0 ≡ overlay (entries n table.now numbers.now count) ys
-          is = filled-all n table.now numbers.now count ys sheet p.0 (le_antisymm p.1 over ∙ sheet.words)
+          is = filled_all n table.now numbers.now count ys sheet p.0 (le_antisymm p.1 over ∙ sheet.words)
 
       -- no node is gathered, and p is the first
       gathering : (p : ℕ) → Holds (eqb p 0) → Sq 𝓛 (at-node (reg 0) p) (runs C Λ En pieces.t-4 (at_ret En Post))
       gathering p none =
           subst (λ (k : ℕ). Sq 𝓛 (at-node (reg 0) k) (runs C Λ En pieces.t-4 (at_ret En Post))) (sym (eqb→eq p 0 none)) (first ! $ blocks ! $
-          loops ! 𝓣 (Nearer N) (nearer-wf N) Gathered (λ k. ⊎_elim (gathers k) (gathered-all k) (lt-or-ge k.0 N)) (0, zero-le))
+          loops ! 𝓣 (Nearer N) (nearer_wf N) Gathered (λ k. ⊎_elim (gathers k) (gathered-all k) (lt_or_ge k.0 N)) (0, zero-le))
 
       -- ---- the first loop: i entries are empty
       abbrev Cleared : Upto count → List (Item 𝓤)
@@ -437,7 +437,7 @@ module _ {M : Type 1} {𝓤 : Ura M} (𝓛 : Logic 𝓤) (at_mem : Memory → SP
           begins ! 11 (agg ! (and_then ! (its ! 10 refl) (and_then ! (load ! (from ! (fld ! refl (stop !))) (look_in ! 22 (sub ! 1 refl (whole !))))
           (no_more !)))) refl (tt, (tt, (record { fits = room.0 }, tt))) $
           nothing ! $ use1 𝓛 (raw (Empty.pre to-empty)) asks-empty $
-          asks ! fm empty.ended (empty.clauses 𝓛 at_mem run) known.is-empty to-empty (λ r ws. r ≡ emptyPond) (λ r ws. id⊢ 𝓤 _) (no_more !)
+          asks ! fm empty.ended (empty.clauses 𝓛 at_mem run) known.is-empty to-empty (λ r ws. r ≡ empty_pond) (λ r ws. id⊢ 𝓤 _) (no_more !)
           (λ v r ws is g. drop ! $ drop ! $ land ! (from ! (stop !)) (init ! 12 refl (typed r v g)) $
           rewrite ! 11 (λ (m : ℕ). cell (lent erased) l₁₂ (slice_val (b, o) m)) (sym same) refl $
           lends ! tt T.the_row (named 0) (cleared ys i.0) b o (subst (Room T.the_row) (sym same) room) (λ α δ.
@@ -457,15 +457,15 @@ module _ {M : Type 1} {𝓤 : Ura M} (𝓛 : Logic 𝓤) (at_mem : Memory → SP
           again ! (Nearer count) Cleared i (i.0 + 1, add-one-le less) (add-one-dec count i.0 less))))
         where
           same : length (cleared ys i.0) ≡ length ys
-          same = cleared-length ys i.0 (omega arith)
+          same = cleared_length ys i.0 (omega arith)
 
           small : i.0 < 2 ^ 64
           small = omega arith
 
       -- no entry is left: the second loop begins
-      cleared-all : (i : Upto count) → count ≤ i.0 → Sq 𝓛 (Cleared i) (runs C Λ En pieces.turn-1 (any_q (Clears i)))
+      cleared_all : (i : Upto count) → count ≤ i.0 → Sq 𝓛 (Cleared i) (runs C Λ En pieces.turn-1 (any_q (Clears i)))
       unfolding after_turn
-      cleared-all i over =
+      cleared_all i over =
           begins ! 8 (bin ! (its ! 5 refl) (its ! 23 refl) tt) refl (tt, tt) $
           rewrite ! 8 (λ (t : Bool). cell ty_bool l₉ (vbool t)) (le-ltb i.0 count over) refl $ leaves_loop ! (its ! 8 refl) $
           exec ! C Λ En pieces.t-3 (at_ret En Post) $
@@ -474,7 +474,7 @@ module _ {M : Type 1} {𝓤 : Ura M} (𝓛 : Logic 𝓤) (at_mem : Memory → SP
           begins ! 6 (of_opd ! (lit ! tt)) refl (tt, record { fits = lit< tt }) $ gathering _ tt
 
       clearing : (i : Upto count) → Sq 𝓛 (Cleared i) (runs C Λ En pieces.turn-1 (any_q (Clears i)))
-      clearing i = ⊎_elim (clears i) (cleared-all i) (lt-or-ge i.0 count)
+      clearing i = ⊎_elim (clears i) (cleared_all i) (lt_or_ge i.0 count)
 
     -- the machine values passed
     abbrev passed : List Val
@@ -500,10 +500,10 @@ module _ {M : Type 1} {𝓤 : Ura M} (𝓛 : Logic 𝓤) (at_mem : Memory → SP
         move ! (41 ∷ []) $ fsplit ! $ drop ! $ fsplit ! $ move ! (1 ∷ []) $ fsplit ! $ move ! (1 ∷ []) $ fsplit ! $ fsplit ! $ drop ! $ fsplit ! $
         move ! (45 ∷ []) $ split ! $ move ! (1 ∷ []) $ split ! $ move ! (1 ∷ []) $ split ! $ move ! (4 ∷ 5 ∷ 0 ∷ []) $ opens_slice ! tt T.the_row ys b o $
         -- [the entries; the open borrow; obs; auth; true; κ₁'s token; κ₀'s; count's; the numbers; the table; _19; …]
-        rewrite ! 0 (λ (zs : List Pond). ‵ (row T.the_row full_share zs b o)) (cleared-none ys) refl $
+        rewrite ! 0 (λ (zs : List Pond). ‵ (row T.the_row full_share zs b o)) (cleared_none ys) refl $
         keep ! (0 ∷ 5 ∷ 8 ∷ 6 ∷ 9 ∷ 36 ∷ 34 ∷ 32 ∷ 30 ∷ 28 ∷ 26 ∷ 24 ∷ 22 ∷ 20 ∷ 18 ∷ 16 ∷ 14 ∷ 12 ∷ 10 ∷ 46 ∷ 44 ∷ 42 ∷ 40 ∷ 38 ∷ 48 ∷ 1 ∷ 2 ∷ 3 ∷ 49 ∷ 47
         ∷ 45 ∷ 43 ∷ 41 ∷ 39 ∷ 37 ∷ 35 ∷ 33 ∷ 31 ∷ 29 ∷ 27 ∷ 25 ∷ 23 ∷ 21 ∷ 19 ∷ 17 ∷ 15 ∷ 13 ∷ 11 ∷ []) $ first ! $ blocks ! $
-        loops ! 𝓣 (Nearer count) (nearer-wf count) (Cleared 𝓣 known l₀ l₁ l₂ l₃ l₄ l₅ l₆ l₇ l₈ l₉ l₁₀ l₁₁ l₁₂ l₁₃ l₁₄ l₁₅ l₁₆ l₁₇ l₁₈ l₁₉)
+        loops ! 𝓣 (Nearer count) (nearer_wf count) (Cleared 𝓣 known l₀ l₁ l₂ l₃ l₄ l₅ l₆ l₇ l₈ l₉ l₁₀ l₁₁ l₁₂ l₁₃ l₁₄ l₁₅ l₁₆ l₁₇ l₁₈ l₁₉)
         (clearing 𝓣 known l₀ l₁ l₂ l₃ l₄ l₅ l₆ l₇ l₈ l₉ l₁₀ l₁₁ l₁₂ l₁₃ l₁₄ l₁₅ l₁₆ l₁₇ l₁₈ l₁₉) (0, zero-le)))))))))))))))))))))
 
   -- ---- from the walk to the contract

@@ -48,7 +48,7 @@ use borrow.Author.Rules.{scaled_Fits}
 use Rattle.table.specs.Rules.{Asked}
 use Rattle.table.specs.Blocks.{block_of}
 use Rattle.ponds.specs.declared.Pond.{Pond}
-use Rattle.ponds_entry.specs.Gathered.{emptyPond, grownOf, Fitting}
+use Rattle.ponds_entry.specs.Gathered.{empty_pond, grown_of, Fitting}
 use Rattle.ponds_entries.proofs.WalkLaws.{frees_all, cell, its, begins, asks}
 use Rattle.ponds.specs.contracts.Pond as T
 use Rattle.ponds.proofs.Pond.TheLaws as T'
@@ -89,7 +89,7 @@ module _ {M : Type 1} {𝓤 : Ura M} (𝓛 : Logic 𝓤) (at_mem : Memory → SP
 
   module _ (κ₀ κ₁ : Lft) (q₀ q₁ : Share) (n : ℕ) (table : MutBor (List ℕ)) (p b o : ℕ) (γ : GName) (ys : List Pond) (i : ℕ)
       (gn : n < 2 ^ 32) (gt : Room u32 (length table.now)) (gp : p < 2 ^ 64) (room : Room T.the_row (length ys)) (gi : i < 2 ^ 64)
-      (within : i < length ys) (asked : Asked n table.now p × Fitting (get_or ys i emptyPond) (block_of n table.now p)) where
+      (within : i < length ys) (asked : Asked n table.now p × Fitting (get_or ys i empty_pond) (block_of n table.now p)) where
     abbrev reg : List Pond → MutBor (List Pond)
     reg zs = record { ref_ptr = (b, o); ghost_name = γ; now = zs }
 
@@ -110,7 +110,7 @@ module _ {M : Type 1} {𝓤 : Ura M} (𝓛 : Logic 𝓤) (at_mem : Memory → SP
 
     -- the entry that is read
     abbrev old : Pond
-    old = get_or ys i emptyPond
+    old = get_or ys i empty_pond
 
     -- the entries at the end, where `grown_at` gave r
     abbrev zs : Pond → List Pond
@@ -121,7 +121,7 @@ module _ {M : Type 1} {𝓤 : Ura M} (𝓛 : Logic 𝓤) (at_mem : Memory → SP
         ‵ (fobs γ ((coded_holeys T.the_row).code (heres T.the_row (zs r)))) ∷ ‵ (fbor κ₁ (Held T.the_row (length (zs r)) b o γ)) ∷ ‵ (flft κ₁ q₁)
         ∷ ‵ (flft κ₀ q₀) ∷ ‵ tab ∷ []
 
-    exits : (r : Pond) → r ≡ grownOf old (block_of n table.now p) → ent 𝓤 (⋆ 𝓛 (AtEnd r)) (Post vunit)
+    exits : (r : Pond) → r ≡ grown_of old (block_of n table.now p) → ent 𝓤 (⋆ 𝓛 (AtEnd r)) (Post vunit)
     exits r is =
         qed 𝓛 (AtEnd r) ∵ suffices ! _
         (ends_at 𝓛 grow.ended stayed (grow.clauses 𝓛 at_mem run) bound vunit tt (tt, (tt, (tt, (zs r, (tt, tt)))))
@@ -181,12 +181,12 @@ module _ {M : Type 1} {𝓤 : Ura M} (𝓛 : Logic 𝓤) (at_mem : Memory → SP
         begins ! 20 (bin ! (its ! 16 refl) (lit ! tt) fits) refl (tt, fits) $
         begins ! 22 (bin ! (load ! (from ! (fld ! refl (stop !))) (look_in ! 14 (sub ! 0 refl (whole !)))) (its ! 20 refl) tt) refl (tt, tt) $
         rewrite ! 22 (λ (x : ℕ). cell ty_ptr l₈ (vptr b x)) (sym (place_is 20 o i)) refl $
-        elem_out ! T.the_row (Is T.the_row) (shows 𝓛 T.the_row) vals (LL.tells T.the_type T'.the_laws) full_share ys i emptyPond b o within (λ ge.
+        elem_out ! T.the_row (Is T.the_row) (shows 𝓛 T.the_row) vals (LL.tells T.the_type T'.the_laws) full_share ys i empty_pond b o within (λ ge.
         -- [reg[i]; what it owns; the others; the rest two further]
         begins ! 26 (of_opd ! (load ! (from ! (hop ! (look ! 24 refl) (stop !))) (look_raw ! 0 refl))) refl (typed old _ ge) $
         move ! (7 ∷ []) $ use1 𝓛 (‵ tab ⊛ ‵ tab) ((shr_slice_copy 𝓛 (named 0) κ₀ u32).twice table (shr_slice_vals table)) $ split ! $ move ! (8 ∷ 0 ∷ []) $
         use2 𝓛 (raw (Grown.pre to-grown)) (asks-grown ge) $
-        asks ! (fm_of 𝓤 H 𝓛.laws 𝓣) grown.ended (grown.clauses 𝓛 at_mem run) known to-grown (λ r ws. r ≡ grownOf old (block_of n table.now p))
+        asks ! (fm_of 𝓤 H 𝓛.laws 𝓣) grown.ended (grown.clauses 𝓛 at_mem run) known to-grown (λ r ws. r ≡ grown_of old (block_of n table.now p))
         (λ r ws. id⊢ 𝓤 _) (and_then ! (its ! 10 refl) (and_then ! (its ! 12 refl) (and_then ! (its ! 14 refl) (and_then ! (its ! 26 refl) (no_more !)))))
         (λ v r ws is g. use1 𝓛 (‵ (flft κ₀ q₀)) (fst∗ 𝓤 (A.lft κ₀ q₀) (emp 𝓤)) $ move ! (1 ∷ []) $ drop ! $
         land ! (from ! (stop !)) (init ! 20 refl (typed r v g)) $
@@ -223,7 +223,7 @@ module _ {M : Type 1} {𝓤 : Ura M} (𝓛 : Logic 𝓤) (at_mem : Memory → SP
         ))
         (λ κs qs bounds a g are.
         needs 𝓤 ((a.1.1.1.1.0 < length a.1.1.1.0.now) × (Asked a.0 a.1.0.now a.1.1.0
-        × Fitting (get_or a.1.1.1.0.now a.1.1.1.1.0 emptyPond) (block_of a.0 a.1.0.now a.1.1.0))) _ (λ both.
+        × Fitting (get_or a.1.1.1.0.now a.1.1.1.1.0 empty_pond) (block_of a.0 a.1.0.now a.1.1.0))) _ (λ both.
         walk κs.0 κs.1.0 qs.0 qs.1.0 a.0 a.1.0 a.1.1.0 a.1.1.1.0.ptr.0 a.1.1.1.0.ptr.1 a.1.1.1.0.name
         a.1.1.1.0.now a.1.1.1.1.0 are.0.1 are.1.0.0.1 are.1.1.0.1 are.1.1.1.0.0.1 are.1.1.1.1.0.1
         both.0 both.1 𝓣 known))

@@ -42,7 +42,7 @@ use denote.Triple.Walked.{says, needs, Stays, stay_none, stay_slice, AllGo, Goes
 use denote.Exit.{yes}
 use borrow.Author.Rules.{scaled_Fits}
 use Rattle.ponds.specs.declared.Pond.{Pond}
-use Rattle.ponds_entry.specs.Gathered.{emptyPond}
+use Rattle.ponds_entry.specs.Gathered.{empty_pond}
 use Rattle.ponds_entries.proofs.WalkLaws.{frees_all, cell, its, begins}
 use Rattle.ponds.specs.contracts.Pond as T
 use Rattle.ponds.proofs.Pond.TheLaws as T'
@@ -131,7 +131,7 @@ module _ {M : Type 1} {𝓤 : Ura M} (𝓛 : Logic 𝓤) (at_mem : Memory → SP
         begins ! 12 (bin ! (its ! 8 refl) (lit ! tt) fits) refl (tt, fits) $
         begins ! 14 (bin ! (load ! (from ! (fld ! refl (stop !))) (look_in ! 6 (sub ! 0 refl (whole !)))) (its ! 12 refl) tt) refl (tt, tt) $
         rewrite ! 14 (λ (x : ℕ). cell ty_ptr l₅ (vptr b x)) (sym (place_is 20 o i)) refl $
-        elem_out ! T.the_row (Is T.the_row) (shows 𝓛 T.the_row) vals (LL.tells T.the_type T'.the_laws) full_share ys i emptyPond b o within (λ _.
+        elem_out ! T.the_row (Is T.the_row) (shows 𝓛 T.the_row) vals (LL.tells T.the_type T'.the_laws) full_share ys i empty_pond b o within (λ _.
         -- [reg[i]; what it owns; the others; the rest two further]
         assigns ! (of_opd ! (its ! 12 refl)) (from ! (hop ! (look ! 16 refl) (stop !))) (store_raw ! 0 refl typed) $
         move ! (1 ∷ []) $ drop ! $ owned ! T.the_row (Is T.the_row) ((LL.makes T.the_type T'.the_plain) 𝓛) e _ ge $ move ! (1 ∷ 0 ∷ []) $

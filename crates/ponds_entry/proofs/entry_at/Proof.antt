@@ -1,6 +1,6 @@
 -- `ponds_entry::entry_at`: five reads. Assumes nothing.
 use mathlib.Core.Path.{refl}
-use Rattle.ponds_entry.specs.Words.{pondAt}
+use Rattle.ponds_entry.specs.Words.{pond_at}
 use borrow.Author.Rules.{rules}
 use Rattle.ponds_entry.proofs.entry_at.Statement.{statement}
 use Rattle.ponds_entry.proofs.entry_at.Tie as tie
@@ -51,7 +51,7 @@ shared-slice-read-t22 : tie.Need-shared-slice-read-t22
 shared-slice-read-t22 c = search rules
 
 returns : tie.Need-returns
-unfolding pondAt
+unfolding pond_at
 returns c = refl
 
 pub entry-at-spec : {M : Type 1} → statement M

@@ -1,6 +1,6 @@
--- `ponds_entry::grown`: each number is the one of `grownOf`, and fits a word. Assumes nothing.
+-- `ponds_entry::grown`: each number is the one of `grown_of`, and fits a word. Assumes nothing.
 use borrow.Author.Rules.{rules}
-use Rattle.ponds_entry.proofs.GrownLaws.{fits, grown-is}
+use Rattle.ponds_entry.proofs.GrownLaws.{fits, grown_is}
 use Rattle.ponds_entry.proofs.grown.Statement.{statement}
 use Rattle.ponds_entry.proofs.grown.Tie as tie
 
@@ -44,7 +44,7 @@ higher-requires-2 : tie.Need-higher-requires-2
 higher-requires-2 c κs = search rules
 
 returns : tie.Need-returns
-returns c = search (grown-is, rules)
+returns c = search (grown_is, rules)
 
 pub grown-spec : {M : Type 1} → statement M
 grown-spec =

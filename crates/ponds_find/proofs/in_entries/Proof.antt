@@ -73,7 +73,7 @@ use Rattle.ponds_entries.proofs.fill.Symbol.{name as #fill}
 use Rattle.ponds_entries.proofs.fill.Met as fill-thm
 use Rattle.ponds.specs.Calls.{FindsInEntries}
 use Rattle.ponds_find.specs.Finding.{Finding}
-use Rattle.ponds_find.proofs.CallLaws.{found_none, found-ready, found_all}
+use Rattle.ponds_find.proofs.CallLaws.{found_none, found_ready, found_all}
 use Rattle.ponds_find.specs.contracts.numbered as numbered
 use Rattle.ponds_find.proofs.numbered.Symbol as numbered-def
 use Rattle.ponds_find.proofs.numbered.Symbol.{name as #numbered}
@@ -234,7 +234,7 @@ module _ {M : Type 1} {𝓤 : Ura M} (𝓛 : Logic 𝓤) (at_mem : Memory → SP
     ready : (r : Outcome) (ws : List ℕ) (t : Bool) (k : ℕ) → Finding n table.now 1 (length ys) xs r ws → t ≡ answers r → Holds t → k ≡ value_of r
         → Numbers n table.now ws k × (k ≤ length ys)
     ready r ws t k found is on counted =
-        let has = found-ready n table.now (λ (es : List Pond). es) 1 xs ys r ws found t is (ap not (told t on)) k counted in
+        let has = found_ready n table.now (λ (es : List Pond). es) 1 xs ys r ws found t is (ap not (told t on)) k counted in
         (has.0, omega (arith, has.1))
 
     module _ (ws : List ℕ) (k : ℕ) (gk : k < 2 ^ 64) where

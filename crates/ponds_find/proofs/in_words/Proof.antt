@@ -1,7 +1,7 @@
 -- `ponds_find::in_words`: the numbers, and the register only where they were found. Assumes nothing.
 use borrow.Author.Rules.{rules}
 use Rattle.ponds.specs.Entries.{words_of}
-use Rattle.ponds_find.proofs.CallLaws.{found_none, found-ready, found_all}
+use Rattle.ponds_find.proofs.CallLaws.{found_none, found_ready, found_all}
 use Rattle.ponds_find.proofs.in_words.Statement.{statement}
 use Rattle.ponds_find.proofs.in_words.Tie as tie
 
@@ -21,7 +21,7 @@ count-of-requires : tie.Need-count-of-requires
 count-of-requires c κs = search rules
 
 fill-requires : tie.Need-fill-requires
-fill-requires c κs = found-ready _ _ words_of 5 _ c.before.before.before.before.before.before.before.before.before.before.before.before.args.reg.now _ _ c.before.before.before.before.before.before.before.numbered.ensures _ c.before.before.before.before.answered.ensures c.before.before.before.if1.false _ c.count_of.ensures
+fill-requires c κs = found_ready _ _ words_of 5 _ c.before.before.before.before.before.before.before.before.before.before.before.before.args.reg.now _ _ c.before.before.before.before.before.before.before.numbered.ensures _ c.before.before.before.before.answered.ensures c.before.before.before.if1.false _ c.count_of.ensures
 
 same-length-2 : tie.Need-same-length-2
 same-length-2 c = search rules

@@ -1,6 +1,6 @@
 -- `ponds_find::numbered`: the tests, and the numbers only where they are passed. Assumes nothing.
 use borrow.Author.Rules.{rules}
-use Rattle.ponds_find.proofs.CallLaws.{not-numbered, passed-call, numbered as numbered-law}
+use Rattle.ponds_find.proofs.CallLaws.{not_numbered, passed_call, numbered as numbered-law}
 use Rattle.ponds_find.proofs.numbered.Statement.{statement}
 use Rattle.ponds_find.proofs.numbered.Tie as tie
 
@@ -11,10 +11,10 @@ answered-requires : tie.Need-answered-requires
 answered-requires c κs = search rules
 
 returns : tie.Need-returns
-returns c = search (not-numbered, rules)
+returns c = search (not_numbered, rules)
 
 number-requires : tie.Need-number-requires
-number-requires c κs = let a = passed-call _ _ _ _ c.before.before.before.before.before.before.args.numbers.now _ _ c.before.before.before.test.ensures c.before.before.answered.ensures c.before.if1.false in (a.0, a.1)
+number-requires c κs = let a = passed_call _ _ _ _ c.before.before.before.before.before.before.args.numbers.now _ _ c.before.before.before.test.ensures c.before.before.answered.ensures c.before.if1.false in (a.0, a.1)
 
 same_length : tie.Need-same-length
 same_length c = search rules

@@ -1,6 +1,6 @@
 -- `ponds_join::root`: the leader, and p's word set to it. Assumes nothing.
 use borrow.Author.Rules.{rules}
-use Rattle.ponds_join.proofs.JoinLaws.{root-own, root-shorter}
+use Rattle.ponds_join.proofs.JoinLaws.{root_own, root_shorter}
 use Rattle.ponds_join.proofs.root.Statement.{statement}
 use Rattle.ponds_join.proofs.root.Tie as tie
 
@@ -17,13 +17,13 @@ same_length : tie.Need-same-length
 same_length c = search rules
 
 returns : tie.Need-returns
-returns c = search (root-shorter, rules)
+returns c = search (root_shorter, rules)
 
 same-length-2 : tie.Need-same-length-2
 same-length-2 c = search rules
 
 returns-2 : tie.Need-returns-2
-returns-2 c = search (root-own, rules)
+returns-2 c = search (root_own, rules)
 
 pub root-spec : {M : Type 1} → statement M
 root-spec =

@@ -4,11 +4,11 @@ use mathlib.Core.Path.{◌≡◌, refl, ◌∙◌}
 use native.Mathlib.Omega.{arith}
 use lib.ListN.{length}
 use borrow.Author.Rules.{rules}
-use Rattle.table.proofs.AcceptedLaws.{fork-above, sons-of}
-use Rattle.table.proofs.TypeLaws.{told-fork}
-use Rattle.table.proofs.SonsLaws.{son-read, type-read}
-use Rattle.ponds_sets.proofs.TouchLaws.{set-kept}
-use Rattle.ponds_leaf.proofs.ForkLaws.{Firsts, firsts-none, half-few, offsets-few, son-coming, son-pixels, son-leaf, firsts-fork, firsts-pixels, firsts-leaf, firsts-all, all-within, four-of, two-power}
+use Rattle.table.proofs.AcceptedLaws.{fork_above, sons_of}
+use Rattle.table.proofs.TypeLaws.{told_fork}
+use Rattle.table.proofs.SonsLaws.{son_read, type_read}
+use Rattle.ponds_sets.proofs.TouchLaws.{set_kept}
+use Rattle.ponds_leaf.proofs.ForkLaws.{Firsts, firsts_none, half_few, offsets_few, son_coming, son_pixels, son_leaf, firsts_fork, firsts_pixels, firsts_leaf, firsts_all, all_within, four_of_lem, two_power}
 use Prim.Native.Nat.{ℕ, ◌-◌, ◌^◌, ◌≤◌, ◌<◌}
 use borrow.Fn.Kinds.{In}
 use borrow.Fn.PlainCycle.{Measures, is, falls, and}
@@ -66,13 +66,13 @@ fork-μ-loop table words₀ lines₀ p level x y half side sons kinds quadrant�
     4 - quadrant
 
 fork-sub-half : (t : ℕ) → fork-lts.Need-overflow-sub-half (calls t) (fork_at t) fork.Post fork-Inv-loop fork-μ-loop
-fork-sub-half t c = omega (arith, fork-above c.before.before.requires.1.0.at c.before.before.requires.1.1)
+fork-sub-half t c = omega (arith, fork_above c.before.before.requires.1.0.at c.before.before.requires.1.1)
 
 fork-side-requires : (t : ℕ) → fork-lts.Need-side-requires (calls t) (fork_at t) fork.Post fork-Inv-loop fork-μ-loop
-fork-side-requires t c κs = omega (arith, (half-few c.before.before.requires.1.0 c.before.before.requires.1.1 refl).1)
+fork-side-requires t c κs = omega (arith, (half_few c.before.before.requires.1.0 c.before.before.requires.1.1 refl).1)
 
 fork-cast-side : (t : ℕ) → fork-lts.Need-overflow-cast-side (calls t) (fork_at t) fork.Post fork-Inv-loop fork-μ-loop
-fork-cast-side t c = let k = half-few c.before.before.before.requires.1.0 c.before.before.before.requires.1.1 refl in omega (arith, k.2, c.side.ensures)
+fork-cast-side t c = let k = half_few c.before.before.before.requires.1.0 c.before.before.before.requires.1.1 refl in omega (arith, k.2, c.side.ensures)
 
 fork-four-sons-requires : (t : ℕ) → fork-lts.Need-four-sons-requires (calls t) (fork_at t) fork.Post fork-Inv-loop fork-μ-loop
 fork-four-sons-requires t c κs = c.before.before.before.requires.1.0.at.node
@@ -80,10 +80,10 @@ fork-four-sons-requires t c κs = c.before.before.before.requires.1.0.at.node
 fork-four-types-requires : (t : ℕ) → fork-lts.Need-four-types-requires (calls t) (fork_at t) fork.Post fork-Inv-loop fork-μ-loop
 fork-four-types-requires t c κs =
     let s = c.before.before.before.before in
-    (s.requires.1.0.at.node, sons-of _ _ s.requires.1.0.at.accepted _ s.requires.1.0.at.node s.requires.1.1)
+    (s.requires.1.0.at.node, sons_of _ _ s.requires.1.0.at.accepted _ s.requires.1.0.at.node s.requires.1.1)
 
 fork-loop-holds : (t : ℕ) → fork-lts.Need-loop-init (calls t) (fork_at t) fork.Post fork-Inv-loop fork-μ-loop
-fork-loop-holds t c = (omega arith, refl, refl, c.before.before.side.ensures, firsts-none _ _ _ _ _ _ _ c.before.before.before.before.before.requires.1.1 _ _ c.before.before.side.ensures refl)
+fork-loop-holds t c = (omega arith, refl, refl, c.before.before.side.ensures, firsts_none _ _ _ _ _ _ _ c.before.before.before.before.before.requires.1.1 _ _ c.before.before.side.ensures refl)
 
 fork-mul-son : (t : ℕ) → fork-lts.Need-overflow-mul-son (calls t) (fork_at t) fork.Post fork-Inv-loop fork-μ-loop
 fork-mul-son t c = omega (arith, c.loop-test.true)
@@ -100,22 +100,22 @@ fork-array-read-kind t c = c.loop-test.true
 fork-mul-sx : (t : ℕ) → fork-lts.Need-overflow-mul-sx (calls t) (fork_at t) fork.Post fork-Inv-loop fork-μ-loop
 fork-mul-sx t c =
     let s = c.before.before.before.before.before.before.before in
-    let b = offsets-few s.requires.1.0 s.requires.1.1 c.before.loop.invariant.2 c.before.loop.invariant.3 c.before.loop.quadrant c.loop-test.true in omega (arith, b.0, b.1, b.2, b.3)
+    let b = offsets_few s.requires.1.0 s.requires.1.1 c.before.loop.invariant.2 c.before.loop.invariant.3 c.before.loop.quadrant c.loop-test.true in omega (arith, b.0, b.1, b.2, b.3)
 
 fork-add-sx : (t : ℕ) → fork-lts.Need-overflow-add-sx (calls t) (fork_at t) fork.Post fork-Inv-loop fork-μ-loop
 fork-add-sx t c =
     let s = c.before.before.before.before.before.before.before in
-    let b = offsets-few s.requires.1.0 s.requires.1.1 c.before.loop.invariant.2 c.before.loop.invariant.3 c.before.loop.quadrant c.loop-test.true in omega (arith, b.0, b.1, b.2, b.3)
+    let b = offsets_few s.requires.1.0 s.requires.1.1 c.before.loop.invariant.2 c.before.loop.invariant.3 c.before.loop.quadrant c.loop-test.true in omega (arith, b.0, b.1, b.2, b.3)
 
 fork-mul-sy : (t : ℕ) → fork-lts.Need-overflow-mul-sy (calls t) (fork_at t) fork.Post fork-Inv-loop fork-μ-loop
 fork-mul-sy t c =
     let s = c.before.before.before.before.before.before.before in
-    let b = offsets-few s.requires.1.0 s.requires.1.1 c.before.loop.invariant.2 c.before.loop.invariant.3 c.before.loop.quadrant c.loop-test.true in omega (arith, b.0, b.1, b.2, b.3)
+    let b = offsets_few s.requires.1.0 s.requires.1.1 c.before.loop.invariant.2 c.before.loop.invariant.3 c.before.loop.quadrant c.loop-test.true in omega (arith, b.0, b.1, b.2, b.3)
 
 fork-add-sy : (t : ℕ) → fork-lts.Need-overflow-add-sy (calls t) (fork_at t) fork.Post fork-Inv-loop fork-μ-loop
 fork-add-sy t c =
     let s = c.before.before.before.before.before.before.before in
-    let b = offsets-few s.requires.1.0 s.requires.1.1 c.before.loop.invariant.2 c.before.loop.invariant.3 c.before.loop.quadrant c.loop-test.true in omega (arith, b.0, b.1, b.2, b.3)
+    let b = offsets_few s.requires.1.0 s.requires.1.1 c.before.loop.invariant.2 c.before.loop.invariant.3 c.before.loop.quadrant c.loop-test.true in omega (arith, b.0, b.1, b.2, b.3)
 
 fork-add-quadrant : (t : ℕ) → fork-lts.Need-overflow-add-quadrant (calls t) (fork_at t) fork.Post fork-Inv-loop fork-μ-loop
 fork-add-quadrant t c = omega (arith, c.loop-test.true)
@@ -126,7 +126,7 @@ fork-pixels-requires t c κs =
     let l = c.before.before.before.before.before.before.before in
     let m = c.before.before.before.before.before in
     let v = c.before.before.before.before in
-    (son-pixels _ _ _ _ _ _ _ s.requires.1.1 _ _ m.loop.invariant.3 m.loop.invariant.2 m.loop.quadrant v.loop-test.true _ _ _ m.loop.invariant.4 _ _ _ (son-read _ _ _ l.four-sons.ensures m.loop.quadrant v.loop-test.true) refl refl c.before.before.if2.true s.requires.1.0, told-fork s.args.table.now _ _ (type-read _ _ _ l.four-sons.ensures _ c.before.before.before.before.before.before.four-types.ensures m.loop.quadrant v.loop-test.true) c.before.before.before.if1.true)
+    (son_pixels _ _ _ _ _ _ _ s.requires.1.1 _ _ m.loop.invariant.3 m.loop.invariant.2 m.loop.quadrant v.loop-test.true _ _ _ m.loop.invariant.4 _ _ _ (son_read _ _ _ l.four_sons_lem.ensures m.loop.quadrant v.loop-test.true) refl refl c.before.before.if2.true s.requires.1.0, told_fork s.args.table.now _ _ (type_read _ _ _ l.four_sons_lem.ensures _ c.before.before.before.before.before.before.four-types.ensures m.loop.quadrant v.loop-test.true) c.before.before.before.if1.true)
 
 fork-first-nonzero-requires : (t : ℕ) → fork-lts.Need-first-nonzero-requires (calls t) (fork_at t) fork.Post fork-Inv-loop fork-μ-loop
 fork-first-nonzero-requires t c κs = search rules
@@ -138,7 +138,7 @@ fork-loop-again : (t : ℕ) → fork-lts.Need-loop-preserved (calls t) (fork_at 
 fork-loop-again t c =
     let s = c.before.before.before.before.before.before.before.before.before in
     let l = c.before.before.before.before.before.before.before.before in
-    (omega (arith, l.loop-test.true), c.before.before.before.pixels.auto.1.0 ∙ s.loop.invariant.1, s.loop.invariant.2, s.loop.invariant.3, firsts-pixels _ _ _ _ _ _ _ c.before.before.before.before.before.before.before.before.before.before.before.before.before.before.before.requires.1.1 _ _ s.loop.invariant.3 s.loop.invariant.2 s.loop.quadrant l.loop-test.true _ _ _ s.loop.invariant.4 _ _ _ (son-read _ _ _ c.before.before.before.before.before.before.before.before.before.before.before.four-sons.ensures s.loop.quadrant l.loop-test.true) refl refl _ _ _ c.before.before.before.before.before.before.if2.true c.before.before.before.pixels.ensures _ c.first-nonzero.ensures)
+    (omega (arith, l.loop-test.true), c.before.before.before.pixels.auto.1.0 ∙ s.loop.invariant.1, s.loop.invariant.2, s.loop.invariant.3, firsts_pixels _ _ _ _ _ _ _ c.before.before.before.before.before.before.before.before.before.before.before.before.before.before.before.requires.1.1 _ _ s.loop.invariant.3 s.loop.invariant.2 s.loop.quadrant l.loop-test.true _ _ _ s.loop.invariant.4 _ _ _ (son_read _ _ _ c.before.before.before.before.before.before.before.before.before.before.before.four_sons_lem.ensures s.loop.quadrant l.loop-test.true) refl refl _ _ _ c.before.before.before.before.before.before.if2.true c.before.before.before.pixels.ensures _ c.first-nonzero.ensures)
 
 fork-fork-requires : (t : ℕ) → fork-lts.Need-fork-requires (calls t) (fork_at t) fork.Post fork-Inv-loop fork-μ-loop
 fork-fork-requires t c κs =
@@ -146,7 +146,7 @@ fork-fork-requires t c κs =
     let l = c.before.before.before.before.before.before.before in
     let m = c.before.before.before.before.before in
     let v = c.before.before.before.before in
-    (omega (arith, s.requires.0, m.loop.invariant.2, fork-above s.requires.1.0.at s.requires.1.1), (son-coming _ _ _ _ _ _ _ s.requires.1.1 _ _ m.loop.invariant.3 m.loop.invariant.2 m.loop.quadrant v.loop-test.true _ _ _ m.loop.invariant.4 _ _ _ (son-read _ _ _ l.four-sons.ensures m.loop.quadrant v.loop-test.true) refl refl s.requires.1.0, told-fork s.args.table.now _ _ (type-read _ _ _ l.four-sons.ensures _ c.before.before.before.before.before.before.four-types.ensures m.loop.quadrant v.loop-test.true) c.before.before.before.if1.true))
+    (omega (arith, s.requires.0, m.loop.invariant.2, fork_above s.requires.1.0.at s.requires.1.1), (son_coming _ _ _ _ _ _ _ s.requires.1.1 _ _ m.loop.invariant.3 m.loop.invariant.2 m.loop.quadrant v.loop-test.true _ _ _ m.loop.invariant.4 _ _ _ (son_read _ _ _ l.four_sons_lem.ensures m.loop.quadrant v.loop-test.true) refl refl s.requires.1.0, told_fork s.args.table.now _ _ (type_read _ _ _ l.four_sons_lem.ensures _ c.before.before.before.before.before.before.four-types.ensures m.loop.quadrant v.loop-test.true) c.before.before.before.if1.true))
 
 fork-first-nonzero-requires-2 : (t : ℕ) → fork-lts.Need-first-nonzero-requires-2 (calls t) (fork_at t) fork.Post fork-Inv-loop fork-μ-loop
 fork-first-nonzero-requires-2 t c κs = search rules
@@ -158,7 +158,7 @@ fork-loop-again-2 : (t : ℕ) → fork-lts.Need-loop-preserved-2 (calls t) (fork
 fork-loop-again-2 t c =
     let s = c.before.before.before.before.before.before.before.before.before in
     let l = c.before.before.before.before.before.before.before.before in
-    (omega (arith, l.loop-test.true), c.before.before.before.fork.auto.1.0 ∙ s.loop.invariant.1, s.loop.invariant.2, s.loop.invariant.3, firsts-fork _ _ _ _ _ _ _ c.before.before.before.before.before.before.before.before.before.before.before.before.before.before.before.requires.1.1 _ _ s.loop.invariant.3 s.loop.invariant.2 s.loop.quadrant l.loop-test.true _ _ _ s.loop.invariant.4 _ _ _ (son-read _ _ _ c.before.before.before.before.before.before.before.before.before.before.before.four-sons.ensures s.loop.quadrant l.loop-test.true) refl refl _ _ _ c.before.before.before.fork.ensures _ c.first-nonzero2.ensures)
+    (omega (arith, l.loop-test.true), c.before.before.before.fork.auto.1.0 ∙ s.loop.invariant.1, s.loop.invariant.2, s.loop.invariant.3, firsts_fork _ _ _ _ _ _ _ c.before.before.before.before.before.before.before.before.before.before.before.before.before.before.before.requires.1.1 _ _ s.loop.invariant.3 s.loop.invariant.2 s.loop.quadrant l.loop-test.true _ _ _ s.loop.invariant.4 _ _ _ (son_read _ _ _ c.before.before.before.before.before.before.before.before.before.before.before.four_sons_lem.ensures s.loop.quadrant l.loop-test.true) refl refl _ _ _ c.before.before.before.fork.ensures _ c.first-nonzero2.ensures)
 
 fork-leaf-of-two-requires : (t : ℕ) → fork-lts.Need-leaf-of-two-requires (calls t) (fork_at t) fork.Post fork-Inv-loop fork-μ-loop
 fork-leaf-of-two-requires t c κs =
@@ -166,7 +166,7 @@ fork-leaf-of-two-requires t c κs =
     let l = c.before.before.before.before.before.before.before in
     let m = c.before.before.before.before.before in
     let v = c.before.before.before.before in
-    son-leaf _ _ _ _ _ _ _ s.requires.1.1 _ _ m.loop.invariant.3 m.loop.invariant.2 m.loop.quadrant v.loop-test.true _ _ _ m.loop.invariant.4 _ _ _ (son-read _ _ _ l.four-sons.ensures m.loop.quadrant v.loop-test.true) refl refl _ _ (type-read _ _ _ l.four-sons.ensures _ c.before.before.before.before.before.before.four-types.ensures m.loop.quadrant v.loop-test.true) c.before.before.before.if1.false (two-power _ c.before.before.if3.true) s.requires.1.0
+    son_leaf _ _ _ _ _ _ _ s.requires.1.1 _ _ m.loop.invariant.3 m.loop.invariant.2 m.loop.quadrant v.loop-test.true _ _ _ m.loop.invariant.4 _ _ _ (son_read _ _ _ l.four_sons_lem.ensures m.loop.quadrant v.loop-test.true) refl refl _ _ (type_read _ _ _ l.four_sons_lem.ensures _ c.before.before.before.before.before.before.four-types.ensures m.loop.quadrant v.loop-test.true) c.before.before.before.if1.false (two_power _ c.before.before.if3.true) s.requires.1.0
 
 fork-first-nonzero-requires-3 : (t : ℕ) → fork-lts.Need-first-nonzero-requires-3 (calls t) (fork_at t) fork.Post fork-Inv-loop fork-μ-loop
 fork-first-nonzero-requires-3 t c κs = search rules
@@ -179,7 +179,7 @@ fork-loop-again-3 t c =
     let s = c.before.before.before.before.before.before.before.before.before.before.before in
     let l = c.before.before.before.before.before.before.before.before.before in
     let m = c.before.before.before.before.before.before.before.before in
-    (omega (arith, m.loop-test.true), c.before.before.before.leaf-of-two.auto.0 ∙ l.loop.invariant.1, l.loop.invariant.2, l.loop.invariant.3, firsts-leaf _ _ _ _ _ _ _ c.before.before.before.before.before.before.before.before.before.before.before.before.before.before.before.requires.1.1 _ _ l.loop.invariant.3 l.loop.invariant.2 l.loop.quadrant m.loop-test.true _ _ _ l.loop.invariant.4 _ _ _ (son-read _ _ _ s.four-sons.ensures l.loop.quadrant m.loop-test.true) refl refl _ _ (type-read _ _ _ s.four-sons.ensures _ c.before.before.before.before.before.before.before.before.before.before.four-types.ensures l.loop.quadrant m.loop-test.true) c.before.before.before.before.before.before.before.if1.false (two-power _ c.before.before.before.before.before.before.if3.true) _ _ _ c.before.before.before.leaf-of-two.ensures _ c.first-nonzero3.ensures)
+    (omega (arith, m.loop-test.true), c.before.before.before.leaf-of-two.auto.0 ∙ l.loop.invariant.1, l.loop.invariant.2, l.loop.invariant.3, firsts_leaf _ _ _ _ _ _ _ c.before.before.before.before.before.before.before.before.before.before.before.before.before.before.before.requires.1.1 _ _ l.loop.invariant.3 l.loop.invariant.2 l.loop.quadrant m.loop-test.true _ _ _ l.loop.invariant.4 _ _ _ (son_read _ _ _ s.four_sons_lem.ensures l.loop.quadrant m.loop-test.true) refl refl _ _ (type_read _ _ _ s.four_sons_lem.ensures _ c.before.before.before.before.before.before.before.before.before.before.four-types.ensures l.loop.quadrant m.loop-test.true) c.before.before.before.before.before.before.before.if1.false (two_power _ c.before.before.before.before.before.before.if3.true) _ _ _ c.before.before.before.leaf-of-two.ensures _ c.first-nonzero3.ensures)
 
 fork-leaf-requires : (t : ℕ) → fork-lts.Need-leaf-requires (calls t) (fork_at t) fork.Post fork-Inv-loop fork-μ-loop
 fork-leaf-requires t c κs =
@@ -187,7 +187,7 @@ fork-leaf-requires t c κs =
     let l = c.before.before.before.before.before.before.before in
     let m = c.before.before.before.before.before in
     let v = c.before.before.before.before in
-    son-leaf _ _ _ _ _ _ _ s.requires.1.1 _ _ m.loop.invariant.3 m.loop.invariant.2 m.loop.quadrant v.loop-test.true _ _ _ m.loop.invariant.4 _ _ _ (son-read _ _ _ l.four-sons.ensures m.loop.quadrant v.loop-test.true) refl refl _ _ (type-read _ _ _ l.four-sons.ensures _ c.before.before.before.before.before.before.four-types.ensures m.loop.quadrant v.loop-test.true) c.before.before.before.if1.false m.loop.invariant.3 s.requires.1.0
+    son_leaf _ _ _ _ _ _ _ s.requires.1.1 _ _ m.loop.invariant.3 m.loop.invariant.2 m.loop.quadrant v.loop-test.true _ _ _ m.loop.invariant.4 _ _ _ (son_read _ _ _ l.four_sons_lem.ensures m.loop.quadrant v.loop-test.true) refl refl _ _ (type_read _ _ _ l.four_sons_lem.ensures _ c.before.before.before.before.before.before.four-types.ensures m.loop.quadrant v.loop-test.true) c.before.before.before.if1.false m.loop.invariant.3 s.requires.1.0
 
 fork-first-nonzero-requires-4 : (t : ℕ) → fork-lts.Need-first-nonzero-requires-4 (calls t) (fork_at t) fork.Post fork-Inv-loop fork-μ-loop
 fork-first-nonzero-requires-4 t c κs = search rules
@@ -200,7 +200,7 @@ fork-loop-again-4 t c =
     let s = c.before.before.before.before.before.before.before.before.before.before.before in
     let l = c.before.before.before.before.before.before.before.before.before in
     let m = c.before.before.before.before.before.before.before.before in
-    (omega (arith, m.loop-test.true), c.before.before.before.leaf.auto.0 ∙ l.loop.invariant.1, l.loop.invariant.2, l.loop.invariant.3, firsts-leaf _ _ _ _ _ _ _ c.before.before.before.before.before.before.before.before.before.before.before.before.before.before.before.requires.1.1 _ _ l.loop.invariant.3 l.loop.invariant.2 l.loop.quadrant m.loop-test.true _ _ _ l.loop.invariant.4 _ _ _ (son-read _ _ _ s.four-sons.ensures l.loop.quadrant m.loop-test.true) refl refl _ _ (type-read _ _ _ s.four-sons.ensures _ c.before.before.before.before.before.before.before.before.before.before.four-types.ensures l.loop.quadrant m.loop-test.true) c.before.before.before.before.before.before.before.if1.false l.loop.invariant.3 _ _ _ c.before.before.before.leaf.ensures _ c.first-nonzero4.ensures)
+    (omega (arith, m.loop-test.true), c.before.before.before.leaf.auto.0 ∙ l.loop.invariant.1, l.loop.invariant.2, l.loop.invariant.3, firsts_leaf _ _ _ _ _ _ _ c.before.before.before.before.before.before.before.before.before.before.before.before.before.before.before.requires.1.1 _ _ l.loop.invariant.3 l.loop.invariant.2 l.loop.quadrant m.loop-test.true _ _ _ l.loop.invariant.4 _ _ _ (son_read _ _ _ s.four_sons_lem.ensures l.loop.quadrant m.loop-test.true) refl refl _ _ (type_read _ _ _ s.four_sons_lem.ensures _ c.before.before.before.before.before.before.before.before.before.before.four-types.ensures l.loop.quadrant m.loop-test.true) c.before.before.before.before.before.before.before.if1.false l.loop.invariant.3 _ _ _ c.before.before.before.leaf.ensures _ c.first-nonzero4.ensures)
 
 fork-mark-requires : (t : ℕ) → fork-lts.Need-mark-requires (calls t) (fork_at t) fork.Post fork-Inv-loop fork-μ-loop
 fork-mark-requires t c κs = search rules
@@ -213,15 +213,15 @@ fork-mul-words t c =
 fork-slice-write-words : (t : ℕ) → fork-lts.Need-slice-write-words (calls t) (fork_at t) fork.Post fork-Inv-loop fork-μ-loop
 fork-slice-write-words t c =
     let s = c.before.before.before.before.before.before.before.before in
-    all-within _ _ _ _ _ _ _ s.requires.1.1 _ _ c.before.before.loop.invariant.3 c.before.before.loop.invariant.2 _ _ _ (four-of c.before.before.loop.invariant.0 c.before.loop-test.false c.before.before.loop.invariant.4) s.requires.1.0
+    all_within _ _ _ _ _ _ _ s.requires.1.1 _ _ c.before.before.loop.invariant.3 c.before.before.loop.invariant.2 _ _ _ (four_of_lem c.before.before.loop.invariant.0 c.before.loop-test.false c.before.before.loop.invariant.4) s.requires.1.0
 
 fork-same-length : (t : ℕ) → fork-lts.Need-same-length (calls t) (fork_at t) fork.Post fork-Inv-loop fork-μ-loop
 fork-same-length t c =
     let s = c.before.before.before.before.before.before.before.before in
-    set-kept c.before.before.loop.words s.args.words.now s.args.p c.mark.result c.before.before.loop.invariant.1
+    set_kept c.before.before.loop.words s.args.words.now s.args.p c.mark.result c.before.before.loop.invariant.1
 
 fork-returns : (t : ℕ) → fork-lts.Need-returns (calls t) (fork_at t) fork.Post fork-Inv-loop fork-μ-loop
-fork-returns t c = firsts-all _ _ _ _ _ _ _ c.before.before.before.before.before.before.before.before.requires.1.1 _ _ c.before.before.loop.invariant.3 c.before.before.loop.invariant.2 _ _ _ _ (four-of c.before.before.loop.invariant.0 c.before.loop-test.false c.before.before.loop.invariant.4) c.mark.ensures
+fork-returns t c = firsts_all _ _ _ _ _ _ _ c.before.before.before.before.before.before.before.before.requires.1.1 _ _ c.before.before.loop.invariant.3 c.before.before.loop.invariant.2 _ _ _ _ (four_of_lem c.before.before.loop.invariant.0 c.before.loop-test.false c.before.before.loop.invariant.4) c.mark.ensures
 
 pub +fork-spec : {M : Type 1} → statement M
 +fork-spec = close μ-fork λ t. fork-lts.spec (calls t)

@@ -4,7 +4,7 @@ use native.Mathlib.Omega.{arith}
 use lib.ListN.{length, length-set}
 use borrow.Author.Rules.{rules}
 use Rattle.ponds_sets.specs.Labelled.{Cleared}
-use Rattle.ponds_labels.proofs.LeadLaws.{clear_none, clear-more, clear-all}
+use Rattle.ponds_labels.proofs.LeadLaws.{clear_none, clear_more, clear_all}
 use Rattle.ponds_labels.proofs.clear.Statement.{statement}
 use Rattle.ponds_labels.proofs.clear.Tie as tie
 
@@ -30,13 +30,13 @@ loop-less : tie.Need-loop-smaller invariant-loop decreases-loop
 loop-less c = simp length-set (omega (arith, c.loop-test.true))
 
 loop-again : tie.Need-loop-preserved invariant-loop decreases-loop
-loop-again c = clear-more c.before.loop.invariant c.loop-test.true
+loop-again c = clear_more c.before.loop.invariant c.loop-test.true
 
 same_length : tie.Need-same-length invariant-loop decreases-loop
 same_length c = c.before.loop.invariant.long
 
 returns : tie.Need-returns invariant-loop decreases-loop
-returns c = clear-all c.before.loop.invariant c.loop-test.false
+returns c = clear_all c.before.loop.invariant c.loop-test.false
 
 pub clear_spec : {M : Type 1} → statement M
 clear_spec =

@@ -1,7 +1,7 @@
 -- `ponds_leaf::leaf_of_two`: its label, its sides, and the lines. Assumes nothing.
 use mathlib.Core.Path.{refl}
-use Rattle.ponds_sets.proofs.TouchLaws.{kind-few}
-use Rattle.ponds_sides.proofs.LeafLaws.{leaf_room, leaf-touching, leaf_touched, leaf-shore, leaf-past}
+use Rattle.ponds_sets.proofs.TouchLaws.{kind_few}
+use Rattle.ponds_sides.proofs.LeafLaws.{leaf_room, leaf_touching, leaf_touched, leaf_shore, leaf_past}
 use borrow.Author.Rules.{rules}
 use Rattle.ponds_leaf.proofs.leaf_of_two.Statement.{statement}
 use Rattle.ponds_leaf.proofs.leaf_of_two.Tie as tie
@@ -12,7 +12,7 @@ label-at-requires c κs = search rules
 two-sides-requires : tie.Need-two-sides-requires
 two-sides-requires c κs =
     let s = c.before.before.before.before.before.before.before.before in
-    ((λ b. leaf-shore s.requires _ _ (leaf_touched s.requires _ _ _ refl refl refl _ _ c.before.before.before.before.label_at.ensures) b, (leaf_room s.requires).0, (leaf_room s.requires).1), kind-few (leaf-touching s.requires _ _ _ refl refl refl))
+    ((λ b. leaf_shore s.requires _ _ (leaf_touched s.requires _ _ _ refl refl refl _ _ c.before.before.before.before.label_at.ensures) b, (leaf_room s.requires).0, (leaf_room s.requires).1), kind_few (leaf_touching s.requires _ _ _ refl refl refl))
 
 fill-two-requires : tie.Need-fill-two-requires
 fill-two-requires c κs =
@@ -26,7 +26,7 @@ same_length : tie.Need-same-length
 same_length c = search rules
 
 returns : tie.Need-returns
-returns c = λ z. leaf-past _ _ _ c.before.before.before.before.before.two-sides.ensures _ _ c.before.fill-two.ensures c.one-if-own.ensures.0 z (leaf_touched z _ _ _ refl refl refl _ _ c.before.before.before.before.before.before.before.before.before.before.label_at.ensures)
+returns c = λ z. leaf_past _ _ _ c.before.before.before.before.before.two-sides.ensures _ _ c.before.fill_two_lem.ensures c.one-if-own.ensures.0 z (leaf_touched z _ _ _ refl refl refl _ _ c.before.before.before.before.before.before.before.before.before.before.label_at.ensures)
 
 pub leaf-of-two-spec : {M : Type 1} → statement M
 leaf-of-two-spec =

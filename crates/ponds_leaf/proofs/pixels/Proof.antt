@@ -1,8 +1,8 @@
 -- `ponds_leaf::pixels`: pixel by pixel, and then the lines. Assumes nothing.
 use mathlib.Core.Path.{refl, ◌∙◌}
 use native.Mathlib.Omega.{arith}
-use Rattle.ponds_leaf.proofs.ForkLaws.{room, son-node}
-use Rattle.ponds_leaf.proofs.FourLaws.{touching-first, touching-second, touching-third, touching-fourth, pixels-gone}
+use Rattle.ponds_leaf.proofs.ForkLaws.{room, node_of_son}
+use Rattle.ponds_leaf.proofs.FourLaws.{touching_first, touching_second, touching_third, touching_fourth, pixels_gone}
 use borrow.Author.Rules.{rules}
 use Rattle.ponds_leaf.proofs.pixels.Statement.{statement}
 use Rattle.ponds_leaf.proofs.pixels.Tie as tie
@@ -40,7 +40,7 @@ cast-row c = search rules
 word-at-requires-5 : tie.Need-word-at-requires-5
 word-at-requires-5 c κs =
     let s = c.before.before.before.before.before.before.before in
-    son-node s.requires.0 s.requires.1 0 (omega arith) _ c.before.before.before.before.word_at.ensures
+    node_of_son s.requires.0 s.requires.1 0 (omega arith) _ c.before.before.before.before.word_at.ensures
 
 mul-touch : tie.Need-overflow-mul-touch
 mul-touch c =
@@ -70,12 +70,12 @@ element-copy-out-touch-2 c =
 touch-requires : tie.Need-touch-requires
 touch-requires c κs =
     let s = c.before.before.before.before.before.before.before.before.before.before in
-    touching-first _ _ _ _ _ _ s.requires.1 _ _ _ _ c.before.before.before.before.before.before.before.word_at.ensures c.before.before.before.before.before.before.word-at2.ensures c.before.before.before.before.before.word-at3.ensures c.before.before.before.before.word-at4.ensures _ _ _ _ c.before.before.word-at5.ensures refl refl refl _ refl s.requires.0
+    touching_first _ _ _ _ _ _ s.requires.1 _ _ _ _ c.before.before.before.before.before.before.before.word_at.ensures c.before.before.before.before.before.before.word-at2.ensures c.before.before.before.before.before.word-at3.ensures c.before.before.before.before.word-at4.ensures _ _ _ _ c.before.before.word-at5.ensures refl refl refl _ refl s.requires.0
 
 word-at-requires-6 : tie.Need-word-at-requires-6
 word-at-requires-6 c κs =
     let s = c.before.before.before.before.before.before.before.before.before.before.before.before.before.before in
-    son-node s.requires.0 s.requires.1 1 (omega arith) _ c.before.before.before.before.before.before.before.before.before.before.word-at2.ensures
+    node_of_son s.requires.0 s.requires.1 1 (omega arith) _ c.before.before.before.before.before.before.before.before.before.before.word-at2.ensures
 
 add-touch-2 : tie.Need-overflow-add-touch-2
 add-touch-2 c =
@@ -100,12 +100,12 @@ add-touch-3 c =
 touch-requires-2 : tie.Need-touch-requires-2
 touch-requires-2 c κs =
     let s = c.before.before.before.before.before.before.before.before.before.before.before.before.before.before.before.before in
-    touching-second _ _ _ _ _ _ s.requires.1 _ _ _ _ c.before.before.before.before.before.before.before.before.before.before.before.before.before.word_at.ensures c.before.before.before.before.before.before.before.before.before.before.before.before.word-at2.ensures c.before.before.before.before.before.before.before.before.before.before.before.word-at3.ensures c.before.before.before.before.before.before.before.before.before.before.word-at4.ensures _ _ _ _ c.before.before.before.before.before.before.before.before.word-at5.ensures c.before.word-at6.ensures refl refl _ refl s.requires.0 _ _ c.before.before.before.before.before.touch.ensures
+    touching_second _ _ _ _ _ _ s.requires.1 _ _ _ _ c.before.before.before.before.before.before.before.before.before.before.before.before.before.word_at.ensures c.before.before.before.before.before.before.before.before.before.before.before.before.word-at2.ensures c.before.before.before.before.before.before.before.before.before.before.before.word-at3.ensures c.before.before.before.before.before.before.before.before.before.before.word-at4.ensures _ _ _ _ c.before.before.before.before.before.before.before.before.word-at5.ensures c.before.word-at6.ensures refl refl _ refl s.requires.0 _ _ c.before.before.before.before.before.touch.ensures
 
 word-at-requires-7 : tie.Need-word-at-requires-7
 word-at-requires-7 c κs =
     let s = c.before.before.before.before.before.before.before.before.before.before.before.before.before.before.before.before.before.before.before.before in
-    son-node s.requires.0 s.requires.1 2 (omega arith) _ c.before.before.before.before.before.before.before.before.before.before.before.before.before.before.before.word-at3.ensures
+    node_of_son s.requires.0 s.requires.1 2 (omega arith) _ c.before.before.before.before.before.before.before.before.before.before.before.before.before.before.before.word-at3.ensures
 
 add-touch-4 : tie.Need-overflow-add-touch-4
 add-touch-4 c =
@@ -135,12 +135,12 @@ add-touch-6 c =
 touch-requires-3 : tie.Need-touch-requires-3
 touch-requires-3 c κs =
     let s = c.before.before.before.before.before.before.before.before.before.before.before.before.before.before.before.before.before.before.before.before.before.before in
-    touching-third _ _ _ _ _ _ s.requires.1 _ _ _ _ c.before.before.before.before.before.before.before.before.before.before.before.before.before.before.before.before.before.before.before.word_at.ensures c.before.before.before.before.before.before.before.before.before.before.before.before.before.before.before.before.before.before.word-at2.ensures c.before.before.before.before.before.before.before.before.before.before.before.before.before.before.before.before.before.word-at3.ensures c.before.before.before.before.before.before.before.before.before.before.before.before.before.before.before.before.word-at4.ensures _ _ _ _ c.before.before.before.before.before.before.before.before.before.before.before.before.before.before.word-at5.ensures c.before.before.before.before.before.before.before.word-at6.ensures c.before.word-at7.ensures refl _ refl s.requires.0 _ _ c.before.before.before.before.before.before.before.before.before.before.before.touch.ensures _ _ c.before.before.before.before.before.touch2.ensures
+    touching_third _ _ _ _ _ _ s.requires.1 _ _ _ _ c.before.before.before.before.before.before.before.before.before.before.before.before.before.before.before.before.before.before.before.word_at.ensures c.before.before.before.before.before.before.before.before.before.before.before.before.before.before.before.before.before.before.word-at2.ensures c.before.before.before.before.before.before.before.before.before.before.before.before.before.before.before.before.before.word-at3.ensures c.before.before.before.before.before.before.before.before.before.before.before.before.before.before.before.before.word-at4.ensures _ _ _ _ c.before.before.before.before.before.before.before.before.before.before.before.before.before.before.word-at5.ensures c.before.before.before.before.before.before.before.word-at6.ensures c.before.word-at7.ensures refl _ refl s.requires.0 _ _ c.before.before.before.before.before.before.before.before.before.before.before.touch.ensures _ _ c.before.before.before.before.before.touch2.ensures
 
 word-at-requires-8 : tie.Need-word-at-requires-8
 word-at-requires-8 c κs =
     let s = c.before.before.before.before.before.before.before.before.before.before.before.before.before.before.before.before.before.before.before.before.before.before.before.before.before.before in
-    son-node s.requires.0 s.requires.1 3 (omega arith) _ c.before.before.before.before.before.before.before.before.before.before.before.before.before.before.before.before.before.before.before.before.word-at4.ensures
+    node_of_son s.requires.0 s.requires.1 3 (omega arith) _ c.before.before.before.before.before.before.before.before.before.before.before.before.before.before.before.before.before.before.before.before.word-at4.ensures
 
 add-touch-7 : tie.Need-overflow-add-touch-7
 add-touch-7 c =
@@ -155,7 +155,7 @@ add-touch-8 c =
 touch-requires-4 : tie.Need-touch-requires-4
 touch-requires-4 c κs =
     let s = c.before.before.before.before.before.before.before.before.before.before.before.before.before.before.before.before.before.before.before.before.before.before.before.before.before.before.before in
-    touching-fourth _ _ _ _ _ _ s.requires.1 _ _ _ _ c.before.before.before.before.before.before.before.before.before.before.before.before.before.before.before.before.before.before.before.before.before.before.before.before.word_at.ensures c.before.before.before.before.before.before.before.before.before.before.before.before.before.before.before.before.before.before.before.before.before.before.before.word-at2.ensures c.before.before.before.before.before.before.before.before.before.before.before.before.before.before.before.before.before.before.before.before.before.before.word-at3.ensures c.before.before.before.before.before.before.before.before.before.before.before.before.before.before.before.before.before.before.before.before.before.word-at4.ensures _ _ _ _ c.before.before.before.before.before.before.before.before.before.before.before.before.before.before.before.before.before.before.before.word-at5.ensures c.before.before.before.before.before.before.before.before.before.before.before.before.word-at6.ensures c.before.before.before.before.before.before.word-at7.ensures c.word-at8.ensures _ refl s.requires.0 _ _ c.before.before.before.before.before.before.before.before.before.before.before.before.before.before.before.before.touch.ensures _ _ c.before.before.before.before.before.before.before.before.before.before.touch2.ensures _ _ c.before.before.before.before.touch3.ensures
+    touching_fourth _ _ _ _ _ _ s.requires.1 _ _ _ _ c.before.before.before.before.before.before.before.before.before.before.before.before.before.before.before.before.before.before.before.before.before.before.before.before.word_at.ensures c.before.before.before.before.before.before.before.before.before.before.before.before.before.before.before.before.before.before.before.before.before.before.before.word-at2.ensures c.before.before.before.before.before.before.before.before.before.before.before.before.before.before.before.before.before.before.before.before.before.before.word-at3.ensures c.before.before.before.before.before.before.before.before.before.before.before.before.before.before.before.before.before.before.before.before.before.word-at4.ensures _ _ _ _ c.before.before.before.before.before.before.before.before.before.before.before.before.before.before.before.before.before.before.before.word-at5.ensures c.before.before.before.before.before.before.before.before.before.before.before.before.word-at6.ensures c.before.before.before.before.before.before.word-at7.ensures c.word-at8.ensures _ refl s.requires.0 _ _ c.before.before.before.before.before.before.before.before.before.before.before.before.before.before.before.before.touch.ensures _ _ c.before.before.before.before.before.before.before.before.before.before.touch2.ensures _ _ c.before.before.before.before.touch3.ensures
 
 fill-last-requires : tie.Need-fill-last-requires
 fill-last-requires c κs =
@@ -171,7 +171,7 @@ same_length c = (c.before.before.before.before.before.touch4.auto.0 ∙ c.before
 returns : tie.Need-returns
 returns c =
     let s = c.before.before.before.before.before.before.before.before.before.before.before.before.before.before.before.before.before.before.before.before.before.before.before.before.before.before.before.before.before.before.before.before.before in
-    pixels-gone _ _ _ _ _ _ s.requires.1 _ _ _ _ c.before.before.before.before.before.before.before.before.before.before.before.before.before.before.before.before.before.before.before.before.before.before.before.before.before.before.before.before.before.before.word_at.ensures c.before.before.before.before.before.before.before.before.before.before.before.before.before.before.before.before.before.before.before.before.before.before.before.before.before.before.before.before.before.word-at2.ensures c.before.before.before.before.before.before.before.before.before.before.before.before.before.before.before.before.before.before.before.before.before.before.before.before.before.before.before.before.word-at3.ensures c.before.before.before.before.before.before.before.before.before.before.before.before.before.before.before.before.before.before.before.before.before.before.before.before.before.before.before.word-at4.ensures _ _ _ _ c.before.before.before.before.before.before.before.before.before.before.before.before.before.before.before.before.before.before.before.before.before.before.before.before.before.word-at5.ensures c.before.before.before.before.before.before.before.before.before.before.before.before.before.before.before.before.before.before.word-at6.ensures c.before.before.before.before.before.before.before.before.before.before.before.before.word-at7.ensures c.before.before.before.before.before.before.word-at8.ensures _ refl s.requires.0 _ _ c.before.before.before.before.before.before.before.before.before.before.before.before.before.before.before.before.before.before.before.before.before.before.touch.ensures _ _ c.before.before.before.before.before.before.before.before.before.before.before.before.before.before.before.before.touch2.ensures _ _ c.before.before.before.before.before.before.before.before.before.before.touch3.ensures _ _ c.before.before.before.before.before.touch4.ensures _ c.before.fill-last.ensures _ c.own-of-four.ensures
+    pixels_gone _ _ _ _ _ _ s.requires.1 _ _ _ _ c.before.before.before.before.before.before.before.before.before.before.before.before.before.before.before.before.before.before.before.before.before.before.before.before.before.before.before.before.before.before.word_at.ensures c.before.before.before.before.before.before.before.before.before.before.before.before.before.before.before.before.before.before.before.before.before.before.before.before.before.before.before.before.before.word-at2.ensures c.before.before.before.before.before.before.before.before.before.before.before.before.before.before.before.before.before.before.before.before.before.before.before.before.before.before.before.before.word-at3.ensures c.before.before.before.before.before.before.before.before.before.before.before.before.before.before.before.before.before.before.before.before.before.before.before.before.before.before.before.word-at4.ensures _ _ _ _ c.before.before.before.before.before.before.before.before.before.before.before.before.before.before.before.before.before.before.before.before.before.before.before.before.before.word-at5.ensures c.before.before.before.before.before.before.before.before.before.before.before.before.before.before.before.before.before.before.word-at6.ensures c.before.before.before.before.before.before.before.before.before.before.before.before.word-at7.ensures c.before.before.before.before.before.before.word-at8.ensures _ refl s.requires.0 _ _ c.before.before.before.before.before.before.before.before.before.before.before.before.before.before.before.before.before.before.before.before.before.before.touch.ensures _ _ c.before.before.before.before.before.before.before.before.before.before.before.before.before.before.before.before.touch2.ensures _ _ c.before.before.before.before.before.before.before.before.before.before.touch3.ensures _ _ c.before.before.before.before.before.touch4.ensures _ c.before.fill-last.ensures _ c.own-of-four.ensures
 
 pub pixels-spec : {M : Type 1} → statement M
 pixels-spec =

@@ -1,5 +1,5 @@
 -- `ponds_pixels::alike`: the product and the sum fit, since four words do. Assumes nothing.
-use Rattle.ponds_pixels.proofs.FourLaws.{alike_is, times-fits}
+use Rattle.ponds_pixels.proofs.FourLaws.{alike_is, times_fits}
 use borrow.Author.Rules.{rules}
 use Rattle.ponds_pixels.proofs.alike.Statement.{statement}
 use Rattle.ponds_pixels.proofs.alike.Tie as tie
@@ -29,7 +29,7 @@ cast-result : tie.Need-overflow-cast-result
 cast-result c = search rules
 
 mul-result : tie.Need-overflow-mul-result
-mul-result c = search (times-fits, rules)
+mul-result c = search (times_fits, rules)
 
 add-result : tie.Need-overflow-add-result
 add-result c = search rules

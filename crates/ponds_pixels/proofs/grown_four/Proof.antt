@@ -1,4 +1,4 @@
--- `ponds_pixels::grown_four`: each number is the one of `grownFour`, and fits a word. Assumes nothing.
+-- `ponds_pixels::grown_four`: each number is the one of `grown_four`, and fits a word. Assumes nothing.
 use Rattle.ponds_pixels.proofs.FourLaws.{four_is}
 use borrow.Author.Rules.{rules}
 use Rattle.ponds_pixels.proofs.grown_four.Statement.{statement}

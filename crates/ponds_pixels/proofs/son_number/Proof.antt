@@ -1,5 +1,5 @@
 -- `ponds_pixels::son_number`: one word leads to the son, whose number is read. Assumes nothing.
-use Rattle.ponds_entry.proofs.WordLaws.{named-number}
+use Rattle.ponds_entry.proofs.WordLaws.{named_number}
 use borrow.Author.Rules.{rules}
 use Rattle.ponds_pixels.proofs.son_number.Statement.{statement}
 use Rattle.ponds_pixels.proofs.son_number.Tie as tie
@@ -17,7 +17,7 @@ shared-slice-read-result : tie.Need-shared-slice-read-result
 shared-slice-read-result c = search rules
 
 returns : tie.Need-returns
-returns c = search (named-number, rules)
+returns c = search (named_number, rules)
 
 pub son-number-spec : {M : Type 1} → statement M
 son-number-spec =

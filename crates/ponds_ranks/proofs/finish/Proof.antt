@@ -3,7 +3,7 @@ use Prim.Native.Nat.{◌-◌, ◌≤◌}
 use native.Mathlib.Omega.{arith}
 use lib.ListN.{length}
 use borrow.Author.Rules.{rules}
-use Rattle.ponds_queues.proofs.WordLaws.{Writing, writing-none, writing_more, writing-all, writing-high}
+use Rattle.ponds_queues.proofs.WordLaws.{Writing, writing_none, writing_more, writing_all, writing_high}
 use Rattle.ponds_ranks.proofs.finish.Statement.{statement}
 use Rattle.ponds_ranks.proofs.finish.Tie as tie
 
@@ -14,7 +14,7 @@ abbrev decreases-loop : tie.decreases-loop
 decreases-loop words₀ p₀ words p = length words₀ - p
 
 loop-holds : tie.Need-loop-init invariant-loop decreases-loop
-loop-holds c = (omega arith, writing-none _)
+loop-holds c = (omega arith, writing_none _)
 
 mul_words : tie.Need-overflow-mul-words invariant-loop decreases-loop
 mul_words c = search rules
@@ -23,7 +23,7 @@ slice-read-words : tie.Need-slice-read-words invariant-loop decreases-loop
 slice-read-words c = omega (arith, c.before.loop-test.true)
 
 sub_words : tie.Need-overflow-sub-words invariant-loop decreases-loop
-sub_words c = writing-high c.before.before.before.requires (omega (arith, c.before.loop-test.true, c.before.before.loop.invariant.1.long)) c.before.before.loop.invariant.1
+sub_words c = writing_high c.before.before.before.requires (omega (arith, c.before.loop-test.true, c.before.before.loop.invariant.1.long)) c.before.before.loop.invariant.1
 
 slice-write-words : tie.Need-slice-write-words invariant-loop decreases-loop
 slice-write-words c = omega (arith, c.before.loop-test.true)
@@ -41,7 +41,7 @@ same_length : tie.Need-same-length invariant-loop decreases-loop
 same_length c = c.before.loop.invariant.1.long
 
 returns : tie.Need-returns invariant-loop decreases-loop
-returns c = writing-all (omega (arith, c.loop-test.false, c.before.loop.invariant.1.long)) c.before.loop.invariant.1
+returns c = writing_all (omega (arith, c.loop-test.false, c.before.loop.invariant.1.long)) c.before.loop.invariant.1
 
 pub finish_spec : {M : Type 1} → statement M
 finish_spec =

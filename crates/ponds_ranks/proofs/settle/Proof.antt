@@ -3,7 +3,7 @@ use Prim.Native.Nat.{◌-◌, ◌≤◌}
 use native.Mathlib.Omega.{arith}
 use lib.ListN.{length}
 use borrow.Author.Rules.{rules}
-use Rattle.ponds_queues.proofs.WordLaws.{Settling, settling-none, next-there, two-there, settling-more, settling-all}
+use Rattle.ponds_queues.proofs.WordLaws.{Settling, settling_none, next_there, two_there, settling_more, settling_all}
 use Rattle.ponds_ranks.proofs.settle.Statement.{statement}
 use Rattle.ponds_ranks.proofs.settle.Tie as tie
 
@@ -14,7 +14,7 @@ abbrev decreases-loop : tie.decreases-loop
 decreases-loop words₀ p₀ words p = length words₀ - p
 
 loop-holds : tie.Need-loop-init invariant-loop decreases-loop
-loop-holds c = (omega arith, settling-none _)
+loop-holds c = (omega arith, settling_none _)
 
 mul_next : tie.Need-overflow-mul-next invariant-loop decreases-loop
 mul_next c = search rules
@@ -29,13 +29,13 @@ mul-next-2 : tie.Need-overflow-mul-next-2 invariant-loop decreases-loop
 mul-next-2 c =
     let h = c.before.before.before.before.before.requires in
     let k = c.before.before.before.loop.invariant.1.still h.end h.far h.ends in
-    omega (arith, k.few, (next-there _ _ _ k _ _ c.before.before.loop-test.true c.next.ensures).0)
+    omega (arith, k.few, (next_there _ _ _ k _ _ c.before.before.loop-test.true c.next.ensures).0)
 
 slice-read-next-2 : tie.Need-slice-read-next-2 invariant-loop decreases-loop
 slice-read-next-2 c =
     let h = c.before.before.before.before.before.before.requires in
     let k = c.before.before.before.before.loop.invariant.1.still h.end h.far h.ends in
-    (next-there _ _ _ k _ _ c.before.before.before.loop-test.true c.before.next.ensures).0
+    (next_there _ _ _ k _ _ c.before.before.before.loop-test.true c.before.next.ensures).0
 
 next-requires-2 : tie.Need-next-requires-2 invariant-loop decreases-loop
 next-requires-2 c κs = search rules
@@ -44,19 +44,19 @@ mul-follow : tie.Need-overflow-mul-follow invariant-loop decreases-loop
 mul-follow c =
     let h = c.before.before.before.before.before.before.before.before.requires in
     let k = c.before.before.before.before.before.before.loop.invariant.1.still h.end h.far h.ends in
-    omega (arith, k.few, (two-there _ _ _ k _ _ _ c.before.before.before.before.before.loop-test.true c.before.before.before.next.ensures c.before.next2.ensures).0)
+    omega (arith, k.few, (two_there _ _ _ k _ _ _ c.before.before.before.before.before.loop-test.true c.before.before.before.next.ensures c.before.next2.ensures).0)
 
 slice-reshared-read-follow : tie.Need-slice-reshared-read-follow invariant-loop decreases-loop
 slice-reshared-read-follow c =
     let h = c.before.before.before.before.before.before.before.before.requires in
     let k = c.before.before.before.before.before.before.loop.invariant.1.still h.end h.far h.ends in
-    (two-there _ _ _ k _ _ _ c.before.before.before.before.before.loop-test.true c.before.before.before.next.ensures c.before.next2.ensures).0
+    (two_there _ _ _ k _ _ _ c.before.before.before.before.before.loop-test.true c.before.before.before.next.ensures c.before.next2.ensures).0
 
 follow-requires : tie.Need-follow-requires invariant-loop decreases-loop
 follow-requires c κs =
     let h = c.before.before.before.before.before.before.before.before.requires in
     let k = c.before.before.before.before.before.before.loop.invariant.1.still h.end h.far h.ends in
-    record { end = h.end; far = h.far; ends = k; there = k.low _ (two-there _ _ _ k _ _ _ c.before.before.before.before.before.loop-test.true c.before.before.before.next.ensures c.before.next2.ensures).0 }
+    record { end = h.end; far = h.far; ends = k; there = k.low _ (two_there _ _ _ k _ _ _ c.before.before.before.before.before.loop-test.true c.before.before.before.next.ensures c.before.next2.ensures).0 }
 
 mul_words : tie.Need-overflow-mul-words invariant-loop decreases-loop
 mul_words c = search rules
@@ -74,13 +74,13 @@ loop-again : tie.Need-loop-preserved invariant-loop decreases-loop
 loop-again c =
     let v = c.before.before.before.before.before.before.before.loop.invariant.1 in
     let l = c.before.before.before.before.before.before.loop-test.true in
-    (omega (arith, l, v.long), settling-more (omega (arith, l, v.long)) c.before.before.before.before.next.ensures c.before.before.next2.ensures c.follow.ensures v)
+    (omega (arith, l, v.long), settling_more (omega (arith, l, v.long)) c.before.before.before.before.next.ensures c.before.before.next2.ensures c.follow.ensures v)
 
 same_length : tie.Need-same-length invariant-loop decreases-loop
 same_length c = c.before.loop.invariant.1.long
 
 returns : tie.Need-returns invariant-loop decreases-loop
-returns c = settling-all (omega (arith, c.loop-test.false, c.before.loop.invariant.1.long)) c.before.loop.invariant.1
+returns c = settling_all (omega (arith, c.loop-test.false, c.before.loop.invariant.1.long)) c.before.loop.invariant.1
 
 pub settle-spec : {M : Type 1} → statement M
 settle-spec =

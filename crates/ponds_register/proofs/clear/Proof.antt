@@ -5,20 +5,20 @@ use lib.ListN.{length, replicate}
 use borrow.Author.Rules.{rules}
 use Rattle.base.specs.Tab.{overlay}
 use Rattle.ponds.specs.Entries.{words_of}
-use Rattle.ponds_entry.specs.Gathered.{emptyPond}
-use Rattle.ponds_entry.proofs.WordLaws.{cleared-none, cleared_more, cleared-all}
+use Rattle.ponds_entry.specs.Gathered.{empty_pond}
+use Rattle.ponds_entry.proofs.WordLaws.{cleared_none, cleared_more, cleared_all}
 use Rattle.ponds_register.proofs.clear.Statement.{statement}
 use Rattle.ponds_register.proofs.clear.Tie as tie
 
 abbrev invariant-loop : tie.invariant-loop
 invariant-loop reg₀ count i₀ reg i =
-    (i ≤ count) × (5 * count ≤ length reg₀) × (length reg ≡ length reg₀) × (reg ≡ overlay (words_of (replicate i emptyPond)) reg₀)
+    (i ≤ count) × (5 * count ≤ length reg₀) × (length reg ≡ length reg₀) × (reg ≡ overlay (words_of (replicate i empty_pond)) reg₀)
 
 abbrev decreases-loop : tie.decreases-loop
 decreases-loop reg₀ count i₀ reg i = count - i
 
 loop-holds : tie.Need-loop-init invariant-loop decreases-loop
-loop-holds c = search (cleared-none, rules)
+loop-holds c = search (cleared_none, rules)
 
 empty-requires : tie.Need-empty-requires invariant-loop decreases-loop
 empty-requires c κs = search rules
@@ -39,7 +39,7 @@ same_length : tie.Need-same-length invariant-loop decreases-loop
 same_length c = search rules
 
 returns : tie.Need-returns invariant-loop decreases-loop
-returns c = search (cleared-all, rules)
+returns c = search (cleared_all, rules)
 
 pub clear_spec : {M : Type 1} → statement M
 clear_spec =

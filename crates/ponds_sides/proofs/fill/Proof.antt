@@ -3,7 +3,7 @@ use Prim.Native.Nat.{◌-◌, ◌≤◌}
 use native.Mathlib.Omega.{arith}
 use borrow.Author.Rules.{rules}
 use Rattle.ponds_sets.specs.Walk.{LinesFilled}
-use Rattle.ponds_sets.proofs.ShoreLaws.{fill_none, fill_more, fill-all}
+use Rattle.ponds_sets.proofs.ShoreLaws.{fill_none, fill_more, fill_all}
 use Rattle.ponds_sides.proofs.fill.Statement.{statement}
 use Rattle.ponds_sides.proofs.fill.Tie as tie
 
@@ -47,7 +47,7 @@ loop-again : tie.Need-loop-preserved invariant-loop decreases-loop
 loop-again c = (fill_more c.before.loop.invariant.0 c.before.before.requires.0 (omega (arith, c.before.before.requires.1, c.loop-test.true)) (omega (arith, c.before.before.requires.2, c.loop-test.true)), omega (arith, c.loop-test.true))
 
 returns : tie.Need-returns invariant-loop decreases-loop
-returns c = fill-all c.before.loop.invariant.0 c.before.loop.invariant.1 c.loop-test.false
+returns c = fill_all c.before.loop.invariant.0 c.before.loop.invariant.1 c.loop-test.false
 
 pub fill_spec : {M : Type 1} → statement M
 fill_spec =

@@ -1,6 +1,6 @@
 -- `ponds_sides::fill_two`: two columns and two rows. Assumes nothing.
 use borrow.Author.Rules.{rules}
-use Rattle.ponds_sets.proofs.ShoreLaws.{fill-two}
+use Rattle.ponds_sets.proofs.ShoreLaws.{fill_two_lem}
 use Rattle.ponds_sides.proofs.fill_two.Statement.{statement}
 use Rattle.ponds_sides.proofs.fill_two.Tie as tie
 
@@ -41,7 +41,7 @@ element-write-lines-4 : tie.Need-element-write-lines-4
 element-write-lines-4 c = search rules
 
 returns : tie.Need-returns
-returns c = fill-two _ _ _ _ c.requires.0 c.requires.1 c.requires.2
+returns c = fill_two_lem _ _ _ _ c.requires.0 c.requires.1 c.requires.2
 
 pub fill-two-spec : {M : Type 1} → statement M
 fill-two-spec =

@@ -3,7 +3,7 @@ use Prim.Native.Nat.{◌-◌, ◌≤◌}
 use native.Mathlib.Omega.{arith}
 use borrow.Author.Rules.{rules}
 use Rattle.ponds_sets.specs.Walk.{Quiet}
-use Rattle.ponds_sets.proofs.ShoreLaws.{quiet_none, quiet-more, quiet_all}
+use Rattle.ponds_sets.proofs.ShoreLaws.{quiet_none, quiet_more, quiet_all}
 use Rattle.ponds_sides.proofs.others.Statement.{statement}
 use Rattle.ponds_sides.proofs.others.Tie as tie
 
@@ -38,7 +38,7 @@ loop-less : tie.Need-loop-smaller invariant-loop decreases-loop
 loop-less c = omega (arith, c.before.before.loop-test.true)
 
 loop-again : tie.Need-loop-preserved invariant-loop decreases-loop
-loop-again c = (quiet-more c.before.before.before.loop.invariant.0 _ c.one-if-other.ensures.0 c.one-if-other.ensures.1, omega (arith, c.before.before.loop-test.true))
+loop-again c = (quiet_more c.before.before.before.loop.invariant.0 _ c.one-if-other.ensures.0 c.one-if-other.ensures.1, omega (arith, c.before.before.loop-test.true))
 
 returns : tie.Need-returns invariant-loop decreases-loop
 returns c = quiet_all c.before.loop.invariant.0 c.before.loop.invariant.1 c.loop-test.false

@@ -1,12 +1,12 @@
 -- `ponds_sides::sides`: a black leaf's sides, or nothing. Assumes nothing.
 use borrow.Author.Rules.{rules}
-use Rattle.ponds_sets.proofs.ShoreLaws.{quiet-shores}
-use Rattle.ponds_sides.proofs.LeafLaws.{sides-wet, sides-dry}
+use Rattle.ponds_sets.proofs.ShoreLaws.{quiet_shores}
+use Rattle.ponds_sides.proofs.LeafLaws.{sides_wet, sides_dry}
 use Rattle.ponds_sides.proofs.sides.Statement.{statement}
 use Rattle.ponds_sides.proofs.sides.Tie as tie
 
 returns : tie.Need-returns
-returns c = sides-dry c.if1.true
+returns c = sides_dry c.if1.true
 
 others-requires : tie.Need-others-requires
 others-requires c κs = search rules
@@ -21,7 +21,7 @@ add-if3 : tie.Need-overflow-add-if3
 add-if3 c = search rules
 
 returns-2 : tie.Need-returns-2
-returns-2 c = sides-wet c.before.before.before.before.if1.false (quiet-shores c.before.before.others.ensures c.before.others2.ensures c.if3.true)
+returns-2 c = sides_wet c.before.before.before.before.if1.false (quiet_shores c.before.before.others.ensures c.before.others2.ensures c.if3.true)
 
 shore-requires : tie.Need-shore-requires
 shore-requires c κs = c.before.before.before.before.requires.0 c.before.before.if1.false
@@ -30,7 +30,7 @@ same_length : tie.Need-same-length
 same_length c = search rules
 
 returns-3 : tie.Need-returns-3
-returns-3 c = sides-wet c.before.before.before.before.before.if1.false c.before.before.shore.ensures
+returns-3 c = sides_wet c.before.before.before.before.before.if1.false c.before.before.shore.ensures
 
 pub sides-spec : {M : Type 1} → statement M
 sides-spec =

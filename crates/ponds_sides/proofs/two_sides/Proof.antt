@@ -1,8 +1,8 @@
 -- `ponds_sides::two_sides`: the second pixels, or nothing. Assumes nothing.
 use borrow.Author.Rules.{rules}
 use native.Mathlib.Omega.{arith}
-use Rattle.ponds_sets.proofs.ShoreLaws.{two-north, two-west, two-shores, two-quiet}
-use Rattle.ponds_sides.proofs.LeafLaws.{sides-wet}
+use Rattle.ponds_sets.proofs.ShoreLaws.{two_north, two_west, two_shores, two_quiet}
+use Rattle.ponds_sides.proofs.LeafLaws.{sides_wet}
 use Rattle.ponds_sides.proofs.two_sides.Statement.{statement}
 use Rattle.ponds_sides.proofs.two_sides.Tie as tie
 
@@ -64,7 +64,7 @@ add-if1-2 : tie.Need-overflow-add-if1-2
 add-if1-2 c = omega (arith, c.before.before.before.before.before.before.before.requires.1, c.before.before.before.apart.ensures.1, c.apart2.ensures.1)
 
 returns : tie.Need-returns
-returns c = two-quiet c.before.before.before.before.apart.ensures.0 c.before.apart2.ensures.0 c.if1.true
+returns c = two_quiet c.before.before.before.before.apart.ensures.0 c.before.apart2.ensures.0 c.if1.true
 
 add-next : tie.Need-overflow-add-next
 add-next c =
@@ -94,7 +94,7 @@ element-copy-out-next-2 c =
 next-requires : tie.Need-next-requires
 next-requires c κs =
     let s = c.before.before.before.before.before.before.before.before.before.before.before in
-    two-north (s.requires.0.0 (omega (arith, s.requires.1, c.before.before.before.before.before.before.before.apart.ensures.1, c.before.before.before.before.apart2.ensures.1, c.before.before.before.if1.false)))
+    two_north (s.requires.0.0 (omega (arith, s.requires.1, c.before.before.before.before.before.before.before.apart.ensures.1, c.before.before.before.before.apart2.ensures.1, c.before.before.before.if1.false)))
 
 add-next-2 : tie.Need-overflow-add-next-2
 add-next-2 c =
@@ -134,13 +134,13 @@ element-copy-out-next-4 c =
 next-requires-2 : tie.Need-next-requires-2
 next-requires-2 c κs =
     let s = c.before.before.before.before.before.before.before.before.before.before.before.before.before.before.before.before.before in
-    two-west c.before.before.before.before.before.next.ensures (s.requires.0.0 (omega (arith, s.requires.1, c.before.before.before.before.before.before.before.before.before.before.before.before.before.apart.ensures.1, c.before.before.before.before.before.before.before.before.before.before.apart2.ensures.1, c.before.before.before.before.before.before.before.before.before.if1.false)))
+    two_west c.before.before.before.before.before.next.ensures (s.requires.0.0 (omega (arith, s.requires.1, c.before.before.before.before.before.before.before.before.before.before.before.before.before.apart.ensures.1, c.before.before.before.before.before.before.before.before.before.before.apart2.ensures.1, c.before.before.before.before.before.before.before.before.before.if1.false)))
 
 same_length : tie.Need-same-length
 same_length c = search rules
 
 returns-2 : tie.Need-returns-2
-returns-2 c = sides-wet (omega (arith, c.before.before.before.before.before.before.before.before.before.before.before.before.before.before.before.before.before.before.before.before.requires.1, c.before.before.before.before.before.before.before.before.before.before.before.before.before.before.before.before.apart.ensures.1, c.before.before.before.before.before.before.before.before.before.before.before.before.before.apart2.ensures.1, c.before.before.before.before.before.before.before.before.before.before.before.before.if1.false)) (two-shores c.before.before.before.before.before.before.before.before.next.ensures _ c.before.before.next2.ensures)
+returns-2 c = sides_wet (omega (arith, c.before.before.before.before.before.before.before.before.before.before.before.before.before.before.before.before.before.before.before.before.requires.1, c.before.before.before.before.before.before.before.before.before.before.before.before.before.before.before.before.apart.ensures.1, c.before.before.before.before.before.before.before.before.before.before.before.before.before.apart2.ensures.1, c.before.before.before.before.before.before.before.before.before.before.before.before.if1.false)) (two_shores c.before.before.before.before.before.before.before.before.next.ensures _ c.before.before.next2.ensures)
 
 pub two-sides-spec : {M : Type 1} → statement M
 two-sides-spec =

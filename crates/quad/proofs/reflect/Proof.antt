@@ -1,7 +1,7 @@
 -- `quad::reflect` reads the table, whose rule holds of every entry. Assumes nothing.
 use mathlib.Core.Path.{◌∙◌}
 use borrow.Author.Rules.{rules}
-use Rattle.quad.proofs.TableLaws.{reflect-rule}
+use Rattle.quad.proofs.TableLaws.{reflect_rule}
 use Rattle.quad.proofs.reflect.Statement.{statement}
 use Rattle.quad.proofs.reflect.Tie as tie
 
@@ -18,7 +18,7 @@ wide-requires : tie.Need-wide-requires
 wide-requires c κs = search rules
 
 returns : tie.Need-returns
-returns c = let s = c.before.before.args in c.wide.ensures ∙ reflect-rule s.side s.quadrant (search rules) (search rules)
+returns c = let s = c.before.before.args in c.wide.ensures ∙ reflect_rule s.side s.quadrant (search rules) (search rules)
 
 pub reflect-spec : {M : Type 1} → statement M
 reflect-spec = tie.close (tie.spec mul_wide index-1-wide index-2-wide wide-requires returns)

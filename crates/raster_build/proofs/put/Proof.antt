@@ -1,8 +1,8 @@
 -- `raster_build::put`: a leaf, four pixels, sixteen, or a fork. Assumes nothing.
 use mathlib.Core.Path.{refl}
-use Rattle.table.proofs.WritingLaws.{node-room, type_put}
-use Rattle.raster_count.proofs.NotedLaws.{sheet-kind}
-use Rattle.raster_build.proofs.QuarterLaws.{sheet-forked, sheet-of}
+use Rattle.table.proofs.WritingLaws.{node_room, type_put}
+use Rattle.raster_count.proofs.NotedLaws.{sheet_kind}
+use Rattle.raster_build.proofs.QuarterLaws.{sheet_forked, sheet_of}
 use borrow.Author.Rules.{rules}
 use Rattle.raster_build.proofs.put.Statement.{statement}
 use Rattle.raster_build.proofs.put.Tie as tie
@@ -17,7 +17,7 @@ cast-if1 : tie.Need-overflow-cast-if1
 cast-if1 c = search rules
 
 put-leaf-requires : tie.Need-put-leaf-requires
-put-leaf-requires c κs = node-room c.before.before.before.before.before.requires.block.ready
+put-leaf-requires c κs = node_room c.before.before.before.before.before.requires.block.ready
 
 same_length : tie.Need-same-length
 same_length c = search rules
@@ -25,10 +25,10 @@ same_length c = search rules
 returns : tie.Need-returns
 returns c =
     let d = c.before.before.before.before in
-    type_put _ _ 0 _ _ _ _ (sheet-kind _ _ _ d.before.before.before.before.requires.noted) d.if1.true refl c.before.before.put-leaf.ensures
+    type_put _ _ 0 _ _ _ _ (sheet_kind _ _ _ d.before.before.before.before.requires.noted) d.if1.true refl c.before.before.put-leaf.ensures
 
 put-four-requires : tie.Need-put-four-requires
-put-four-requires c κs = sheet-of 1 c.before.before.before.before.before.before.requires.block c.before.if2.true
+put-four-requires c κs = sheet_of 1 c.before.before.before.before.before.before.requires.block c.before.if2.true
 
 same-length-2 : tie.Need-same-length-2
 same-length-2 c = search rules
@@ -37,7 +37,7 @@ returns-2 : tie.Need-returns-2
 returns-2 c = rw c.before.before.before.before.if2.true c.before.before.put_four.ensures
 
 put-sixteen-requires : tie.Need-put-sixteen-requires
-put-sixteen-requires c κs = sheet-of 2 c.before.before.before.before.before.before.before.requires.block c.before.if3.true
+put-sixteen-requires c κs = sheet_of 2 c.before.before.before.before.before.before.before.requires.block c.before.if3.true
 
 same-length-3 : tie.Need-same-length-3
 same-length-3 c = search rules
@@ -51,7 +51,7 @@ slots-requires c κs = search rules
 put-fork-requires : tie.Need-put-fork-requires
 put-fork-requires c κs =
     let d = c.before.before.before.before in
-    sheet-forked d.before.before.before.before.requires d.if1.false c.before.before.before.if2.false c.before.before.if3.false _
+    sheet_forked d.before.before.before.before.requires d.if1.false c.before.before.before.if2.false c.before.before.if3.false _
     c.before.slots.ensures
 
 same-length-4 : tie.Need-same-length-4

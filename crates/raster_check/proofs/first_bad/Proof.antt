@@ -4,13 +4,13 @@ use Prim.Native.Nat.{◌-◌, ◌≤◌}
 use mathlib.Core.Path.{◌≡◌, refl, sym, ◌∙◌}
 use native.Mathlib.Omega.{arith}
 use lib.ListN.{length, drop}
-use Rattle.raster.specs.Raster.{pixelsFrom}
-use Rattle.raster.proofs.TestLaws.{pixels-next, pixels-bad, pixels-end}
+use Rattle.raster.specs.Raster.{pixels_from}
+use Rattle.raster.proofs.TestLaws.{pixels_next, pixels_bad, pixels_end}
 use Rattle.raster_check.proofs.first_bad.Statement.{statement}
 use Rattle.raster_check.proofs.first_bad.Tie as tie
 
 abbrev invariant-loop : tie.invariant-loop
-invariant-loop raster i₀ i = (i ≤ length raster) × (pixelsFrom (drop i raster) i ≡ pixelsFrom raster 0)
+invariant-loop raster i₀ i = (i ≤ length raster) × (pixels_from (drop i raster) i ≡ pixels_from raster 0)
 
 abbrev decreases-loop : tie.decreases-loop
 decreases-loop raster i₀ i = length raster - i
@@ -28,7 +28,7 @@ cast-t7 : tie.Need-overflow-cast-t7 invariant-loop decreases-loop
 cast-t7 c = omega arith
 
 returns : tie.Need-returns invariant-loop decreases-loop
-returns c = sym (pixels-bad c.before.before.before.before.args.raster.now c.before.before.before.loop.i (omega arith) c.if1.true) ∙ c.before.before.before.loop.invariant.1
+returns c = sym (pixels_bad c.before.before.before.before.args.raster.now c.before.before.before.loop.i (omega arith) c.if1.true) ∙ c.before.before.before.loop.invariant.1
 
 add-i : tie.Need-overflow-add-i invariant-loop decreases-loop
 add-i c = omega arith
@@ -37,10 +37,10 @@ loop-less : tie.Need-loop-smaller invariant-loop decreases-loop
 loop-less c = omega arith
 
 loop-again : tie.Need-loop-preserved invariant-loop decreases-loop
-loop-again c = (omega arith, sym (pixels-next c.before.before.before.before.args.raster.now c.before.before.before.loop.i (omega arith) c.if1.false) ∙ c.before.before.before.loop.invariant.1)
+loop-again c = (omega arith, sym (pixels_next c.before.before.before.before.args.raster.now c.before.before.before.loop.i (omega arith) c.if1.false) ∙ c.before.before.before.loop.invariant.1)
 
 returns-2 : tie.Need-returns-2 invariant-loop decreases-loop
-returns-2 c = sym (pixels-end c.before.before.args.raster.now c.before.loop.i c.before.loop.invariant.0 (omega arith)) ∙ c.before.loop.invariant.1
+returns-2 c = sym (pixels_end c.before.before.args.raster.now c.before.loop.i c.before.loop.invariant.0 (omega arith)) ∙ c.before.loop.invariant.1
 
 pub first-bad-spec : {M : Type 1} → statement M
 first-bad-spec =

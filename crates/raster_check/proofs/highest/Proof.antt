@@ -4,7 +4,7 @@ use Prim.Native.Nat.{ℕ, ◌+◌, ◌-◌, ◌*◌, ◌/◌, ◌≤◌, ◌<◌
 use native.Mathlib.Omega.{arith}
 use lib.ListN.{length, get_or}
 use borrow.Author.Rules.{rules}
-use Rattle.raster.proofs.TestLaws.{none-above-next, none-above-all}
+use Rattle.raster.proofs.TestLaws.{none_above_next, none_above_all}
 use Rattle.raster_check.proofs.highest.Statement.{statement}
 use Rattle.raster_check.proofs.highest.Tie as tie
 
@@ -67,12 +67,12 @@ loop-again c =
     let s = c.before.before.before.before.before.before.before.before.before.before.before in
     let l = c.before.before.before.before.before.before.before.before.before in
     let m = c.before.before.before.before.before in
-    (omega arith, none-above-next s.args.raster.now (length s.args.raster.now / 4) l.loop.most c.larger4.result l.loop.i l.loop.invariant.1 (omega (arith, m.larger.ensures, c.before.before.larger2.ensures, c.before.larger3.ensures, c.larger4.ensures)) (omega (arith, m.larger.ensures, c.before.before.larger2.ensures, c.before.larger3.ensures, c.larger4.ensures), omega (arith, m.larger.ensures, c.before.before.larger2.ensures, c.before.larger3.ensures, c.larger4.ensures), omega (arith, m.larger.ensures, c.before.before.larger2.ensures, c.before.larger3.ensures, c.larger4.ensures), omega (arith, m.larger.ensures, c.before.before.larger2.ensures, c.before.larger3.ensures, c.larger4.ensures)))
+    (omega arith, none_above_next s.args.raster.now (length s.args.raster.now / 4) l.loop.most c.larger4.result l.loop.i l.loop.invariant.1 (omega (arith, m.larger.ensures, c.before.before.larger2.ensures, c.before.larger3.ensures, c.larger4.ensures)) (omega (arith, m.larger.ensures, c.before.before.larger2.ensures, c.before.larger3.ensures, c.larger4.ensures), omega (arith, m.larger.ensures, c.before.before.larger2.ensures, c.before.larger3.ensures, c.larger4.ensures), omega (arith, m.larger.ensures, c.before.before.larger2.ensures, c.before.larger3.ensures, c.larger4.ensures), omega (arith, m.larger.ensures, c.before.before.larger2.ensures, c.before.larger3.ensures, c.larger4.ensures)))
 
 returns : tie.Need-returns invariant-loop decreases-loop
 returns c =
     let s = c.before.before.before in
-    none-above-all s.args.raster.now (length s.args.raster.now / 4) c.before.loop.most (omega (arith, s.requires)) (λ j lt. c.before.loop.invariant.1 j (omega (arith, lt, c.loop-test.false)))
+    none_above_all s.args.raster.now (length s.args.raster.now / 4) c.before.loop.most (omega (arith, s.requires)) (λ j lt. c.before.loop.invariant.1 j (omega (arith, lt, c.loop-test.false)))
 
 pub highest-spec : {M : Type 1} → statement M
 highest-spec =

@@ -1,7 +1,7 @@
 -- `raster_check::pixels`: no byte is above the highest. Assumes nothing.
 use mathlib.Core.Path.{sym}
 use native.Mathlib.Omega.{arith}
-use Rattle.raster.proofs.TestLaws.{pixels-pass}
+use Rattle.raster.proofs.TestLaws.{pixels_pass}
 use borrow.Author.Rules.{rules}
 use Rattle.raster_check.proofs.pixels.Statement.{statement}
 use Rattle.raster_check.proofs.pixels.Tie as tie
@@ -25,7 +25,7 @@ returns-2 : tie.Need-returns-2
 returns-2 c = search rules
 
 returns-3 : tie.Need-returns-3
-returns-3 c = sym (pixels-pass c.before.before.before.before.args.raster.now 0 (λ i lt. omega (arith, c.before.highest.ensures i lt, c.if2.false)))
+returns-3 c = sym (pixels_pass c.before.before.before.before.args.raster.now 0 (λ i lt. omega (arith, c.before.highest.ensures i lt, c.if2.false)))
 
 pub pixels-spec : {M : Type 1} → statement M
 pixels-spec =

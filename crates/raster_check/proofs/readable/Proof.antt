@@ -1,11 +1,11 @@
 -- `raster_check::readable`: the level, the length, the bytes, in this order. Assumes nothing.
-use Rattle.raster.proofs.TestLaws.{readable-level, readable-length, readable-short, readable-pixels}
+use Rattle.raster.proofs.TestLaws.{readable_level, readable_length, readable_short, readable_pixels}
 use borrow.Author.Rules.{rules}
 use Rattle.raster_check.proofs.readable.Statement.{statement}
 use Rattle.raster_check.proofs.readable.Tie as tie
 
 returns : tie.Need-returns
-returns c = search (readable-level, rules)
+returns c = search (readable_level, rules)
 
 raster-length-requires : tie.Need-raster-length-requires
 raster-length-requires c κs = search rules
@@ -14,13 +14,13 @@ answered-requires : tie.Need-answered-requires
 answered-requires c κs = search rules
 
 returns-2 : tie.Need-returns-2
-returns-2 c = search (readable-length, rules)
+returns-2 c = search (readable_length, rules)
 
 pixels-requires : tie.Need-pixels-requires
-pixels-requires c κs = search (readable-short, rules)
+pixels-requires c κs = search (readable_short, rules)
 
 returns-3 : tie.Need-returns-3
-returns-3 c = search (readable-pixels, rules)
+returns-3 c = search (readable_pixels, rules)
 
 pub readable-spec : {M : Type 1} → statement M
 readable-spec =

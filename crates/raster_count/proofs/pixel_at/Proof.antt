@@ -1,7 +1,7 @@
 -- `raster_count::pixel_at`: the pixel's place lies in the raster. Assumes nothing.
 use Prim.Native.Nat.{◌+◌, ◌*◌}
 use native.Mathlib.Omega.{arith}
-use Rattle.raster.proofs.BlockLaws.{place-lt, place-fits}
+use Rattle.raster.proofs.BlockLaws.{place_lt, place_fits}
 use borrow.Author.Rules.{rules}
 use Rattle.raster_count.proofs.pixel_at.Statement.{statement}
 use Rattle.raster_count.proofs.pixel_at.Tie as tie
@@ -15,17 +15,17 @@ cast-across c = search rules
 mul-result : tie.Need-overflow-mul-result
 mul-result c =
     let s = c.before.before in
-    record { fits = rw c.side.ensures (omega (arith, place-fits s.requires.0.top s.requires.1)) }
+    record { fits = rw c.side.ensures (omega (arith, place_fits s.requires.0.top s.requires.1)) }
 
 add-result : tie.Need-overflow-add-result
 add-result c =
     let s = c.before.before in
-    record { fits = rw c.side.ensures (omega (arith, place-fits s.requires.0.top s.requires.1)) }
+    record { fits = rw c.side.ensures (omega (arith, place_fits s.requires.0.top s.requires.1)) }
 
 shared-slice-read-result : tie.Need-shared-slice-read-result
 shared-slice-read-result c =
     let s = c.before.before.before in
-    rw (c.before.side.ensures, s.requires.0.whole) (place-lt s.requires.1)
+    rw (c.before.side.ensures, s.requires.0.whole) (place_lt s.requires.1)
 
 cast-result : tie.Need-overflow-cast-result
 cast-result c =

@@ -2,11 +2,11 @@
 -- the loop's, the quarters left. Assumes nothing.
 use mathlib.Core.Path.{◌∙◌}
 use native.Mathlib.Omega.{arith}
-use Rattle.table.proofs.AcceptedLaws.{type-byte, fork-above}
-use Rattle.table.proofs.TypeLaws.{told-fork}
-use Rattle.raster_fill.specs.Painting.{Painted, inQuarters, coloursAt}
-use Rattle.raster.proofs.BlockLaws.{on-small, on-son}
-use Rattle.raster_fill.proofs.PaintingLaws.{painted-leaf, son-place, quarters-none, quarter-painted, fork-painted}
+use Rattle.table.proofs.AcceptedLaws.{type_byte, fork_above}
+use Rattle.table.proofs.TypeLaws.{told_fork}
+use Rattle.raster_fill.specs.Painting.{Painted, in_quarters, colours_at}
+use Rattle.raster.proofs.BlockLaws.{on_small, on_son}
+use Rattle.raster_fill.proofs.PaintingLaws.{painted_leaf, son_place, quarters_none, quarter_painted, fork_painted}
 use Prim.Native.Nat.{ℕ, ◌-◌, ◌≤◌, ◌<◌}
 use borrow.Fn.Kinds.{In}
 use borrow.Fn.PlainCycle.{Measures, is, falls, and}
@@ -34,7 +34,7 @@ abbrev calls : ℕ → paint-fork-lts.Claims
 calls t = (paint-four-reads.Asked, paint-four-reads.Learnt, word-at-reads.Asked, word-at-reads.Learnt, paint-fork-below t, paint-fork.Post, fill-leaf-reads.Asked, fill-leaf-reads.Learnt)
 
 abbrev paint-fork-Inv-loop : paint-fork-lts.invariant-loop
-paint-fork-Inv-loop table p n level x y raster₀ half q₀ raster q = (q ≤ 4) × Painted n (inQuarters (level - 1) x y q) (coloursAt table level p) raster₀ raster
+paint-fork-Inv-loop table p n level x y raster₀ half q₀ raster q = (q ≤ 4) × Painted n (in_quarters (level - 1) x y q) (colours_at table level p) raster₀ raster
 
 abbrev paint-fork-μ-loop : paint-fork-lts.decreases-loop
 paint-fork-μ-loop table p n level x y raster₀ half q₀ raster q = 4 - q
@@ -49,10 +49,10 @@ paint-fork-returns : (t : ℕ) → paint-fork-lts.Need-returns (calls t) (paint-
 paint-fork-returns t c = rw c.before.before.before.before.if1.true c.before.before.paint-four.ensures
 
 paint-fork-sub-half : (t : ℕ) → paint-fork-lts.Need-overflow-sub-half (calls t) (paint-fork-at t) paint-fork.Post paint-fork-Inv-loop paint-fork-μ-loop
-paint-fork-sub-half t c = omega (arith, fork-above c.before.before.before.requires.1.0.place c.before.before.before.requires.1.1)
+paint-fork-sub-half t c = omega (arith, fork_above c.before.before.before.requires.1.0.place c.before.before.before.requires.1.1)
 
 paint-fork-loop-holds : (t : ℕ) → paint-fork-lts.Need-loop-init (calls t) (paint-fork-at t) paint-fork.Post paint-fork-Inv-loop paint-fork-μ-loop
-paint-fork-loop-holds t c = (omega arith, quarters-none _ _ _ _ _ _)
+paint-fork-loop-holds t c = (omega arith, quarters_none _ _ _ _ _ _)
 
 paint-fork-add-word-at : (t : ℕ) → paint-fork-lts.Need-overflow-add-word-at (calls t) (paint-fork-at t) paint-fork.Post paint-fork-Inv-loop paint-fork-μ-loop
 paint-fork-add-word-at t c = omega arith
@@ -63,22 +63,22 @@ paint-fork-word-at-requires t c κs = (c.before.before.before.before.before.requ
 paint-fork-mul-west : (t : ℕ) → paint-fork-lts.Need-overflow-mul-west (calls t) (paint-fork-at t) paint-fork.Post paint-fork-Inv-loop paint-fork-μ-loop
 paint-fork-mul-west t c =
     let s = c.before.before.before.before.before.before in
-    omega (arith, on-small s.requires.1.0.place.accepted.sized.level s.requires.1.0.block)
+    omega (arith, on_small s.requires.1.0.place.accepted.sized.level s.requires.1.0.block)
 
 paint-fork-add-west : (t : ℕ) → paint-fork-lts.Need-overflow-add-west (calls t) (paint-fork-at t) paint-fork.Post paint-fork-Inv-loop paint-fork-μ-loop
 paint-fork-add-west t c =
     let s = c.before.before.before.before.before.before in
-    omega (arith, on-small s.requires.1.0.place.accepted.sized.level s.requires.1.0.block)
+    omega (arith, on_small s.requires.1.0.place.accepted.sized.level s.requires.1.0.block)
 
 paint-fork-mul-north : (t : ℕ) → paint-fork-lts.Need-overflow-mul-north (calls t) (paint-fork-at t) paint-fork.Post paint-fork-Inv-loop paint-fork-μ-loop
 paint-fork-mul-north t c =
     let s = c.before.before.before.before.before.before in
-    omega (arith, on-small s.requires.1.0.place.accepted.sized.level s.requires.1.0.block)
+    omega (arith, on_small s.requires.1.0.place.accepted.sized.level s.requires.1.0.block)
 
 paint-fork-add-north : (t : ℕ) → paint-fork-lts.Need-overflow-add-north (calls t) (paint-fork-at t) paint-fork.Post paint-fork-Inv-loop paint-fork-μ-loop
 paint-fork-add-north t c =
     let s = c.before.before.before.before.before.before in
-    omega (arith, on-small s.requires.1.0.place.accepted.sized.level s.requires.1.0.block)
+    omega (arith, on_small s.requires.1.0.place.accepted.sized.level s.requires.1.0.block)
 
 paint-fork-add-q : (t : ℕ) → paint-fork-lts.Need-overflow-add-q (calls t) (paint-fork-at t) paint-fork.Post paint-fork-Inv-loop paint-fork-μ-loop
 paint-fork-add-q t c = omega arith
@@ -86,20 +86,20 @@ paint-fork-add-q t c = omega arith
 paint-fork-word-at-requires-2 : (t : ℕ) → paint-fork-lts.Need-word-at-requires-2 (calls t) (paint-fork-at t) paint-fork.Post paint-fork-Inv-loop paint-fork-μ-loop
 paint-fork-word-at-requires-2 t c κs =
     let s = c.before.before.before.before.before.before in
-    ((son-place s.requires.1.0 s.requires.1.1 c.before.before.loop.q _ (omega arith) c.word_at.ensures).node, omega arith)
+    ((son_place s.requires.1.0 s.requires.1.1 c.before.before.loop.q _ (omega arith) c.word_at.ensures).node, omega arith)
 
 paint-fork-paint-fork-requires : (t : ℕ) → paint-fork-lts.Need-paint-fork-requires (calls t) (paint-fork-at t) paint-fork.Post paint-fork-Inv-loop paint-fork-μ-loop
 paint-fork-paint-fork-requires t c κs =
     let s = c.before.before.before.before.before.before.before.before.before in
     let l = c.before.before.before.before.before in (
-      omega (arith, s.requires.0, fork-above s.requires.1.0.place s.requires.1.1),
+      omega (arith, s.requires.0, fork_above s.requires.1.0.place s.requires.1.1),
       (
         record {
-          place = son-place s.requires.1.0 s.requires.1.1 l.loop.q _ (omega arith) c.before.before.before.word_at.ensures;
-          block = on-son s.requires.1.0.block (fork-above s.requires.1.0.place s.requires.1.1) _ _ (omega arith) (omega arith);
+          place = son_place s.requires.1.0 s.requires.1.1 l.loop.q _ (omega arith) c.before.before.before.word_at.ensures;
+          block = on_son s.requires.1.0.block (fork_above s.requires.1.0.place s.requires.1.1) _ _ (omega arith) (omega arith);
           whole = l.loop.invariant.1.size ∙ s.requires.1.0.whole;
         },
-        told-fork s.args.table.now c.before.before.before.word_at.result _ c.before.before.word-at2.ensures c.before.if2.true,
+        told_fork s.args.table.now c.before.before.before.word_at.result _ c.before.before.word-at2.ensures c.before.if2.true,
       ),
     )
 
@@ -110,18 +110,18 @@ paint-fork-loop-again : (t : ℕ) → paint-fork-lts.Need-loop-preserved (calls 
 paint-fork-loop-again t c =
     let s = c.before.before.before.before.before.before.before.before.before.before.before.before in
     let l = c.before.before.before.before.before.before.before.before in
-    (omega arith, quarter-painted _ _ _ _ _ _ (fork-above s.requires.1.0.place s.requires.1.1) l.loop.q _ _ l.loop.raster _ s.requires.1.1 (omega arith) c.before.before.before.before.before.before.word_at.ensures l.loop.invariant.1 c.before.before.paint-fork.ensures)
+    (omega arith, quarter_painted _ _ _ _ _ _ (fork_above s.requires.1.0.place s.requires.1.1) l.loop.q _ _ l.loop.raster _ s.requires.1.1 (omega arith) c.before.before.before.before.before.before.word_at.ensures l.loop.invariant.1 c.before.before.paint-fork.ensures)
 
 paint-fork-cast-fill-leaf : (t : ℕ) → paint-fork-lts.Need-overflow-cast-fill-leaf (calls t) (paint-fork-at t) paint-fork.Post paint-fork-Inv-loop paint-fork-μ-loop
 paint-fork-cast-fill-leaf t c =
     let s = c.before.before.before.before.before.before.before.before.before in
-    let k = son-place s.requires.1.0 s.requires.1.1 c.before.before.before.before.before.loop.q _ (omega arith) c.before.before.before.word_at.ensures in
-    omega (arith, c.before.before.word-at2.ensures, type-byte s.args.n s.args.table.now k.accepted c.before.before.before.word_at.result k.node)
+    let k = son_place s.requires.1.0 s.requires.1.1 c.before.before.before.before.before.loop.q _ (omega arith) c.before.before.before.word_at.ensures in
+    omega (arith, c.before.before.word-at2.ensures, type_byte s.args.n s.args.table.now k.accepted c.before.before.before.word_at.result k.node)
 
 paint-fork-fill-leaf-requires : (t : ℕ) → paint-fork-lts.Need-fill-leaf-requires (calls t) (paint-fork-at t) paint-fork.Post paint-fork-Inv-loop paint-fork-μ-loop
 paint-fork-fill-leaf-requires t c κs =
     let s = c.before.before.before.before.before.before.before.before.before in
-    (s.requires.1.0.place.accepted.sized.level, on-son s.requires.1.0.block (fork-above s.requires.1.0.place s.requires.1.1) _ _ (omega arith) (omega arith), c.before.before.before.before.before.loop.invariant.1.size ∙ s.requires.1.0.whole)
+    (s.requires.1.0.place.accepted.sized.level, on_son s.requires.1.0.block (fork_above s.requires.1.0.place s.requires.1.1) _ _ (omega arith) (omega arith), c.before.before.before.before.before.loop.invariant.1.size ∙ s.requires.1.0.whole)
 
 paint-fork-loop-less-2 : (t : ℕ) → paint-fork-lts.Need-loop-smaller-2 (calls t) (paint-fork-at t) paint-fork.Post paint-fork-Inv-loop paint-fork-μ-loop
 paint-fork-loop-less-2 t c = omega arith
@@ -131,8 +131,8 @@ paint-fork-loop-again-2 t c =
     let s = c.before.before.before.before.before.before.before.before.before.before.before.before in
     let l = c.before.before.before.before.before.before.before.before in
     let m = c.before.before.before.before.before.before in
-    let w = painted-leaf s.args.table.now (s.args.level - 1) m.word_at.result _ _ _ _ l.loop.raster _ c.before.before.before.before.before.word-at2.ensures c.before.before.before.before.if2.false c.before.before.fill-leaf.ensures in
-    (omega arith, quarter-painted _ _ _ _ _ _ (fork-above s.requires.1.0.place s.requires.1.1) l.loop.q _ _ l.loop.raster _ s.requires.1.1 (omega arith) m.word_at.ensures l.loop.invariant.1 w)
+    let w = painted_leaf s.args.table.now (s.args.level - 1) m.word_at.result _ _ _ _ l.loop.raster _ c.before.before.before.before.before.word-at2.ensures c.before.before.before.before.if2.false c.before.before.fill-leaf.ensures in
+    (omega arith, quarter_painted _ _ _ _ _ _ (fork_above s.requires.1.0.place s.requires.1.1) l.loop.q _ _ l.loop.raster _ s.requires.1.1 (omega arith) m.word_at.ensures l.loop.invariant.1 w)
 
 paint-fork-same-length-2 : (t : ℕ) → paint-fork-lts.Need-same-length-2 (calls t) (paint-fork-at t) paint-fork.Post paint-fork-Inv-loop paint-fork-μ-loop
 paint-fork-same-length-2 t c = c.before.loop.invariant.1.size
@@ -140,7 +140,7 @@ paint-fork-same-length-2 t c = c.before.loop.invariant.1.size
 paint-fork-returns-2 : (t : ℕ) → paint-fork-lts.Need-returns-2 (calls t) (paint-fork-at t) paint-fork.Post paint-fork-Inv-loop paint-fork-μ-loop
 paint-fork-returns-2 t c =
     let s = c.before.before.before.before.before in
-    fork-painted _ _ _ _ _ _ (fork-above s.requires.1.0.place s.requires.1.1) c.before.loop.q _ c.before.loop.raster (omega arith) c.before.loop.invariant.1
+    fork_painted _ _ _ _ _ _ (fork_above s.requires.1.0.place s.requires.1.1) c.before.loop.q _ c.before.loop.raster (omega arith) c.before.loop.invariant.1
 
 pub +paint-fork-spec : {M : Type 1} → statement M
 +paint-fork-spec = close μ-paint-fork λ t. paint-fork-lts.spec (calls t)

@@ -1,8 +1,8 @@
 -- `raster_decode::paint_pixel`: a node at level 0 is no fork. Assumes nothing.
 use native.Mathlib.Omega.{arith}
-use Rattle.table.proofs.AcceptedLaws.{type-byte, fork-above}
-use Rattle.table.proofs.TypeLaws.{told-fork}
-use Rattle.raster_fill.proofs.PaintingLaws.{painted-leaf}
+use Rattle.table.proofs.AcceptedLaws.{type_byte, fork_above}
+use Rattle.table.proofs.TypeLaws.{told_fork}
+use Rattle.raster_fill.proofs.PaintingLaws.{painted_leaf}
 use borrow.Author.Rules.{rules}
 use Rattle.raster_decode.proofs.paint_pixel.Statement.{statement}
 use Rattle.raster_decode.proofs.paint_pixel.Tie as tie
@@ -13,7 +13,7 @@ word-at-requires c κs = search rules
 cast-fill-pixel : tie.Need-overflow-cast-fill-pixel
 cast-fill-pixel c =
     let s = c.before.before.before.before in
-    omega (arith, c.before.word_at.ensures, type-byte s.args.n s.args.table.now s.requires.place.accepted s.args.p s.requires.place.node)
+    omega (arith, c.before.word_at.ensures, type_byte s.args.n s.args.table.now s.requires.place.accepted s.args.p s.requires.place.node)
 
 fill-pixel-requires : tie.Need-fill-pixel-requires
 fill-pixel-requires c κs = search rules
@@ -24,8 +24,8 @@ same_length c = search rules
 returns : tie.Need-returns
 returns c =
     let s = c.before.before.before.before.before.before.before in
-    painted-leaf s.args.table.now _ s.args.p _ _ _ _ _ _ c.before.before.before.before.word_at.ensures
-    (λ e. absurd (omega (arith, fork-above s.requires.place (told-fork s.args.table.now s.args.p _ c.before.before.before.before.word_at.ensures e)))) c.before.before.fill-pixel.ensures
+    painted_leaf s.args.table.now _ s.args.p _ _ _ _ _ _ c.before.before.before.before.word_at.ensures
+    (λ e. absurd (omega (arith, fork_above s.requires.place (told_fork s.args.table.now s.args.p _ c.before.before.before.before.word_at.ensures e)))) c.before.before.fill-pixel.ensures
 
 pub paint-pixel-spec : {M : Type 1} → statement M
 paint-pixel-spec =

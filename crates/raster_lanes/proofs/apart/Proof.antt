@@ -1,6 +1,6 @@
 -- `raster_lanes::apart`: lane by lane. Assumes nothing.
 use mathlib.Core.Path.{refl}
-use Rattle.raster_lanes.specs.Lanes.{lastBits}
+use Rattle.raster_lanes.specs.Lanes.{last_bits}
 use borrow.Author.Rules.{rules}
 use Rattle.raster_lanes.proofs.apart.Statement.{statement}
 use Rattle.raster_lanes.proofs.apart.Tie as tie
@@ -24,7 +24,7 @@ add-result-3 : tie.Need-overflow-add-result-3
 add-result-3 c = search rules
 
 returns : tie.Need-returns
-returns c = unfold lastBits in refl
+returns c = unfold last_bits in refl
 
 pub apart-spec : {M : Type 1} → statement M
 apart-spec =

@@ -1,6 +1,6 @@
 -- `raster_lanes::eight_at`: its two halves. Assumes nothing.
 use native.Mathlib.Omega.{arith}
-use Rattle.raster_lanes.specs.Lanes.{eightFrom}
+use Rattle.raster_lanes.specs.Lanes.{eight_from}
 use borrow.Author.Rules.{rules}
 use Rattle.raster_lanes.proofs.eight_at.Statement.{statement}
 use Rattle.raster_lanes.proofs.eight_at.Tie as tie
@@ -21,7 +21,7 @@ add-result : tie.Need-overflow-add-result
 add-result c = search rules
 
 returns : tie.Need-returns
-returns c = (unfold eightFrom in omega (arith, c.before.four-at.ensures.0, c.four-at2.ensures.0), omega (arith, c.before.four-at.ensures.1, c.four-at2.ensures.1))
+returns c = (unfold eight_from in omega (arith, c.before.four_at_lem.ensures.0, c.four-at2.ensures.0), omega (arith, c.before.four_at_lem.ensures.1, c.four-at2.ensures.1))
 
 pub eight-at-spec : {M : Type 1} → statement M
 eight-at-spec =

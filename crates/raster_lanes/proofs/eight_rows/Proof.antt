@@ -1,6 +1,6 @@
 -- `raster_lanes::eight_rows`: its two halves. Assumes nothing.
 use native.Mathlib.Omega.{arith}
-use Rattle.raster_lanes.specs.Lanes.{eightRows}
+use Rattle.raster_lanes.specs.Lanes.{eight_rows}
 use borrow.Author.Rules.{rules}
 use Rattle.raster_lanes.proofs.eight_rows.Statement.{statement}
 use Rattle.raster_lanes.proofs.eight_rows.Tie as tie
@@ -21,7 +21,7 @@ add-result : tie.Need-overflow-add-result
 add-result c = search rules
 
 returns : tie.Need-returns
-returns c = (unfold eightRows in omega (arith, c.before.four-rows.ensures.0, c.four-rows2.ensures.0), omega (arith, c.before.four-rows.ensures.1, c.four-rows2.ensures.1))
+returns c = (unfold eight_rows in omega (arith, c.before.four-rows.ensures.0, c.four-rows2.ensures.0), omega (arith, c.before.four-rows.ensures.1, c.four-rows2.ensures.1))
 
 pub eight-rows-spec : {M : Type 1} → statement M
 eight-rows-spec =

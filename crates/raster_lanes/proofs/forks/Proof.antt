@@ -1,6 +1,6 @@
 -- `raster_lanes::forks`: the small ones by their lanes, the large ones by two sums. Assumes nothing.
 use native.Mathlib.Omega.{arith}
-use Rattle.raster_lanes.proofs.LaneLaws.{forks-sum}
+use Rattle.raster_lanes.proofs.LaneLaws.{forks_sum}
 use borrow.Author.Rules.{rules}
 use Rattle.raster_lanes.proofs.forks.Statement.{statement}
 use Rattle.raster_lanes.proofs.forks.Tie as tie
@@ -30,7 +30,7 @@ add-result : tie.Need-overflow-add-result
 add-result c = search rules
 
 returns : tie.Need-returns
-returns c = (forks-sum _ _ _ _ _ _ c.before.before.before.mixed-lanes.ensures.0 c.before.before.mixed-lanes2.ensures.0 c.before.lane-sum.ensures.0 c.Mixed-two.ensures.0, omega (arith, c.before.lane-sum.ensures.1, c.Mixed-two.ensures.1))
+returns c = (forks_sum _ _ _ _ _ _ c.before.before.before.mixed-lanes.ensures.0 c.before.before.mixed-lanes2.ensures.0 c.before.lane-sum.ensures.0 c.Mixed-two.ensures.0, omega (arith, c.before.lane-sum.ensures.1, c.Mixed-two.ensures.1))
 
 pub forks-spec : {M : Type 1} → statement M
 forks-spec =

@@ -1,6 +1,6 @@
 -- `raster_lanes::four_at`: its two halves. Assumes nothing.
 use native.Mathlib.Omega.{arith}
-use Rattle.raster_lanes.specs.Lanes.{fourFrom}
+use Rattle.raster_lanes.specs.Lanes.{four_from}
 use borrow.Author.Rules.{rules}
 use Rattle.raster_lanes.proofs.four_at.Statement.{statement}
 use Rattle.raster_lanes.proofs.four_at.Tie as tie
@@ -21,7 +21,7 @@ add-result : tie.Need-overflow-add-result
 add-result c = search rules
 
 returns : tie.Need-returns
-returns c = (unfold fourFrom in omega (arith, c.before.two_at.ensures.0, c.two-at2.ensures.0), omega (arith, c.before.two_at.ensures.1, c.two-at2.ensures.1))
+returns c = (unfold four_from in omega (arith, c.before.two_at.ensures.0, c.two-at2.ensures.0), omega (arith, c.before.two_at.ensures.1, c.two-at2.ensures.1))
 
 pub four-at-spec : {M : Type 1} → statement M
 four-at-spec =

@@ -1,6 +1,6 @@
 -- `raster_lanes::four_rows`: its two halves. Assumes nothing.
 use native.Mathlib.Omega.{arith}
-use Rattle.raster_lanes.specs.Lanes.{fourRows}
+use Rattle.raster_lanes.specs.Lanes.{four_rows}
 use borrow.Author.Rules.{rules}
 use Rattle.raster_lanes.proofs.four_rows.Statement.{statement}
 use Rattle.raster_lanes.proofs.four_rows.Tie as tie
@@ -21,7 +21,7 @@ add-result : tie.Need-overflow-add-result
 add-result c = search rules
 
 returns : tie.Need-returns
-returns c = (unfold fourRows in omega (arith, c.before.two-rows.ensures.0, c.two-rows2.ensures.0), omega (arith, c.before.two-rows.ensures.1, c.two-rows2.ensures.1))
+returns c = (unfold four_rows in omega (arith, c.before.two-rows.ensures.0, c.two-rows2.ensures.0), omega (arith, c.before.two-rows.ensures.1, c.two-rows2.ensures.1))
 
 pub four-rows-spec : {M : Type 1} → statement M
 four-rows-spec =

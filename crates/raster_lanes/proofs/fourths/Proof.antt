@@ -1,6 +1,6 @@
 -- `raster_lanes::fourths`: lane by lane. Assumes nothing.
 use mathlib.Core.Path.{refl}
-use Rattle.raster_lanes.specs.Lanes.{fourthsOf}
+use Rattle.raster_lanes.specs.Lanes.{fourths_of}
 use borrow.Author.Rules.{rules}
 use Rattle.raster_lanes.proofs.fourths.Statement.{statement}
 use Rattle.raster_lanes.proofs.fourths.Tie as tie
@@ -24,7 +24,7 @@ add-result-3 : tie.Need-overflow-add-result-3
 add-result-3 c = search rules
 
 returns : tie.Need-returns
-returns c = unfold fourthsOf in refl
+returns c = unfold fourths_of in refl
 
 pub fourths-spec : {M : Type 1} → statement M
 fourths-spec =

@@ -1,6 +1,6 @@
 -- `raster_lanes::mixed_lanes`: the raised lanes less those as they are. Assumes nothing.
-use Rattle.raster_lanes.specs.Lanes.{mixedLanes}
-use Rattle.raster_lanes.proofs.LaneLaws.{fourths-rise, mixed-lanes-few}
+use Rattle.raster_lanes.specs.Lanes.{mixed_lanes}
+use Rattle.raster_lanes.proofs.LaneLaws.{fourths_rise, mixed_lanes_few}
 use borrow.Author.Rules.{rules}
 use Rattle.raster_lanes.proofs.mixed_lanes.Statement.{statement}
 use Rattle.raster_lanes.proofs.mixed_lanes.Tie as tie
@@ -15,11 +15,11 @@ fourths-requires-2 : tie.Need-fourths-requires-2
 fourths-requires-2 c κs = search rules
 
 sub-result : tie.Need-overflow-sub-result
-sub-result c = rw (c.before.fourths.ensures, c.fourths2.ensures) (fourths-rise _ c.before.before.requires)
+sub-result c = rw (c.before.fourths.ensures, c.fourths2.ensures) (fourths_rise _ c.before.before.requires)
 
 returns : tie.Need-returns
-unfolding mixedLanes
-returns c = (rw (c.before.fourths.ensures, c.fourths2.ensures), rw (c.before.fourths.ensures, c.fourths2.ensures) (mixed-lanes-few _ c.before.before.requires))
+unfolding mixed_lanes
+returns c = (rw (c.before.fourths.ensures, c.fourths2.ensures), rw (c.before.fourths.ensures, c.fourths2.ensures) (mixed_lanes_few _ c.before.before.requires))
 
 pub mixed-lanes-spec : {M : Type 1} → statement M
 mixed-lanes-spec =

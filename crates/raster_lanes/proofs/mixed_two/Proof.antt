@@ -1,7 +1,7 @@
 -- `raster_lanes::mixed_two`: a lane each. Assumes nothing.
 use mathlib.Core.Path.{refl}
 use native.Mathlib.Omega.{arith}
-use Rattle.raster_lanes.specs.Lanes.{mixedTwo}
+use Rattle.raster_lanes.specs.Lanes.{mixed_two}
 use borrow.Author.Rules.{rules}
 use Rattle.raster_lanes.proofs.mixed_two.Statement.{statement}
 use Rattle.raster_lanes.proofs.mixed_two.Tie as tie
@@ -22,7 +22,7 @@ sub-result : tie.Need-overflow-sub-result
 sub-result c = search rules
 
 returns : tie.Need-returns
-returns c = (unfold mixedTwo in refl, omega arith)
+returns c = (unfold mixed_two in refl, omega arith)
 
 pub mixed-two-spec : {M : Type 1} → statement M
 mixed-two-spec =

@@ -1,5 +1,5 @@
 -- `raster_lanes::nodes`: one, four sons, and four for each fork below them. Assumes nothing.
-use Rattle.raster_lanes.proofs.WindowLaws.{nodes-are}
+use Rattle.raster_lanes.proofs.WindowLaws.{nodes_are}
 use borrow.Author.Rules.{rules}
 use Rattle.raster_lanes.proofs.nodes.Statement.{statement}
 use Rattle.raster_lanes.proofs.nodes.Tie as tie
@@ -29,7 +29,7 @@ cast-result : tie.Need-overflow-cast-result
 cast-result c = search rules
 
 returns : tie.Need-returns
-returns c = nodes-are _ _ _ c.before.before.before.requires.1 c.before.before.before.requires.2 _ _ c.before.half-forks.ensures.0 c.half-forks2.ensures.0
+returns c = nodes_are _ _ _ c.before.before.before.requires.1 c.before.before.before.requires.2 _ _ c.before.half-forks.ensures.0 c.half-forks2.ensures.0
 
 pub nodes-spec : {M : Type 1} → statement M
 nodes-spec =

@@ -1,6 +1,6 @@
 -- `raster_lanes::two_at`: its two halves. Assumes nothing.
 use native.Mathlib.Omega.{arith}
-use Rattle.raster_lanes.specs.Lanes.{twoFrom}
+use Rattle.raster_lanes.specs.Lanes.{two_from}
 use borrow.Author.Rules.{rules}
 use Rattle.raster_lanes.proofs.two_at.Statement.{statement}
 use Rattle.raster_lanes.proofs.two_at.Tie as tie
@@ -21,7 +21,7 @@ add-result : tie.Need-overflow-add-result
 add-result c = search rules
 
 returns : tie.Need-returns
-returns c = (unfold twoFrom in omega (arith, c.before.byte_at.ensures.0, c.byte-at2.ensures.0), omega (arith, c.before.byte_at.ensures.1, c.byte-at2.ensures.1))
+returns c = (unfold two_from in omega (arith, c.before.byte_at.ensures.0, c.byte-at2.ensures.0), omega (arith, c.before.byte_at.ensures.1, c.byte-at2.ensures.1))
 
 pub two-at-spec : {M : Type 1} → statement M
 two-at-spec =

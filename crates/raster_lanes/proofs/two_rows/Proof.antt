@@ -1,6 +1,6 @@
 -- `raster_lanes::two_rows`: its two halves. Assumes nothing.
 use native.Mathlib.Omega.{arith}
-use Rattle.raster_lanes.specs.Lanes.{twoRows}
+use Rattle.raster_lanes.specs.Lanes.{two_rows}
 use borrow.Author.Rules.{rules}
 use Rattle.raster_lanes.proofs.two_rows.Statement.{statement}
 use Rattle.raster_lanes.proofs.two_rows.Tie as tie
@@ -18,7 +18,7 @@ add-result : tie.Need-overflow-add-result
 add-result c = search rules
 
 returns : tie.Need-returns
-returns c = (unfold twoRows in omega (arith, c.before.eight-at.ensures.0, c.eight-at2.ensures.0), omega (arith, c.before.eight-at.ensures.1, c.eight-at2.ensures.1))
+returns c = (unfold two_rows in omega (arith, c.before.eight-at.ensures.0, c.eight-at2.ensures.0), omega (arith, c.before.eight-at.ensures.1, c.eight-at2.ensures.1))
 
 pub two-rows-spec : {M : Type 1} → statement M
 two-rows-spec =

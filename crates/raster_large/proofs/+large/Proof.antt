@@ -3,9 +3,9 @@ use mathlib.Core.Path.{refl, sym, ◌∙◌}
 use native.Mathlib.Nat.{pow-le-pow_right}
 use native.Mathlib.Omega.{arith}
 use borrow.Author.Rules.{rules}
-use Rattle.quad.specs.Numbers.{topLevel}
+use Rattle.quad.specs.Numbers.{top_level}
 use Rattle.raster_notes.specs.Notes.{Parts}
-use Rattle.raster_notes.proofs.NoteLaws.{slots-some, slots-four, slots-part, four-slots, times_below, place-few, part-called, part-tallied, parts_none, parts_next, parts-fit, parts_all, parts-joined, parts-many, parts-fork, parts-leaf}
+use Rattle.raster_notes.proofs.NoteLaws.{slots_some, slots_four, slots_part, four_slots, times_below, place_few, part_called, part_tallied, parts_none, parts_next, parts_fit, parts_all, parts_joined, parts_many, parts_fork, parts_leaf}
 use Prim.Native.Nat.{ℕ, ◌-◌, ◌/◌, ◌<◌}
 use borrow.Fn.Kinds.{In}
 use borrow.Fn.PlainCycle.{Measures, is, falls, and}
@@ -55,17 +55,17 @@ large-loop-holds t c = parts_none _ _ _ _ _ _
 large-part-at-requires : (t : ℕ) → large-lts.Need-part-at-requires (calls t) (large-at t) large.Post large-Inv-loop large-μ-loop
 large-part-at-requires t c κs =
     let s = c.before.before.before.before in
-    (omega arith, place-few _ _ _ _ s.requires.1.0 (omega (arith, s.requires.1.1)), rw c.before.before.side.ensures (pow-le-pow_right {n = 2} (omega arith) {i = s.args.level - 1} {j = topLevel} (omega (arith, s.requires.1.2))), s.requires.1.0.wide)
+    (omega arith, place_few _ _ _ _ s.requires.1.0 (omega (arith, s.requires.1.1)), rw c.before.before.side.ensures (pow-le-pow_right {n = 2} (omega arith) {i = s.args.level - 1} {j = top_level} (omega (arith, s.requires.1.2))), s.requires.1.0.wide)
 
 large-mul-its : (t : ℕ) → large-lts.Need-overflow-mul-its (calls t) (large-at t) large.Post large-Inv-loop large-μ-loop
 large-mul-its t c =
     let s = c.before.before.before.before.before in
-    omega (arith, slots-four _ _ (omega (arith, s.requires.1.1)) s.requires.1.3, s.requires.1.4, times_below c.before.before.loop.q 4 (s.args.slots / 4) (omega arith))
+    omega (arith, slots_four _ _ (omega (arith, s.requires.1.1)) s.requires.1.3, s.requires.1.4, times_below c.before.before.loop.q 4 (s.args.slots / 4) (omega arith))
 
 large-add-its : (t : ℕ) → large-lts.Need-overflow-add-its (calls t) (large-at t) large.Post large-Inv-loop large-μ-loop
 large-add-its t c =
     let s = c.before.before.before.before.before in
-    omega (arith, slots-four _ _ (omega (arith, s.requires.1.1)) s.requires.1.3, s.requires.1.4, times_below c.before.before.loop.q 4 (s.args.slots / 4) (omega arith))
+    omega (arith, slots_four _ _ (omega (arith, s.requires.1.1)) s.requires.1.3, s.requires.1.4, times_below c.before.before.loop.q 4 (s.args.slots / 4) (omega arith))
 
 large-add-q : (t : ℕ) → large-lts.Need-overflow-add-q (calls t) (large-at t) large.Post large-Inv-loop large-μ-loop
 large-add-q t c = omega arith
@@ -75,14 +75,14 @@ large-sixteen-requires t c κs =
     let s = c.before.before.before.before.before.before.before in
     let l = c.before.before.before.before.before in
     let m = c.before.before.before.before in
-    (rw c.before.if1.true at (part-called s.args.raster.now s.args.across s.args.at s.args.level s.args.slot m.loop.q l.side.result c.before.before.part_at.result s.args.slots s.requires.1.1 (omega arith) l.side.ensures c.before.before.part_at.ensures s.requires.1.3 s.requires.1.0 s.requires.1.4).0, four-slots _ _ _ c.before.if1.true (slots-part _ _ (omega (arith, s.requires.1.1)) s.requires.1.3) (part-called s.args.raster.now s.args.across s.args.at s.args.level s.args.slot m.loop.q l.side.result c.before.before.part_at.result s.args.slots s.requires.1.1 (omega arith) l.side.ensures c.before.before.part_at.ensures s.requires.1.3 s.requires.1.0 s.requires.1.4).1, (m.loop.invariant.long ∙ s.requires.1.5))
+    (rw c.before.if1.true at (part_called s.args.raster.now s.args.across s.args.at s.args.level s.args.slot m.loop.q l.side.result c.before.before.part_at.result s.args.slots s.requires.1.1 (omega arith) l.side.ensures c.before.before.part_at.ensures s.requires.1.3 s.requires.1.0 s.requires.1.4).0, four_slots _ _ _ c.before.if1.true (slots_part _ _ (omega (arith, s.requires.1.1)) s.requires.1.3) (part_called s.args.raster.now s.args.across s.args.at s.args.level s.args.slot m.loop.q l.side.result c.before.before.part_at.result s.args.slots s.requires.1.1 (omega arith) l.side.ensures c.before.before.part_at.ensures s.requires.1.3 s.requires.1.0 s.requires.1.4).1, (m.loop.invariant.long ∙ s.requires.1.5))
 
 large-add-nodes : (t : ℕ) → large-lts.Need-overflow-add-nodes (calls t) (large-at t) large.Post large-Inv-loop large-μ-loop
 large-add-nodes t c =
     let s = c.before.before.before.before.before.before.before.before in
     let l = c.before.before.before.before.before.before in
     let m = c.before.before.before.before.before in
-    omega (arith, parts-fit s.args.raster.now s.args.across s.args.at s.args.level s.args.slot (omega (arith, s.requires.1.1)) _ _ _ _ _ _ m.loop.invariant (omega arith) s.requires.1.2 (part-tallied s.args.raster.now s.args.across s.args.at s.args.level s.args.slot m.loop.q l.side.result c.before.before.before.part_at.result s.args.slots s.requires.1.1 (omega arith) l.side.ensures c.before.before.before.part_at.ensures s.requires.1.3 _ _ _ _ c.before.before.if1.true c.sixteen.ensures))
+    omega (arith, parts_fit s.args.raster.now s.args.across s.args.at s.args.level s.args.slot (omega (arith, s.requires.1.1)) _ _ _ _ _ _ m.loop.invariant (omega arith) s.requires.1.2 (part_tallied s.args.raster.now s.args.across s.args.at s.args.level s.args.slot m.loop.q l.side.result c.before.before.before.part_at.result s.args.slots s.requires.1.1 (omega arith) l.side.ensures c.before.before.before.part_at.ensures s.requires.1.3 _ _ _ _ c.before.before.if1.true c.sixteen.ensures))
 
 large-loop-less : (t : ℕ) → large-lts.Need-loop-smaller (calls t) (large-at t) large.Post large-Inv-loop large-μ-loop
 large-loop-less t c = omega arith
@@ -92,21 +92,21 @@ large-loop-again t c =
     let s = c.before.before.before.before.before.before.before.before in
     let l = c.before.before.before.before.before.before in
     let m = c.before.before.before.before.before in
-    parts_next s.args.raster.now s.args.across s.args.at s.args.level s.args.slot (omega (arith, s.requires.1.1)) _ _ _ _ _ _ m.loop.invariant (omega arith) (part-tallied s.args.raster.now s.args.across s.args.at s.args.level s.args.slot m.loop.q l.side.result c.before.before.before.part_at.result s.args.slots s.requires.1.1 (omega arith) l.side.ensures c.before.before.before.part_at.ensures s.requires.1.3 _ _ _ _ c.before.before.if1.true c.sixteen.ensures)
+    parts_next s.args.raster.now s.args.across s.args.at s.args.level s.args.slot (omega (arith, s.requires.1.1)) _ _ _ _ _ _ m.loop.invariant (omega arith) (part_tallied s.args.raster.now s.args.across s.args.at s.args.level s.args.slot m.loop.q l.side.result c.before.before.before.part_at.result s.args.slots s.requires.1.1 (omega arith) l.side.ensures c.before.before.before.part_at.ensures s.requires.1.3 _ _ _ _ c.before.before.if1.true c.sixteen.ensures)
 
 large-large-requires : (t : ℕ) → large-lts.Need-large-requires (calls t) (large-at t) large.Post large-Inv-loop large-μ-loop
 large-large-requires t c κs =
     let s = c.before.before.before.before.before.before.before in
     let l = c.before.before.before.before.before in
     let m = c.before.before.before.before in
-    (omega (arith, s.requires.0, s.requires.1.1), ((part-called s.args.raster.now s.args.across s.args.at s.args.level s.args.slot m.loop.q l.side.result c.before.before.part_at.result s.args.slots s.requires.1.1 (omega arith) l.side.ensures c.before.before.part_at.ensures s.requires.1.3 s.requires.1.0 s.requires.1.4).0, omega (arith, s.requires.1.1, c.before.if1.false), omega (arith, s.requires.1.2), slots-part _ _ (omega (arith, s.requires.1.1)) s.requires.1.3, (part-called s.args.raster.now s.args.across s.args.at s.args.level s.args.slot m.loop.q l.side.result c.before.before.part_at.result s.args.slots s.requires.1.1 (omega arith) l.side.ensures c.before.before.part_at.ensures s.requires.1.3 s.requires.1.0 s.requires.1.4).1, (m.loop.invariant.long ∙ s.requires.1.5)))
+    (omega (arith, s.requires.0, s.requires.1.1), ((part_called s.args.raster.now s.args.across s.args.at s.args.level s.args.slot m.loop.q l.side.result c.before.before.part_at.result s.args.slots s.requires.1.1 (omega arith) l.side.ensures c.before.before.part_at.ensures s.requires.1.3 s.requires.1.0 s.requires.1.4).0, omega (arith, s.requires.1.1, c.before.if1.false), omega (arith, s.requires.1.2), slots_part _ _ (omega (arith, s.requires.1.1)) s.requires.1.3, (part_called s.args.raster.now s.args.across s.args.at s.args.level s.args.slot m.loop.q l.side.result c.before.before.part_at.result s.args.slots s.requires.1.1 (omega arith) l.side.ensures c.before.before.part_at.ensures s.requires.1.3 s.requires.1.0 s.requires.1.4).1, (m.loop.invariant.long ∙ s.requires.1.5)))
 
 large-add-nodes-2 : (t : ℕ) → large-lts.Need-overflow-add-nodes-2 (calls t) (large-at t) large.Post large-Inv-loop large-μ-loop
 large-add-nodes-2 t c =
     let s = c.before.before.before.before.before.before.before.before in
     let l = c.before.before.before.before.before.before in
     let m = c.before.before.before.before.before in
-    omega (arith, parts-fit s.args.raster.now s.args.across s.args.at s.args.level s.args.slot (omega (arith, s.requires.1.1)) _ _ _ _ _ _ m.loop.invariant (omega arith) s.requires.1.2 (part-tallied s.args.raster.now s.args.across s.args.at s.args.level s.args.slot m.loop.q l.side.result c.before.before.before.part_at.result s.args.slots s.requires.1.1 (omega arith) l.side.ensures c.before.before.before.part_at.ensures s.requires.1.3 _ _ _ _ (refl) c.large.ensures))
+    omega (arith, parts_fit s.args.raster.now s.args.across s.args.at s.args.level s.args.slot (omega (arith, s.requires.1.1)) _ _ _ _ _ _ m.loop.invariant (omega arith) s.requires.1.2 (part_tallied s.args.raster.now s.args.across s.args.at s.args.level s.args.slot m.loop.q l.side.result c.before.before.before.part_at.result s.args.slots s.requires.1.1 (omega arith) l.side.ensures c.before.before.before.part_at.ensures s.requires.1.3 _ _ _ _ (refl) c.large.ensures))
 
 large-loop-less-2 : (t : ℕ) → large-lts.Need-loop-smaller-2 (calls t) (large-at t) large.Post large-Inv-loop large-μ-loop
 large-loop-less-2 t c = omega arith
@@ -116,7 +116,7 @@ large-loop-again-2 t c =
     let s = c.before.before.before.before.before.before.before.before in
     let l = c.before.before.before.before.before.before in
     let m = c.before.before.before.before.before in
-    parts_next s.args.raster.now s.args.across s.args.at s.args.level s.args.slot (omega (arith, s.requires.1.1)) _ _ _ _ _ _ m.loop.invariant (omega arith) (part-tallied s.args.raster.now s.args.across s.args.at s.args.level s.args.slot m.loop.q l.side.result c.before.before.before.part_at.result s.args.slots s.requires.1.1 (omega arith) l.side.ensures c.before.before.before.part_at.ensures s.requires.1.3 _ _ _ _ (refl) c.large.ensures)
+    parts_next s.args.raster.now s.args.across s.args.at s.args.level s.args.slot (omega (arith, s.requires.1.1)) _ _ _ _ _ _ m.loop.invariant (omega arith) (part_tallied s.args.raster.now s.args.across s.args.at s.args.level s.args.slot m.loop.q l.side.result c.before.before.before.part_at.result s.args.slots s.requires.1.1 (omega arith) l.side.ensures c.before.before.before.part_at.ensures s.requires.1.3 _ _ _ _ (refl) c.large.ensures)
 
 large-cast-kinds : (t : ℕ) → large-lts.Need-overflow-cast-kinds (calls t) (large-at t) large.Post large-Inv-loop large-μ-loop
 large-cast-kinds t c = omega arith
@@ -124,82 +124,82 @@ large-cast-kinds t c = omega arith
 large-mul-kinds : (t : ℕ) → large-lts.Need-overflow-mul-kinds (calls t) (large-at t) large.Post large-Inv-loop large-μ-loop
 large-mul-kinds t c =
     let s = c.before.before.before.before.before in
-    omega (arith, slots-four _ _ (omega (arith, s.requires.1.1)) s.requires.1.3, s.requires.1.4)
+    omega (arith, slots_four _ _ (omega (arith, s.requires.1.1)) s.requires.1.3, s.requires.1.4)
 
 large-element-write-kinds : (t : ℕ) → large-lts.Need-element-write-kinds (calls t) (large-at t) large.Post large-Inv-loop large-μ-loop
 large-element-write-kinds t c =
     let s = c.before.before.before.before.before in
-    omega (arith, slots-four _ _ (omega (arith, s.requires.1.1)) s.requires.1.3, s.requires.1.4)
+    omega (arith, slots_four _ _ (omega (arith, s.requires.1.1)) s.requires.1.3, s.requires.1.4)
 
 large-returns : (t : ℕ) → large-lts.Need-returns (calls t) (large-at t) large.Post large-Inv-loop large-μ-loop
 large-returns t c =
     let s = c.before.before.before.before.before in
-    parts-fork s.args.raster.now s.args.across s.args.at s.args.level s.args.slot (omega (arith, s.requires.1.1)) _ s.requires.1.0.colours _ _ (parts_all _ _ _ _ _ _ _ _ _ c.before.before.loop.invariant (omega arith)) (omega (arith, (c.before.before.loop.invariant.long ∙ s.requires.1.5), s.requires.1.3, s.requires.1.4, slots-four _ _ (omega (arith, s.requires.1.1)) s.requires.1.3)) _ refl (parts-many s.args.raster.now s.args.across s.args.at s.args.level s.args.slot (omega (arith, s.requires.1.1)) _ s.requires.1.0.colours _ _ (parts_all _ _ _ _ _ _ _ _ _ c.before.before.loop.invariant (omega arith)) (omega (arith, (c.before.before.loop.invariant.long ∙ s.requires.1.5), s.requires.1.3, s.requires.1.4, slots-four _ _ (omega (arith, s.requires.1.1)) s.requires.1.3)) c.if2.true)
+    parts_fork s.args.raster.now s.args.across s.args.at s.args.level s.args.slot (omega (arith, s.requires.1.1)) _ s.requires.1.0.colours _ _ (parts_all _ _ _ _ _ _ _ _ _ c.before.before.loop.invariant (omega arith)) (omega (arith, (c.before.before.loop.invariant.long ∙ s.requires.1.5), s.requires.1.3, s.requires.1.4, slots_four _ _ (omega (arith, s.requires.1.1)) s.requires.1.3)) _ refl (parts_many s.args.raster.now s.args.across s.args.at s.args.level s.args.slot (omega (arith, s.requires.1.1)) _ s.requires.1.0.colours _ _ (parts_all _ _ _ _ _ _ _ _ _ c.before.before.loop.invariant (omega arith)) (omega (arith, (c.before.before.loop.invariant.long ∙ s.requires.1.5), s.requires.1.3, s.requires.1.4, slots_four _ _ (omega (arith, s.requires.1.1)) s.requires.1.3)) c.if2.true)
 
 large-mul-joined : (t : ℕ) → large-lts.Need-overflow-mul-joined (calls t) (large-at t) large.Post large-Inv-loop large-μ-loop
 large-mul-joined t c =
     let s = c.before.before.before.before.before in
-    omega (arith, slots-four _ _ (omega (arith, s.requires.1.1)) s.requires.1.3, s.requires.1.4)
+    omega (arith, slots_four _ _ (omega (arith, s.requires.1.1)) s.requires.1.3, s.requires.1.4)
 
 large-element-copy-out-joined : (t : ℕ) → large-lts.Need-element-copy-out-joined (calls t) (large-at t) large.Post large-Inv-loop large-μ-loop
 large-element-copy-out-joined t c =
     let s = c.before.before.before.before.before in
-    omega (arith, slots-four _ _ (omega (arith, s.requires.1.1)) s.requires.1.3, slots-part _ _ (omega (arith, s.requires.1.1)) s.requires.1.3, slots-some (s.args.level - 1 - 3), s.requires.1.4)
+    omega (arith, slots_four _ _ (omega (arith, s.requires.1.1)) s.requires.1.3, slots_part _ _ (omega (arith, s.requires.1.1)) s.requires.1.3, slots_some (s.args.level - 1 - 3), s.requires.1.4)
 
 large-add-joined : (t : ℕ) → large-lts.Need-overflow-add-joined (calls t) (large-at t) large.Post large-Inv-loop large-μ-loop
 large-add-joined t c =
     let s = c.before.before.before.before.before.before in
-    omega (arith, slots-four _ _ (omega (arith, s.requires.1.1)) s.requires.1.3, s.requires.1.4)
+    omega (arith, slots_four _ _ (omega (arith, s.requires.1.1)) s.requires.1.3, s.requires.1.4)
 
 large-mul-joined-2 : (t : ℕ) → large-lts.Need-overflow-mul-joined-2 (calls t) (large-at t) large.Post large-Inv-loop large-μ-loop
 large-mul-joined-2 t c =
     let s = c.before.before.before.before.before.before in
-    omega (arith, slots-four _ _ (omega (arith, s.requires.1.1)) s.requires.1.3, s.requires.1.4)
+    omega (arith, slots_four _ _ (omega (arith, s.requires.1.1)) s.requires.1.3, s.requires.1.4)
 
 large-element-copy-out-joined-2 : (t : ℕ) → large-lts.Need-element-copy-out-joined-2 (calls t) (large-at t) large.Post large-Inv-loop large-μ-loop
 large-element-copy-out-joined-2 t c =
     let s = c.before.before.before.before.before.before in
-    omega (arith, slots-four _ _ (omega (arith, s.requires.1.1)) s.requires.1.3, slots-part _ _ (omega (arith, s.requires.1.1)) s.requires.1.3, slots-some (s.args.level - 1 - 3), s.requires.1.4)
+    omega (arith, slots_four _ _ (omega (arith, s.requires.1.1)) s.requires.1.3, slots_part _ _ (omega (arith, s.requires.1.1)) s.requires.1.3, slots_some (s.args.level - 1 - 3), s.requires.1.4)
 
 large-mul-joined-3 : (t : ℕ) → large-lts.Need-overflow-mul-joined-3 (calls t) (large-at t) large.Post large-Inv-loop large-μ-loop
 large-mul-joined-3 t c =
     let s = c.before.before.before.before.before.before.before in
-    omega (arith, slots-four _ _ (omega (arith, s.requires.1.1)) s.requires.1.3, s.requires.1.4)
+    omega (arith, slots_four _ _ (omega (arith, s.requires.1.1)) s.requires.1.3, s.requires.1.4)
 
 large-add-joined-2 : (t : ℕ) → large-lts.Need-overflow-add-joined-2 (calls t) (large-at t) large.Post large-Inv-loop large-μ-loop
 large-add-joined-2 t c =
     let s = c.before.before.before.before.before.before.before in
-    omega (arith, slots-four _ _ (omega (arith, s.requires.1.1)) s.requires.1.3, s.requires.1.4)
+    omega (arith, slots_four _ _ (omega (arith, s.requires.1.1)) s.requires.1.3, s.requires.1.4)
 
 large-mul-joined-4 : (t : ℕ) → large-lts.Need-overflow-mul-joined-4 (calls t) (large-at t) large.Post large-Inv-loop large-μ-loop
 large-mul-joined-4 t c =
     let s = c.before.before.before.before.before.before.before in
-    omega (arith, slots-four _ _ (omega (arith, s.requires.1.1)) s.requires.1.3, s.requires.1.4)
+    omega (arith, slots_four _ _ (omega (arith, s.requires.1.1)) s.requires.1.3, s.requires.1.4)
 
 large-element-copy-out-joined-3 : (t : ℕ) → large-lts.Need-element-copy-out-joined-3 (calls t) (large-at t) large.Post large-Inv-loop large-μ-loop
 large-element-copy-out-joined-3 t c =
     let s = c.before.before.before.before.before.before.before in
-    omega (arith, slots-four _ _ (omega (arith, s.requires.1.1)) s.requires.1.3, slots-part _ _ (omega (arith, s.requires.1.1)) s.requires.1.3, slots-some (s.args.level - 1 - 3), s.requires.1.4)
+    omega (arith, slots_four _ _ (omega (arith, s.requires.1.1)) s.requires.1.3, slots_part _ _ (omega (arith, s.requires.1.1)) s.requires.1.3, slots_some (s.args.level - 1 - 3), s.requires.1.4)
 
 large-mul-joined-5 : (t : ℕ) → large-lts.Need-overflow-mul-joined-5 (calls t) (large-at t) large.Post large-Inv-loop large-μ-loop
 large-mul-joined-5 t c =
     let s = c.before.before.before.before.before.before.before.before in
-    omega (arith, slots-four _ _ (omega (arith, s.requires.1.1)) s.requires.1.3, s.requires.1.4)
+    omega (arith, slots_four _ _ (omega (arith, s.requires.1.1)) s.requires.1.3, s.requires.1.4)
 
 large-add-joined-3 : (t : ℕ) → large-lts.Need-overflow-add-joined-3 (calls t) (large-at t) large.Post large-Inv-loop large-μ-loop
 large-add-joined-3 t c =
     let s = c.before.before.before.before.before.before.before.before in
-    omega (arith, slots-four _ _ (omega (arith, s.requires.1.1)) s.requires.1.3, s.requires.1.4)
+    omega (arith, slots_four _ _ (omega (arith, s.requires.1.1)) s.requires.1.3, s.requires.1.4)
 
 large-mul-joined-6 : (t : ℕ) → large-lts.Need-overflow-mul-joined-6 (calls t) (large-at t) large.Post large-Inv-loop large-μ-loop
 large-mul-joined-6 t c =
     let s = c.before.before.before.before.before.before.before.before in
-    omega (arith, slots-four _ _ (omega (arith, s.requires.1.1)) s.requires.1.3, s.requires.1.4)
+    omega (arith, slots_four _ _ (omega (arith, s.requires.1.1)) s.requires.1.3, s.requires.1.4)
 
 large-element-copy-out-joined-4 : (t : ℕ) → large-lts.Need-element-copy-out-joined-4 (calls t) (large-at t) large.Post large-Inv-loop large-μ-loop
 large-element-copy-out-joined-4 t c =
     let s = c.before.before.before.before.before.before.before.before in
-    omega (arith, slots-four _ _ (omega (arith, s.requires.1.1)) s.requires.1.3, slots-part _ _ (omega (arith, s.requires.1.1)) s.requires.1.3, slots-some (s.args.level - 1 - 3), s.requires.1.4)
+    omega (arith, slots_four _ _ (omega (arith, s.requires.1.1)) s.requires.1.3, slots_part _ _ (omega (arith, s.requires.1.1)) s.requires.1.3, slots_some (s.args.level - 1 - 3), s.requires.1.4)
 
 large-joined-requires : (t : ℕ) → large-lts.Need-joined-requires (calls t) (large-at t) large.Post large-Inv-loop large-μ-loop
 large-joined-requires t c κs = search rules
@@ -207,12 +207,12 @@ large-joined-requires t c κs = search rules
 large-mul-kinds-2 : (t : ℕ) → large-lts.Need-overflow-mul-kinds-2 (calls t) (large-at t) large.Post large-Inv-loop large-μ-loop
 large-mul-kinds-2 t c =
     let s = c.before.before.before.before.before.before.before.before.before.before in
-    omega (arith, slots-four _ _ (omega (arith, s.requires.1.1)) s.requires.1.3, s.requires.1.4)
+    omega (arith, slots_four _ _ (omega (arith, s.requires.1.1)) s.requires.1.3, s.requires.1.4)
 
 large-element-write-kinds-2 : (t : ℕ) → large-lts.Need-element-write-kinds-2 (calls t) (large-at t) large.Post large-Inv-loop large-μ-loop
 large-element-write-kinds-2 t c =
     let s = c.before.before.before.before.before.before.before.before.before.before in
-    omega (arith, slots-four _ _ (omega (arith, s.requires.1.1)) s.requires.1.3, s.requires.1.4)
+    omega (arith, slots_four _ _ (omega (arith, s.requires.1.1)) s.requires.1.3, s.requires.1.4)
 
 large-cast-if3 : (t : ℕ) → large-lts.Need-overflow-cast-if3 (calls t) (large-at t) large.Post large-Inv-loop large-μ-loop
 large-cast-if3 t c = omega arith
@@ -221,13 +221,13 @@ large-returns-2 : (t : ℕ) → large-lts.Need-returns-2 (calls t) (large-at t) 
 large-returns-2 t c =
     let s = c.before.before.before.before.before.before.before.before.before.before.before in
     let l = c.before.before.before.before.before.before.before.before in
-    parts-leaf s.args.raster.now s.args.across s.args.at s.args.level s.args.slot (omega (arith, s.requires.1.1)) _ s.requires.1.0.colours _ _ (parts_all _ _ _ _ _ _ _ _ _ l.loop.invariant (omega arith)) (omega (arith, (l.loop.invariant.long ∙ s.requires.1.5), s.requires.1.3, s.requires.1.4, slots-four _ _ (omega (arith, s.requires.1.1)) s.requires.1.3)) _ (parts-joined s.args.raster.now s.args.across s.args.at s.args.level s.args.slot s.args.slots s.requires.1.1 _ s.requires.1.0.colours _ _ (parts_all _ _ _ _ _ _ _ _ _ l.loop.invariant (omega arith)) (omega (arith, (l.loop.invariant.long ∙ s.requires.1.5), s.requires.1.4, slots-four _ _ (omega (arith, s.requires.1.1)) s.requires.1.3)) s.requires.1.3 _ c.before.joined.ensures) c.if3.true
+    parts_leaf s.args.raster.now s.args.across s.args.at s.args.level s.args.slot (omega (arith, s.requires.1.1)) _ s.requires.1.0.colours _ _ (parts_all _ _ _ _ _ _ _ _ _ l.loop.invariant (omega arith)) (omega (arith, (l.loop.invariant.long ∙ s.requires.1.5), s.requires.1.3, s.requires.1.4, slots_four _ _ (omega (arith, s.requires.1.1)) s.requires.1.3)) _ (parts_joined s.args.raster.now s.args.across s.args.at s.args.level s.args.slot s.args.slots s.requires.1.1 _ s.requires.1.0.colours _ _ (parts_all _ _ _ _ _ _ _ _ _ l.loop.invariant (omega arith)) (omega (arith, (l.loop.invariant.long ∙ s.requires.1.5), s.requires.1.4, slots_four _ _ (omega (arith, s.requires.1.1)) s.requires.1.3)) s.requires.1.3 _ c.before.joined.ensures) c.if3.true
 
 large-returns-3 : (t : ℕ) → large-lts.Need-returns-3 (calls t) (large-at t) large.Post large-Inv-loop large-μ-loop
 large-returns-3 t c =
     let s = c.before.before.before.before.before.before.before.before.before.before.before in
     let l = c.before.before.before.before.before.before.before.before in
-    parts-fork s.args.raster.now s.args.across s.args.at s.args.level s.args.slot (omega (arith, s.requires.1.1)) _ s.requires.1.0.colours _ _ (parts_all _ _ _ _ _ _ _ _ _ l.loop.invariant (omega arith)) (omega (arith, (l.loop.invariant.long ∙ s.requires.1.5), s.requires.1.3, s.requires.1.4, slots-four _ _ (omega (arith, s.requires.1.1)) s.requires.1.3)) _ c.if3.false (sym (parts-joined s.args.raster.now s.args.across s.args.at s.args.level s.args.slot s.args.slots s.requires.1.1 _ s.requires.1.0.colours _ _ (parts_all _ _ _ _ _ _ _ _ _ l.loop.invariant (omega arith)) (omega (arith, (l.loop.invariant.long ∙ s.requires.1.5), s.requires.1.4, slots-four _ _ (omega (arith, s.requires.1.1)) s.requires.1.3)) s.requires.1.3 _ c.before.joined.ensures) ∙ c.if3.false)
+    parts_fork s.args.raster.now s.args.across s.args.at s.args.level s.args.slot (omega (arith, s.requires.1.1)) _ s.requires.1.0.colours _ _ (parts_all _ _ _ _ _ _ _ _ _ l.loop.invariant (omega arith)) (omega (arith, (l.loop.invariant.long ∙ s.requires.1.5), s.requires.1.3, s.requires.1.4, slots_four _ _ (omega (arith, s.requires.1.1)) s.requires.1.3)) _ c.if3.false (sym (parts_joined s.args.raster.now s.args.across s.args.at s.args.level s.args.slot s.args.slots s.requires.1.1 _ s.requires.1.0.colours _ _ (parts_all _ _ _ _ _ _ _ _ _ l.loop.invariant (omega arith)) (omega (arith, (l.loop.invariant.long ∙ s.requires.1.5), s.requires.1.4, slots_four _ _ (omega (arith, s.requires.1.1)) s.requires.1.3)) s.requires.1.3 _ c.before.joined.ensures) ∙ c.if3.false)
 
 pub +large-spec : {M : Type 1} → statement M
 +large-spec = close μ-large λ t. large-lts.spec (

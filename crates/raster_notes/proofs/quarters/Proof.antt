@@ -2,8 +2,8 @@
 use Prim.Native.Nat.{◌+◌, ◌*◌}
 use native.Mathlib.Omega.{arith}
 use Rattle.raster_lanes.specs.Lanes.{window}
-use Rattle.raster_notes.proofs.TellLaws.{block-few}
-use Rattle.raster_notes.proofs.NoteLaws.{four-parts}
+use Rattle.raster_notes.proofs.TellLaws.{block_few}
+use Rattle.raster_notes.proofs.NoteLaws.{four_parts}
 use borrow.Author.Rules.{rules}
 use Rattle.raster_notes.proofs.quarters.Statement.{statement}
 use Rattle.raster_notes.proofs.quarters.Tie as tie
@@ -47,28 +47,28 @@ eight-requires-4 c κs = search rules
 add-result : tie.Need-overflow-add-result
 add-result c =
     let s = c.before.before.before.before.before.before.before.before.before in
-    omega (arith, block-few (window s.args.raster.now s.args.across s.args.at) 0 0, c.before.before.before.before.before.before.eight.ensures.0, block-few (window s.args.raster.now s.args.across (s.args.at + 8)) 0 0, c.before.before.before.before.eight2.ensures.0, block-few (window s.args.raster.now s.args.across (s.args.at + 8 * s.args.across)) 0 0, c.before.before.eight3.ensures.0, block-few (window s.args.raster.now s.args.across (s.args.at + 8 * s.args.across + 8)) 0 0, c.eight4.ensures.0)
+    omega (arith, block_few (window s.args.raster.now s.args.across s.args.at) 0 0, c.before.before.before.before.before.before.eight.ensures.0, block_few (window s.args.raster.now s.args.across (s.args.at + 8)) 0 0, c.before.before.before.before.eight2.ensures.0, block_few (window s.args.raster.now s.args.across (s.args.at + 8 * s.args.across)) 0 0, c.before.before.eight3.ensures.0, block_few (window s.args.raster.now s.args.across (s.args.at + 8 * s.args.across + 8)) 0 0, c.eight4.ensures.0)
 
 add-result-2 : tie.Need-overflow-add-result-2
 add-result-2 c =
     let s = c.before.before.before.before.before.before.before.before.before in
-    omega (arith, block-few (window s.args.raster.now s.args.across s.args.at) 0 0, c.before.before.before.before.before.before.eight.ensures.0, block-few (window s.args.raster.now s.args.across (s.args.at + 8)) 0 0, c.before.before.before.before.eight2.ensures.0, block-few (window s.args.raster.now s.args.across (s.args.at + 8 * s.args.across)) 0 0, c.before.before.eight3.ensures.0, block-few (window s.args.raster.now s.args.across (s.args.at + 8 * s.args.across + 8)) 0 0, c.eight4.ensures.0)
+    omega (arith, block_few (window s.args.raster.now s.args.across s.args.at) 0 0, c.before.before.before.before.before.before.eight.ensures.0, block_few (window s.args.raster.now s.args.across (s.args.at + 8)) 0 0, c.before.before.before.before.eight2.ensures.0, block_few (window s.args.raster.now s.args.across (s.args.at + 8 * s.args.across)) 0 0, c.before.before.eight3.ensures.0, block_few (window s.args.raster.now s.args.across (s.args.at + 8 * s.args.across + 8)) 0 0, c.eight4.ensures.0)
 
 add-result-3 : tie.Need-overflow-add-result-3
 add-result-3 c =
     let s = c.before.before.before.before.before.before.before.before.before in
-    omega (arith, block-few (window s.args.raster.now s.args.across s.args.at) 0 0, c.before.before.before.before.before.before.eight.ensures.0, block-few (window s.args.raster.now s.args.across (s.args.at + 8)) 0 0, c.before.before.before.before.eight2.ensures.0, block-few (window s.args.raster.now s.args.across (s.args.at + 8 * s.args.across)) 0 0, c.before.before.eight3.ensures.0, block-few (window s.args.raster.now s.args.across (s.args.at + 8 * s.args.across + 8)) 0 0, c.eight4.ensures.0)
+    omega (arith, block_few (window s.args.raster.now s.args.across s.args.at) 0 0, c.before.before.before.before.before.before.eight.ensures.0, block_few (window s.args.raster.now s.args.across (s.args.at + 8)) 0 0, c.before.before.before.before.eight2.ensures.0, block_few (window s.args.raster.now s.args.across (s.args.at + 8 * s.args.across)) 0 0, c.before.before.eight3.ensures.0, block_few (window s.args.raster.now s.args.across (s.args.at + 8 * s.args.across + 8)) 0 0, c.eight4.ensures.0)
 
 add-result-4 : tie.Need-overflow-add-result-4
 add-result-4 c =
     let s = c.before.before.before.before.before.before.before.before.before in
-    omega (arith, block-few (window s.args.raster.now s.args.across s.args.at) 0 0, c.before.before.before.before.before.before.eight.ensures.0, block-few (window s.args.raster.now s.args.across (s.args.at + 8)) 0 0, c.before.before.before.before.eight2.ensures.0, block-few (window s.args.raster.now s.args.across (s.args.at + 8 * s.args.across)) 0 0, c.before.before.eight3.ensures.0, block-few (window s.args.raster.now s.args.across (s.args.at + 8 * s.args.across + 8)) 0 0, c.eight4.ensures.0)
+    omega (arith, block_few (window s.args.raster.now s.args.across s.args.at) 0 0, c.before.before.before.before.before.before.eight.ensures.0, block_few (window s.args.raster.now s.args.across (s.args.at + 8)) 0 0, c.before.before.before.before.eight2.ensures.0, block_few (window s.args.raster.now s.args.across (s.args.at + 8 * s.args.across)) 0 0, c.before.before.eight3.ensures.0, block_few (window s.args.raster.now s.args.across (s.args.at + 8 * s.args.across + 8)) 0 0, c.eight4.ensures.0)
 
 returns : tie.Need-returns
 returns c =
     let s = c.before.before.before.before.before.before.before.before.before in
     let l = c.before.before.before.before.before.before in
-    four-parts _ _ _ _ _ _ _ _ _ _ _ _ _ s.requires.3 s.requires.2 l.eight.ensures.0 l.eight.ensures.1 c.before.before.before.before.eight2.ensures.0 c.before.before.before.before.eight2.ensures.1 c.before.before.eight3.ensures.0 c.before.before.eight3.ensures.1 c.eight4.ensures.0 c.eight4.ensures.1
+    four_parts _ _ _ _ _ _ _ _ _ _ _ _ _ s.requires.3 s.requires.2 l.eight.ensures.0 l.eight.ensures.1 c.before.before.before.before.eight2.ensures.0 c.before.before.before.before.eight2.ensures.1 c.before.before.eight3.ensures.0 c.before.before.eight3.ensures.1 c.eight4.ensures.0 c.eight4.ensures.1
 
 pub quarters-spec : {M : Type 1} → statement M
 quarters-spec =

@@ -2,7 +2,7 @@
 use mathlib.Core.Path.{refl}
 use Prim.Native.Nat.{◌+◌}
 use native.Mathlib.Omega.{arith}
-use Rattle.raster_notes.proofs.NoteLaws.{leaf-noted, four-kind, parts-fork}
+use Rattle.raster_notes.proofs.NoteLaws.{leaf_noted, four_kind, parts_fork}
 use borrow.Author.Rules.{rules}
 use Rattle.raster_notes.proofs.sixteen.Statement.{statement}
 use Rattle.raster_notes.proofs.sixteen.Tie as tie
@@ -49,7 +49,7 @@ element-write-kinds c = search rules
 returns : tie.Need-returns
 returns c =
     let s = c.before.before.before.before.before.before in
-    leaf-noted _ _ _ 4 _ _ _ (omega (arith, s.requires.1, s.requires.2)) ((four-kind s.args.raster.now s.args.across s.args.at (c.before.before.before.before.eight-rows.result + c.before.before.before.eight-rows2.result + c.before.before.eight-rows3.result + c.before.eight-rows4.result) s.requires.0.colours (omega (arith, c.before.before.before.before.eight-rows.ensures.0, c.before.before.before.eight-rows2.ensures.0, c.before.before.eight-rows3.ensures.0, c.before.eight-rows4.ensures.0))).0.0 c.if1.true) (λ z. omega arith)
+    leaf_noted _ _ _ 4 _ _ _ (omega (arith, s.requires.1, s.requires.2)) ((four_kind s.args.raster.now s.args.across s.args.at (c.before.before.before.before.eight-rows.result + c.before.before.before.eight-rows2.result + c.before.before.eight-rows3.result + c.before.eight-rows4.result) s.requires.0.colours (omega (arith, c.before.before.before.before.eight-rows.ensures.0, c.before.before.before.eight-rows2.ensures.0, c.before.before.eight-rows3.ensures.0, c.before.eight-rows4.ensures.0))).0.0 c.if1.true) (λ z. omega arith)
 
 mul-if2 : tie.Need-overflow-mul-if2
 mul-if2 c = search rules
@@ -64,7 +64,7 @@ returns-2 : tie.Need-returns-2
 returns-2 c =
     let s = c.before.before.before.before.before.before.before in
     let l = c.before.before.before.before.before in
-    leaf-noted _ _ _ 4 _ _ _ (omega (arith, s.requires.1, s.requires.2)) ((four-kind s.args.raster.now s.args.across s.args.at (l.eight-rows.result + c.before.before.before.before.eight-rows2.result + c.before.before.before.eight-rows3.result + c.before.before.eight-rows4.result) s.requires.0.colours (omega (arith, l.eight-rows.ensures.0, c.before.before.before.before.eight-rows2.ensures.0, c.before.before.before.eight-rows3.ensures.0, c.before.before.eight-rows4.ensures.0))).0.1 c.if2.true) (λ z. omega arith)
+    leaf_noted _ _ _ 4 _ _ _ (omega (arith, s.requires.1, s.requires.2)) ((four_kind s.args.raster.now s.args.across s.args.at (l.eight-rows.result + c.before.before.before.before.eight-rows2.result + c.before.before.before.eight-rows3.result + c.before.before.eight-rows4.result) s.requires.0.colours (omega (arith, l.eight-rows.ensures.0, c.before.before.before.before.eight-rows2.ensures.0, c.before.before.before.eight-rows3.ensures.0, c.before.before.eight-rows4.ensures.0))).0.1 c.if2.true) (λ z. omega arith)
 
 quarters-requires : tie.Need-quarters-requires
 quarters-requires c κs =
@@ -86,7 +86,7 @@ returns-3 c =
     let l = c.before.before.before.before.before.before.before in
     let m = c.before.before.before.before.before.before in
     let v = c.before.before.before.before.before in
-    parts-fork _ _ _ 4 _ (omega arith) _ s.requires.0.colours _ _ c.quarters.ensures (omega (arith, c.quarters.ensures.long, s.requires.1, s.requires.2)) _ refl ((four-kind s.args.raster.now s.args.across s.args.at (l.eight-rows.result + m.eight-rows2.result + v.eight-rows3.result + c.before.before.before.before.eight-rows4.result) s.requires.0.colours (omega (arith, l.eight-rows.ensures.0, m.eight-rows2.ensures.0, v.eight-rows3.ensures.0, c.before.before.before.before.eight-rows4.ensures.0))).1 c.before.before.before.if1.false c.before.before.if2.false)
+    parts_fork _ _ _ 4 _ (omega arith) _ s.requires.0.colours _ _ c.quarters.ensures (omega (arith, c.quarters.ensures.long, s.requires.1, s.requires.2)) _ refl ((four_kind s.args.raster.now s.args.across s.args.at (l.eight-rows.result + m.eight-rows2.result + v.eight-rows3.result + c.before.before.before.before.eight-rows4.result) s.requires.0.colours (omega (arith, l.eight-rows.ensures.0, m.eight-rows2.ensures.0, v.eight-rows3.ensures.0, c.before.before.before.before.eight-rows4.ensures.0))).1 c.before.before.before.if1.false c.before.before.if2.false)
 
 pub sixteen-spec : {M : Type 1} → statement M
 sixteen-spec =

@@ -1,6 +1,6 @@
 -- `raster_put::put_four`: a leaf, or a fork over four pixels. Assumes nothing.
-use Rattle.table.proofs.WritingLaws.{node-room}
-use Rattle.raster_put.proofs.PutLaws.{four-put, pixels-to-put}
+use Rattle.table.proofs.WritingLaws.{node_room}
+use Rattle.raster_put.proofs.PutLaws.{four_put, pixels_to_put}
 use borrow.Author.Rules.{rules}
 use Rattle.raster_put.proofs.put_four.Statement.{statement}
 use Rattle.raster_put.proofs.put_four.Tie as tie
@@ -9,7 +9,7 @@ sum-four-requires : tie.Need-sum-four-requires
 sum-four-requires c κs = search rules
 
 put-leaf-requires : tie.Need-put-leaf-requires
-put-leaf-requires c κs = node-room c.before.before.before.before.before.requires.ready
+put-leaf-requires c κs = node_room c.before.before.before.before.before.requires.ready
 
 add-result : tie.Need-overflow-add-result
 add-result c = search rules
@@ -20,10 +20,10 @@ same_length c = search rules
 returns : tie.Need-returns
 returns c =
     let d = c.before.before.before.before in
-    four-put d.before.before.before.before.requires _ d.before.sum-four.ensures.0 _ _ _ d.if1.true c.before.before.put-leaf.ensures
+    four_put d.before.before.before.before.requires _ d.before.sum_four.ensures.0 _ _ _ d.if1.true c.before.before.put-leaf.ensures
 
 put-pixels-requires : tie.Need-put-pixels-requires
-put-pixels-requires c κs = pixels-to-put c.before.before.before.before.before.requires _ c.before.before.sum-four.ensures.0 c.before.if1.false
+put-pixels-requires c κs = pixels_to_put c.before.before.before.before.before.requires _ c.before.before.sum_four.ensures.0 c.before.if1.false
 
 same-length-2 : tie.Need-same-length-2
 same-length-2 c = search rules

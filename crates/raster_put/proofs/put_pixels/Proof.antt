@@ -1,8 +1,8 @@
 -- `raster_put::put_pixels`: four leaves, and the fork's own words last. Assumes nothing.
 use native.Mathlib.Omega.{arith}
-use Rattle.raster.specs.Raster.{pictureOf}
-use Rattle.raster.proofs.BlockLaws.{on-small, on-son}
-use Rattle.raster_put.proofs.PutLaws.{pixels-put}
+use Rattle.raster.specs.Raster.{picture_of}
+use Rattle.raster.proofs.BlockLaws.{on_small, on_son}
+use Rattle.raster_put.proofs.PutLaws.{pixels_put}
 use borrow.Author.Rules.{rules}
 use Rattle.raster_put.proofs.put_pixels.Statement.{statement}
 use Rattle.raster_put.proofs.put_pixels.Tie as tie
@@ -10,52 +10,52 @@ use Rattle.raster_put.proofs.put_pixels.Tie as tie
 mul-west : tie.Need-overflow-mul-west
 mul-west c =
     let b = c.before.before.requires in
-    omega (arith, on-small b.picture.top b.on)
+    omega (arith, on_small b.picture.top b.on)
 
 mul-north : tie.Need-overflow-mul-north
 mul-north c =
     let b = c.before.before.requires in
-    omega (arith, on-small b.picture.top b.on)
+    omega (arith, on_small b.picture.top b.on)
 
 pixel-at-requires : tie.Need-pixel-at-requires
 pixel-at-requires c κs =
     let b = c.before.before.requires in
-    (b.picture, on-son b.on (omega arith) _ _ (omega arith) (omega arith))
+    (b.picture, on_son b.on (omega arith) _ _ (omega arith) (omega arith))
 
 add-pixel-at : tie.Need-overflow-add-pixel-at
 add-pixel-at c =
     let b = c.before.before.before.requires in
-    omega (arith, on-small b.picture.top b.on)
+    omega (arith, on_small b.picture.top b.on)
 
 pixel-at-requires-2 : tie.Need-pixel-at-requires-2
 pixel-at-requires-2 c κs =
     let b = c.before.before.before.requires in
-    (b.picture, on-son b.on (omega arith) _ _ (omega arith) (omega arith))
+    (b.picture, on_son b.on (omega arith) _ _ (omega arith) (omega arith))
 
 add-pixel-at-2 : tie.Need-overflow-add-pixel-at-2
 add-pixel-at-2 c =
     let b = c.before.before.before.before.requires in
-    omega (arith, on-small b.picture.top b.on)
+    omega (arith, on_small b.picture.top b.on)
 
 pixel-at-requires-3 : tie.Need-pixel-at-requires-3
 pixel-at-requires-3 c κs =
     let b = c.before.before.before.before.requires in
-    (b.picture, on-son b.on (omega arith) _ _ (omega arith) (omega arith))
+    (b.picture, on_son b.on (omega arith) _ _ (omega arith) (omega arith))
 
 add-pixel-at-3 : tie.Need-overflow-add-pixel-at-3
 add-pixel-at-3 c =
     let b = c.before.before.before.before.before.requires in
-    omega (arith, on-small b.picture.top b.on)
+    omega (arith, on_small b.picture.top b.on)
 
 add-pixel-at-4 : tie.Need-overflow-add-pixel-at-4
 add-pixel-at-4 c =
     let b = c.before.before.before.before.before.requires in
-    omega (arith, on-small b.picture.top b.on)
+    omega (arith, on_small b.picture.top b.on)
 
 pixel-at-requires-4 : tie.Need-pixel-at-requires-4
 pixel-at-requires-4 c κs =
     let b = c.before.before.before.before.before.requires in
-    (b.picture, on-son b.on (omega arith) _ _ (omega arith) (omega arith))
+    (b.picture, on_son b.on (omega arith) _ _ (omega arith) (omega arith))
 
 add-put-leaf : tie.Need-overflow-add-put-leaf
 add-put-leaf c = search rules
@@ -116,8 +116,8 @@ returns c =
     let read = nw.before.before in
     let s = read.before.before.before.before.before.before in
     rw s.requires.fork
-    (pixels-put (pictureOf s.args.n s.args.raster.now) s.args.x s.args.y s.args.p s.args.father _ _ _ _ s.args.table.now _ _ _ _ _
-    read.before.before.before.pixel-at.ensures read.before.before.pixel-at2.ensures read.before.pixel-at3.ensures read.pixel-at4.ensures
+    (pixels_put (picture_of s.args.n s.args.raster.now) s.args.x s.args.y s.args.p s.args.father _ _ _ _ s.args.table.now _ _ _ _ _
+    read.before.before.before.pixel_at.ensures read.before.before.pixel-at2.ensures read.before.pixel-at3.ensures read.pixel-at4.ensures
     nw.put-leaf.ensures ne.put-leaf2.ensures sw.put-leaf3.ensures se.put-leaf4.ensures c.before.before.put-node.ensures)
 
 pub put-pixels-spec : {M : Type 1} → statement M

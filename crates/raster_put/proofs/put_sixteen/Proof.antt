@@ -1,8 +1,8 @@
 -- `raster_put::put_sixteen`: a leaf, or four parts and the fork's own words last. Assumes nothing.
 use native.Mathlib.Omega.{arith}
-use Rattle.table.proofs.WritingLaws.{node-room}
-use Rattle.raster.proofs.BlockLaws.{on-small}
-use Rattle.raster_put.proofs.PutLaws.{sixteen-put, nw-to-put, ne-to-put, sw-to-put, se-to-put, quarters-put}
+use Rattle.table.proofs.WritingLaws.{node_room}
+use Rattle.raster.proofs.BlockLaws.{on_small}
+use Rattle.raster_put.proofs.PutLaws.{sixteen_put, nw_to_put, ne_to_put, sw_to_put, se_to_put, quarters_put}
 use borrow.Author.Rules.{rules}
 use Rattle.raster_put.proofs.put_sixteen.Statement.{statement}
 use Rattle.raster_put.proofs.put_sixteen.Tie as tie
@@ -11,7 +11,7 @@ sum-sixteen-requires : tie.Need-sum-sixteen-requires
 sum-sixteen-requires c κs = search rules
 
 put-leaf-requires : tie.Need-put-leaf-requires
-put-leaf-requires c κs = node-room c.before.before.before.before.before.requires.ready
+put-leaf-requires c κs = node_room c.before.before.before.before.before.requires.ready
 
 add-result : tie.Need-overflow-add-result
 add-result c = search rules
@@ -22,17 +22,17 @@ same_length c = search rules
 returns : tie.Need-returns
 returns c =
     let d = c.before.before.before.before in
-    sixteen-put d.before.before.before.before.requires _ d.before.sum-sixteen.ensures _ _ _ d.if1.true c.before.before.put-leaf.ensures
+    sixteen_put d.before.before.before.before.requires _ d.before.sum-sixteen.ensures _ _ _ d.if1.true c.before.before.put-leaf.ensures
 
 mul-west : tie.Need-overflow-mul-west
 mul-west c =
     let b = c.before.before.before.before.requires in
-    omega (arith, on-small b.picture.top b.on)
+    omega (arith, on_small b.picture.top b.on)
 
 mul-north : tie.Need-overflow-mul-north
 mul-north c =
     let b = c.before.before.before.before.requires in
-    omega (arith, on-small b.picture.top b.on)
+    omega (arith, on_small b.picture.top b.on)
 
 add_a : tie.Need-overflow-add-a
 add_a c = search rules
@@ -40,24 +40,24 @@ add_a c = search rules
 put-four-requires : tie.Need-put-four-requires
 put-four-requires c κs =
     let d = c.before in
-    nw-to-put d.before.before.before.before.requires _ d.before.sum-sixteen.ensures d.if1.false
+    nw_to_put d.before.before.before.before.requires _ d.before.sum-sixteen.ensures d.if1.false
 
 add-put-four : tie.Need-overflow-add-put-four
 add-put-four c =
     let b = c.before.before.before.before.before.before.before.before.requires in
-    omega (arith, on-small b.picture.top b.on)
+    omega (arith, on_small b.picture.top b.on)
 
 put-four-requires-2 : tie.Need-put-four-requires-2
 put-four-requires-2 c κs =
     let nw = c.before.before.before in
     let d = nw.before.before in
     rw nw.put_four.auto.1.1.1.1.0
-    (ne-to-put d.before.before.before.before.requires _ d.before.sum-sixteen.ensures d.if1.false _ nw.put_four.ensures.next)
+    (ne_to_put d.before.before.before.before.requires _ d.before.sum-sixteen.ensures d.if1.false _ nw.put_four.ensures.next)
 
 add-put-four-2 : tie.Need-overflow-add-put-four-2
 add-put-four-2 c =
     let b = c.before.before.before.before.before.before.before.before.before.before.before.before.requires in
-    omega (arith, on-small b.picture.top b.on)
+    omega (arith, on_small b.picture.top b.on)
 
 put-four-requires-3 : tie.Need-put-four-requires-3
 put-four-requires-3 c κs =
@@ -65,18 +65,18 @@ put-four-requires-3 c κs =
     let nw = ne.before.before.before.before in
     let d = nw.before.before in
     rw (ne.put-four2.auto.1.1.1.1.0, nw.put_four.auto.1.1.1.1.0)
-    (sw-to-put d.before.before.before.before.requires _ d.before.sum-sixteen.ensures d.if1.false _ nw.put_four.ensures.next _
+    (sw_to_put d.before.before.before.before.requires _ d.before.sum-sixteen.ensures d.if1.false _ nw.put_four.ensures.next _
     ne.put-four2.ensures.next)
 
 add-put-four-3 : tie.Need-overflow-add-put-four-3
 add-put-four-3 c =
     let b = c.before.before.before.before.before.before.before.before.before.before.before.before.before.before.before.before.requires in
-    omega (arith, on-small b.picture.top b.on)
+    omega (arith, on_small b.picture.top b.on)
 
 add-put-four-4 : tie.Need-overflow-add-put-four-4
 add-put-four-4 c =
     let b = c.before.before.before.before.before.before.before.before.before.before.before.before.before.before.before.before.requires in
-    omega (arith, on-small b.picture.top b.on)
+    omega (arith, on_small b.picture.top b.on)
 
 put-four-requires-4 : tie.Need-put-four-requires-4
 put-four-requires-4 c κs =
@@ -85,7 +85,7 @@ put-four-requires-4 c κs =
     let nw = ne.before.before.before.before in
     let d = nw.before.before in
     rw (sw.put-four3.auto.1.1.1.1.0, ne.put-four2.auto.1.1.1.1.0, nw.put_four.auto.1.1.1.1.0)
-    (se-to-put d.before.before.before.before.requires _ d.before.sum-sixteen.ensures d.if1.false _ nw.put_four.ensures.next _
+    (se_to_put d.before.before.before.before.requires _ d.before.sum-sixteen.ensures d.if1.false _ nw.put_four.ensures.next _
     ne.put-four2.ensures.next _ sw.put-four3.ensures.next)
 
 cast-put-node : tie.Need-overflow-cast-put-node
@@ -98,7 +98,7 @@ put-node-requires c κs =
     let ne = sw.before.before.before.before in
     let nw = ne.before.before.before.before in
     rw (se.put-four4.auto.1.1.1.1.0, sw.put-four3.auto.1.1.1.1.0, ne.put-four2.auto.1.1.1.1.0, nw.put_four.auto.1.1.1.1.0)
-    (node-room nw.before.before.before.before.before.before.requires.ready)
+    (node_room nw.before.before.before.before.before.before.requires.ready)
 
 same-length-2 : tie.Need-same-length-2
 same-length-2 c = search rules
@@ -110,7 +110,7 @@ returns-2 c =
     let ne = sw.before.before.before.before in
     let nw = ne.before.before.before.before in
     let d = nw.before.before in
-    quarters-put d.before.before.before.before.requires _ d.before.sum-sixteen.ensures d.if1.false nw.put_four.ensures ne.put-four2.ensures
+    quarters_put d.before.before.before.before.requires _ d.before.sum-sixteen.ensures d.if1.false nw.put_four.ensures ne.put-four2.ensures
     sw.put-four3.ensures se.put-four4.ensures c.before.before.put-node.ensures
 
 pub put-sixteen-spec : {M : Type 1} → statement M

@@ -1,6 +1,6 @@
 -- `rows::main`: the nodes that were loaded fit the table, and are an accepted sheet of the level loaded. Assumes
 -- nothing.
-use Rattle.file_load.proofs.LoadLaws.{loaded-fits, loaded-length, loaded-accepted}
+use Rattle.file_load.proofs.LoadLaws.{loaded_fits, loaded_length, loaded_accepted}
 use lib.ListN.{length-take}
 use native.Mathlib.Omega.{arith}
 use borrow.Author.Rules.{rules}
@@ -49,15 +49,15 @@ mul_words c = search rules
 array-share-prefix-table : tie.Need-array-share-prefix-table
 array-share-prefix-table c =
     let loads = c.before.before.before.before.before.load.ensures in
-    omega (arith, loaded-length _ _ _ _ loads, loaded-fits _ _ _ _ _ loads c.before.before.loaded.given.1)
+    omega (arith, loaded_length _ _ _ _ loads, loaded_fits _ _ _ _ _ loads c.before.before.loaded.given.1)
 
 slice-aggregate-print-rows : tie.Need-slice-aggregate-print-rows
 slice-aggregate-print-rows c =
     let loads = c.before.before.before.before.before.before.load.ensures in
-    simp length-take (omega (arith, loaded-length _ _ _ _ loads, loaded-fits _ _ _ _ _ loads c.before.before.before.loaded.given.1))
+    simp length-take (omega (arith, loaded_length _ _ _ _ loads, loaded_fits _ _ _ _ _ loads c.before.before.before.loaded.given.1))
 
 print-rows-requires : tie.Need-print-rows-requires
-print-rows-requires c κs = search (loaded-accepted, rules)
+print-rows-requires c κs = search (loaded_accepted, rules)
 
 links-line-requires : tie.Need-links-line-requires
 links-line-requires c κs = search rules

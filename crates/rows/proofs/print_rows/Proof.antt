@@ -1,6 +1,6 @@
 -- `rows::print_rows`: the invariant is a walk under way with its links tallied, the measure the steps left to it.
 -- Assumes nothing.
-use Rattle.walk_rows.proofs.TallyLaws.{UnderWay, stepsLeft, set_out, links-few, arrived, gone-on, step_less}
+use Rattle.walk_rows.proofs.TallyLaws.{UnderWay, steps_left, set_out, links_few, arrived, gone_on, step_less}
 use Rattle.walk.specs.declared.Answer.{Answer}
 use Rattle.walk.specs.declared.Answer.TheVariants.{Done}
 use Rattle.walk.specs.contracts.Answer.{the_type}
@@ -16,7 +16,7 @@ abbrev invariant-loop : tie.invariant-loop
 invariant-loop level table place₀ links₀ place links = UnderWay level table place links
 
 abbrev decreases-loop : tie.decreases-loop
-decreases-loop level table place₀ links₀ place links = stepsLeft level table place
+decreases-loop level table place₀ links₀ place links = steps_left level table place
 
 -- the tags that are left past the test for Done
 not_done : (a : Answer) → OneOf (0 ∷ 1 ∷ 2 ∷ 4 ∷ []) (tag_of the_type a) → a ≡ Done → ⊥
@@ -41,13 +41,13 @@ print-answer-requires : tie.Need-print-answer-requires invariant-loop decreases-
 print-answer-requires c κs = search rules
 
 with-link-requires : tie.Need-with-link-requires invariant-loop decreases-loop
-with-link-requires c κs = search (links-few, rules)
+with-link-requires c κs = search (links_few, rules)
 
 loop-less : tie.Need-loop-smaller invariant-loop decreases-loop
 loop-less c = search (step_less, not_done, rules)
 
 loop-again : tie.Need-loop-preserved invariant-loop decreases-loop
-loop-again c = search (gone-on, not_done, rules)
+loop-again c = search (gone_on, not_done, rules)
 
 pub print-rows-spec : {M : Type 1} → statement M
 print-rows-spec =

@@ -1,5 +1,5 @@
 -- `table_check::asked`: the check, then the node count. Assumes nothing.
-use Rattle.table.proofs.CheckLaws.{asked-none, asked-node}
+use Rattle.table.proofs.CheckLaws.{asked_none, asked_node}
 use Rattle.table.specs.Rules.{asked_of}
 use Rattle.answer.proofs.OutcomeLaws.{thens}
 use borrow.Author.Rules.{rules}
@@ -20,10 +20,10 @@ node-count-requires : tie.Need-node-count-requires
 node-count-requires c κs = search rules
 
 returns-2 : tie.Need-returns-2
-returns-2 c = search (asked-none, rules)
+returns-2 c = search (asked_none, rules)
 
 returns-3 : tie.Need-returns-3
-returns-3 c = search (asked-node, rules)
+returns-3 c = search (asked_node, rules)
 
 pub asked-spec : {M : Type 1} → statement M
 asked-spec =

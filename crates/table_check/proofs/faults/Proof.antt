@@ -1,5 +1,5 @@
 -- `table_check::faults`: what is seen whole has no fault; anything else is gone through. Assumes nothing.
-use Rattle.table_sound.proofs.SoundLaws.{sound-answered}
+use Rattle.table_sound.proofs.SoundLaws.{sound_answered}
 use borrow.Author.Rules.{rules}
 use Rattle.table_check.proofs.faults.Statement.{statement}
 use Rattle.table_check.proofs.faults.Tie as tie
@@ -14,7 +14,7 @@ cast-t5 : tie.Need-overflow-cast-t5
 cast-t5 c = search rules
 
 returns : tie.Need-returns
-returns c = search (sound-answered, rules)
+returns c = search (sound_answered, rules)
 
 first-fault-requires : tie.Need-first-fault-requires
 first-fault-requires c κs = search rules

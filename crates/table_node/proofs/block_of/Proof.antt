@@ -3,7 +3,7 @@
 use borrow.Author.Rules.{rules}
 use mathlib.Core.Path.{refl}
 use native.Mathlib.Omega.{arith}
-use Rattle.table.proofs.BlockLaws.{Climbed, climbed-none, Turn, turn, block-is}
+use Rattle.table.proofs.BlockLaws.{Climbed, climbed_none, Turn, turn, block_is}
 use Rattle.table_node.proofs.block_of.Statement.{statement}
 use Rattle.table_node.proofs.block_of.Tie as tie
 use Rattle.table_node.proofs.block_of.Reads as reads
@@ -18,7 +18,7 @@ abbrev decreases-loop : tie.decreases-loop
 decreases-loop n table p q₀ unit₀ column₀ row₀ level₀ q unit column row level = q
 
 loop-holds : tie.Need-loop-init invariant-loop decreases-loop
-loop-holds c = search (climbed-none, rules)
+loop-holds c = search (climbed_none, rules)
 
 son-type-requires : tie.Need-son-type-requires invariant-loop decreases-loop
 son-type-requires c κs =
@@ -66,7 +66,7 @@ loop-again : tie.Need-loop-preserved invariant-loop decreases-loop
 loop-again c = (known c.before).next _ c.word_at.ensures
 
 returns : tie.Need-returns invariant-loop decreases-loop
-returns c = search (block-is, rules)
+returns c = search (block_is, rules)
 
 pub block-of-spec : {M : Type 1} → statement M
 block-of-spec =

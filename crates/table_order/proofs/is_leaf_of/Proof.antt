@@ -1,6 +1,6 @@
 -- `table_order::is_leaf_of`: each early return is one test of the definition. Assumes nothing.
 use Rattle.base.proofs.CaseLaws.{cases}
-use Rattle.table_order.specs.Order.{leafFrom}
+use Rattle.table_order.specs.Order.{leaf_from}
 use borrow.Author.Rules.{rules}
 use Rattle.table_order.proofs.is_leaf_of.Statement.{statement}
 use Rattle.table_order.proofs.is_leaf_of.Tie as tie
@@ -27,7 +27,7 @@ shared-slice-read-if1 c = search rules
 
 -- src/order.rt:32:9
 returns : tie.Need-returns
-unfolding leafFrom
+unfolding leaf_from
 returns c = search (cases, rules) depth 9
 
 -- src/order.rt:34:9
@@ -36,7 +36,7 @@ two-are-requires c κs = search rules
 
 -- src/order.rt:35:9
 returns-2 : tie.Need-returns-2
-unfolding leafFrom
+unfolding leaf_from
 returns-2 c = search (cases, rules) depth 9
 
 -- src/order.rt:37:24
@@ -49,7 +49,7 @@ two-are-requires-2 c κs = search rules
 
 -- src/order.rt:38:9
 returns-3 : tie.Need-returns-3
-unfolding leafFrom
+unfolding leaf_from
 returns-3 c = search (cases, rules) depth 9
 
 -- src/order.rt:40:11
@@ -66,7 +66,7 @@ shared-slice-read-result c = search rules
 
 -- src/order.rt:25:1
 returns-4 : tie.Need-returns-4
-unfolding leafFrom
+unfolding leaf_from
 returns-4 c = search (cases, rules) depth 9
 
 pub is-leaf-of-spec : {M : Type 1} → statement M

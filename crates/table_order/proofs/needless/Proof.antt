@@ -1,7 +1,7 @@
 -- `table_order::needless`: only where four leaves can stand below the fork are they looked at. Assumes nothing.
 use Rattle.base.proofs.CaseLaws.{cases}
-use Rattle.table_order.specs.Order.{needlessFork}
-use Rattle.table_order.proofs.OrderLaws.{needless-words}
+use Rattle.table_order.specs.Order.{needless_fork}
+use Rattle.table_order.proofs.OrderLaws.{needless_words}
 use borrow.Author.Rules.{rules}
 use Rattle.table_order.proofs.needless.Statement.{statement}
 use Rattle.table_order.proofs.needless.Tie as tie
@@ -10,7 +10,7 @@ add-if1 : tie.Need-overflow-add-if1
 add-if1 c = search rules
 
 returns : tie.Need-returns
-unfolding needlessFork
+unfolding needless_fork
 returns c = search (cases, rules)
 
 word-at-requires : tie.Need-word-at-requires
@@ -29,7 +29,7 @@ are-like-requires : tie.Need-are-like-requires
 are-like-requires c κs = search rules
 
 returns-2 : tie.Need-returns-2
-returns-2 c = search (needless-words, rules)
+returns-2 c = search (needless_words, rules)
 
 pub needless-spec : {M : Type 1} → statement M
 needless-spec =

@@ -1,6 +1,6 @@
 -- `table_order::pixels`: the four stand behind the fork, one after the other. Assumes nothing.
 use mathlib.Core.Bool.{false≢true}
-use Rattle.table_order.proofs.OrderLaws.{pixels-passed}
+use Rattle.table_order.proofs.OrderLaws.{pixels_passed}
 use borrow.Author.Rules.{rules}
 use Rattle.table_order.proofs.pixels.Statement.{statement}
 use Rattle.table_order.proofs.pixels.Tie as tie
@@ -96,7 +96,7 @@ are-like-requires : tie.Need-are-like-requires
 are-like-requires c κs = search rules
 
 returns-8 : tie.Need-returns-8
-returns-8 c = λ h. search (pixels-passed, rules)
+returns-8 c = λ h. search (pixels_passed, rules)
 
 pub pixels-spec : {M : Type 1} → statement M
 pixels-spec =

@@ -1,5 +1,5 @@
 -- `table_order::two_are`: two words are told by the one number they make. Assumes nothing.
-use Rattle.table_order.proofs.OrderLaws.{two-joined}
+use Rattle.table_order.proofs.OrderLaws.{two_joined}
 use borrow.Author.Rules.{rules}
 use Rattle.table_order.proofs.two_are.Statement.{statement}
 use Rattle.table_order.proofs.two_are.Tie as tie
@@ -34,7 +34,7 @@ joined-requires-2 c κs = search rules
 
 -- src/order.rt:17:1
 returns : tie.Need-returns
-returns c = search (two-joined, rules)
+returns c = search (two_joined, rules)
 
 pub two-are-spec : {M : Type 1} → statement M
 two-are-spec =

@@ -1,7 +1,7 @@
 -- `table_rules::first_fault`: what is left from p on has the first fault of all, and the nodes below p rise. The
 -- measure is the nodes left. Assumes nothing.
-use Rattle.table.proofs.RuleLaws.{rising-zero, rising-more, passed, from-none, from-sound, from-fault}
-use Rattle.table.specs.Rules.{faultAt, faultFrom, faultsOf}
+use Rattle.table.proofs.RuleLaws.{rising_zero, rising_more, passed, from_none, from_sound, from_fault}
+use Rattle.table.specs.Rules.{fault_at, fault_from, faults_of}
 use Rattle.table.specs.Links.{Rising}
 use Rattle.table.specs.Table.{nodes}
 use Prim.Native.Nat.{ℕ, ◌-◌, ◌≤◌}
@@ -12,7 +12,7 @@ use Rattle.table_rules.proofs.first_fault.Statement.{statement}
 use Rattle.table_rules.proofs.first_fault.Tie as tie
 
 abbrev invariant-loop : tie.invariant-loop
-invariant-loop n table count p₀ p = (p ≤ nodes table) × (count ≡ nodes table) × Rising table p × (faultFrom n table (nodes table - p) p ≡ faultsOf n table)
+invariant-loop n table count p₀ p = (p ≤ nodes table) × (count ≡ nodes table) × Rising table p × (fault_from n table (nodes table - p) p ≡ faults_of n table)
 
 abbrev decreases-loop : tie.decreases-loop
 decreases-loop n table count p₀ p = nodes table - p
@@ -21,11 +21,11 @@ node-count-requires : tie.Need-node-count-requires invariant-loop decreases-loop
 node-count-requires c κs = search rules
 
 loop-holds : tie.Need-loop-init invariant-loop decreases-loop
-unfolding faultsOf
+unfolding faults_of
 loop-holds c =
     let s = c.before.before.args in
     let e : nodes s.table.now - 0 ≡ nodes s.table.now = omega arith in
-    (omega arith, c.node-count.ensures, rising-zero s.table.now, ap (λ (k : ℕ). faultFrom s.n s.table.now k 0) e)
+    (omega arith, c.node-count.ensures, rising_zero s.table.now, ap (λ (k : ℕ). fault_from s.n s.table.now k 0) e)
 
 fault-at-requires : tie.Need-fault-at-requires invariant-loop decreases-loop
 fault-at-requires c κs = (omega arith, c.before.loop.invariant.2)
@@ -41,7 +41,7 @@ returns c =
     let s = c.before.before.before.before.before.before.before.args in
     let l = c.before.before.before.before.loop in
     let T = s.table.now in
-    c.fault.ensures ∙ sym (from-fault s.n T (nodes T) l.p _ (omega arith) c.before.before.fault-at.ensures c.before.if1.true) ∙ l.invariant.3
+    c.fault.ensures ∙ sym (from_fault s.n T (nodes T) l.p _ (omega arith) c.before.before.fault-at.ensures c.before.if1.true) ∙ l.invariant.3
 
 add-p : tie.Need-overflow-add-p invariant-loop decreases-loop
 add-p c = omega arith
@@ -54,11 +54,11 @@ loop-again c =
     let s = c.before.before.before.before.before.before.args in
     let l = c.before.before.before.loop in
     let T = s.table.now in
-    let z : faultAt s.n T l.p ≡ 0 = sym c.before.fault-at.ensures ∙ c.if1.false in (
+    let z : fault_at s.n T l.p ≡ 0 = sym c.before.fault-at.ensures ∙ c.if1.false in (
       omega arith,
       l.invariant.1,
-      rising-more T l.p l.invariant.2 (passed s.n T l.p z).up,
-      sym (from-sound s.n T (nodes T) l.p (omega arith) z) ∙ l.invariant.3,
+      rising_more T l.p l.invariant.2 (passed s.n T l.p z).up,
+      sym (from_sound s.n T (nodes T) l.p (omega arith) z) ∙ l.invariant.3,
     )
 
 cast-t8 : tie.Need-overflow-cast-t8 invariant-loop decreases-loop
@@ -68,7 +68,7 @@ returns-2 : tie.Need-returns-2 invariant-loop decreases-loop
 returns-2 c =
     let s = c.before.before.before.before.args in
     let l = c.before.loop in
-    sym (from-none s.n s.table.now (nodes s.table.now - l.p) l.p (omega arith)) ∙ l.invariant.3
+    sym (from_none s.n s.table.now (nodes s.table.now - l.p) l.p (omega arith)) ∙ l.invariant.3
 
 pub first-fault-spec : {M : Type 1} → statement M
 first-fault-spec =

@@ -1,7 +1,7 @@
 -- `table_rules::once_ok` is rule 3: the father stands below p, and of its son words the four counts are added. Assumes
 -- nothing.
-use Rattle.table.proofs.RuleLaws.{rising-at, once-named}
-use Rattle.table.specs.Rules.{onceOk}
+use Rattle.table.proofs.RuleLaws.{rising_at, once_named}
+use Rattle.table.specs.Rules.{once_ok}
 use borrow.Author.Tests.{eq-eqb}
 use Rattle.table.specs.Table.{nodes}
 use Prim.Native.Nat.{◌+◌, ◌<◌}
@@ -14,11 +14,11 @@ use Rattle.table_rules.proofs.once_ok.Tie as tie
 below : (c : tie.After-word-at) → c.word_at.result < nodes c.before.before.before.args.table.now
 below c =
     let s = c.before.before.before in
-    omega (arith, rising-at s.args.table.now (s.args.p + 1) s.args.p s.requires.1 (omega arith) c.before.if1.false)
+    omega (arith, rising_at s.args.table.now (s.args.p + 1) s.args.p s.requires.1 (omega arith) c.before.if1.false)
 
 returns : tie.Need-returns
-unfolding onceOk
-returns c = rw (eq-eqb _ _ c.if1.true, onceOk)
+unfolding once_ok
+returns c = rw (eq-eqb _ _ c.if1.true, once_ok)
 
 word-at-requires : tie.Need-word-at-requires
 word-at-requires c κs = search rules
@@ -45,7 +45,7 @@ add-result-3 : tie.Need-overflow-add-result-3
 add-result-3 c = search rules
 
 returns-2 : tie.Need-returns-2
-returns-2 c = search (once-named, rules)
+returns-2 c = search (once_named, rules)
 
 pub once-ok-spec : {M : Type 1} → statement M
 once-ok-spec =

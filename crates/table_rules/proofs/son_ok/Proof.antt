@@ -1,6 +1,6 @@
 -- `table_rules::son_ok` is rule 4 for one son of a fork. Assumes nothing.
 use borrow.Author.Tests.{le-ltb, lt-ltb}
-use Rattle.table.specs.Rules.{sonOk}
+use Rattle.table.specs.Rules.{son_ok}
 use borrow.Author.Rules.{rules}
 use Rattle.table_rules.proofs.son_ok.Statement.{statement}
 use Rattle.table_rules.proofs.son_ok.Tie as tie
@@ -12,24 +12,24 @@ word-at-requires : tie.Need-word-at-requires
 word-at-requires c κs = search rules
 
 returns : tie.Need-returns
-unfolding sonOk
-returns c = rw (sonOk, ← c.before.word_at.ensures, le-ltb _ _ c.if1.true)
+unfolding son_ok
+returns c = rw (son_ok, ← c.before.word_at.ensures, le-ltb _ _ c.if1.true)
 
 node-count-requires : tie.Need-node-count-requires
 node-count-requires c κs = search rules
 
 returns-2 : tie.Need-returns-2
-unfolding sonOk
-returns-2 c = rw (sonOk, ← c.before.before.before.word_at.ensures, lt-ltb _ _ c.before.before.if1.false, ← c.before.node-count.ensures, le-ltb _ _ c.if2.true)
+unfolding son_ok
+returns-2 c = rw (son_ok, ← c.before.before.before.word_at.ensures, lt-ltb _ _ c.before.before.if1.false, ← c.before.node-count.ensures, le-ltb _ _ c.if2.true)
 
 word-at-requires-2 : tie.Need-word-at-requires-2
 word-at-requires-2 c κs = search rules
 
 returns-3 : tie.Need-returns-3
-unfolding sonOk
+unfolding son_ok
 returns-3 c =
     rw (
-      sonOk,
+      son_ok,
       ← c.before.before.before.before.word_at.ensures,
       lt-ltb _ _ c.before.before.before.if1.false,
       ← c.before.before.node-count.ensures,

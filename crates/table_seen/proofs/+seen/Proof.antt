@@ -3,9 +3,9 @@
 use mathlib.Core.Path.{◌≡◌, sym, ◌∙◌}
 use native.Mathlib.Omega.{arith}
 use Rattle.base.proofs.BoolLaws.{on, off}
-use Rattle.table_sound.specs.Seen.{added, seenOf}
-use Rattle.table.proofs.TypeLaws.{told-fork, told-leaf}
-use Rattle.table_sound.proofs.SeenLaws.{sonsSeen, most, seen_most, son-node, son-seen, added_none, added-stop, added_more, seen-leaf, seen-no-leaf, seen_low, seen-unfit, seen-fork}
+use Rattle.table_sound.specs.Seen.{added, seen_of}
+use Rattle.table.proofs.TypeLaws.{told_fork, told_leaf}
+use Rattle.table_sound.proofs.SeenLaws.{sons_seen, most, seen_most, node_of_son, son_seen, added_none, added_stop, added_more, seen_leaf, seen_no_leaf, seen_low, seen_unfit, seen_fork}
 use Prim.Native.Nat.{ℕ, ◌+◌, ◌-◌, ◌*◌, ◌≤◌, ◌<◌}
 use borrow.Fn.Kinds.{In}
 use borrow.Fn.PlainCycle.{Measures, is, falls, and}
@@ -31,7 +31,7 @@ abbrev calls : ℕ → seen-lts.Claims
 calls t = (fork-ok-reads.Asked, fork-ok-reads.Learnt, word-at-reads.Asked, word-at-reads.Learnt, seen_below t, seen.Post, leaf-ok-reads.Asked, leaf-ok-reads.Learnt)
 
 abbrev seen-Inv-loop : seen-lts.invariant-loop
-seen-Inv-loop table count level p all₀ q₀ all q = (q ≤ 4) × (added (sonsSeen table (level - 1) p) (4 - q) q all ≡ seenOf table level p) × (all ≤ 1 + q * most)
+seen-Inv-loop table count level p all₀ q₀ all q = (q ≤ 4) × (added (sons_seen table (level - 1) p) (4 - q) q all ≡ seen_of table level p) × (all ≤ 1 + q * most)
 
 abbrev seen-μ-loop : seen-lts.decreases-loop
 seen-μ-loop table count level p all₀ q₀ all q = 4 - q
@@ -43,10 +43,10 @@ seen-fork-ok-requires : (t : ℕ) → seen-lts.Need-fork-ok-requires (calls t) (
 seen-fork-ok-requires t c κs = (c.before.before.requires.1.0, c.before.before.requires.1.2)
 
 seen-returns-2 : (t : ℕ) → seen-lts.Need-returns-2 (calls t) (seen_at t) seen.Post seen-Inv-loop seen-μ-loop
-seen-returns-2 t c = seen-unfit _ _ _ c.before.before.before.before.requires.1.1 (off _ _ c.before.fork-ok.ensures c.if2.true)
+seen-returns-2 t c = seen_unfit _ _ _ c.before.before.before.before.requires.1.1 (off _ _ c.before.fork-ok.ensures c.if2.true)
 
 seen-loop-holds : (t : ℕ) → seen-lts.Need-loop-init (calls t) (seen_at t) seen.Post seen-Inv-loop seen-μ-loop
-seen-loop-holds t c = (omega arith, seen-fork _ _ _ c.before.before.before.before.requires.1.1 c.before.before.if1.false (on _ _ c.before.fork-ok.ensures c.if2.false), omega arith)
+seen-loop-holds t c = (omega arith, seen_fork _ _ _ c.before.before.before.before.requires.1.1 c.before.before.if1.false (on _ _ c.before.fork-ok.ensures c.if2.false), omega arith)
 
 seen-add-word-at : (t : ℕ) → seen-lts.Need-overflow-add-word-at (calls t) (seen_at t) seen.Post seen-Inv-loop seen-μ-loop
 seen-add-word-at t c = omega arith
@@ -58,7 +58,7 @@ seen-add-q : (t : ℕ) → seen-lts.Need-overflow-add-q (calls t) (seen_at t) se
 seen-add-q t c = omega arith
 
 seen-word-at-requires-2 : (t : ℕ) → seen-lts.Need-word-at-requires-2 (calls t) (seen_at t) seen.Post seen-Inv-loop seen-μ-loop
-seen-word-at-requires-2 t c κs = (rw c.word_at.ensures (son-node _ _ _ (on _ _ c.before.before.before.before.fork-ok.ensures c.before.before.before.if2.false) (omega arith)), omega arith)
+seen-word-at-requires-2 t c κs = (rw c.word_at.ensures (node_of_son _ _ _ (on _ _ c.before.before.before.before.fork-ok.ensures c.before.before.before.if2.false) (omega arith)), omega arith)
 
 seen-sub-seen : (t : ℕ) → seen-lts.Need-overflow-sub-seen (calls t) (seen_at t) seen.Post seen-Inv-loop seen-μ-loop
 seen-sub-seen t c = omega (arith, c.before.before.before.before.before.before.before.if1.false)
@@ -69,8 +69,8 @@ seen-seen-requires t c κs =
     let u = s.requires in (
       omega (arith, u.0, c.before.before.before.before.before.before.before.if1.false),
       (
-        rw c.before.before.word_at.ensures (son-node _ _ _ (on _ _ c.before.before.before.before.before.before.fork-ok.ensures c.before.before.before.before.before.if2.false) (omega arith)),
-        told-fork s.args.table.now c.before.before.word_at.result _ c.before.word-at2.ensures c.if3.true,
+        rw c.before.before.word_at.ensures (node_of_son _ _ _ (on _ _ c.before.before.before.before.before.before.fork-ok.ensures c.before.before.before.before.before.if2.false) (omega arith)),
+        told_fork s.args.table.now c.before.before.word_at.result _ c.before.word-at2.ensures c.if3.true,
         u.1.2,
         omega (arith, u.1.3),
       ),
@@ -79,8 +79,8 @@ seen-seen-requires t c κs =
 seen-returns-3 : (t : ℕ) → seen-lts.Need-returns-3 (calls t) (seen_at t) seen.Post seen-Inv-loop seen-μ-loop
 seen-returns-3 t c =
     let l = c.before.before.before.before.before.before.loop in
-    let x = son-seen _ _ _ _ _ _ c.before.before.before.before.word_at.ensures c.before.seen.ensures in
-    added-stop _ l.q l.all (omega arith) (sym x ∙ c.if4.true) ∙ l.invariant.1
+    let x = son_seen _ _ _ _ _ _ c.before.before.before.before.word_at.ensures c.before.seen.ensures in
+    added_stop _ l.q l.all (omega arith) (sym x ∙ c.if4.true) ∙ l.invariant.1
 
 seen-add-all : (t : ℕ) → seen-lts.Need-overflow-add-all (calls t) (seen_at t) seen.Post seen-Inv-loop seen-μ-loop
 seen-add-all t c =
@@ -94,19 +94,19 @@ seen-loop-again : (t : ℕ) → seen-lts.Need-loop-preserved (calls t) (seen_at 
 seen-loop-again t c =
     let l = c.before.before.before.before.before.before.loop in
     let e = c.before.seen.ensures in
-    let x = son-seen _ _ _ _ _ _ c.before.before.before.before.word_at.ensures e in
+    let x = son_seen _ _ _ _ _ _ c.before.before.before.before.word_at.ensures e in
     let m = seen_most _ _ _ _ e (omega (arith, c.before.before.before.before.before.before.before.before.before.before.before.requires.1.3)) in
     (omega arith, added_more _ l.q l.all _ (omega arith) x c.if4.false ∙ l.invariant.1, omega (arith, m))
 
 seen-leaf-ok-requires : (t : ℕ) → seen-lts.Need-leaf-ok-requires (calls t) (seen_at t) seen.Post seen-Inv-loop seen-μ-loop
-seen-leaf-ok-requires t c κs = rw c.before.before.word_at.ensures (son-node _ _ _ (on _ _ c.before.before.before.before.before.before.fork-ok.ensures c.before.before.before.before.before.if2.false) (omega arith))
+seen-leaf-ok-requires t c κs = rw c.before.before.word_at.ensures (node_of_son _ _ _ (on _ _ c.before.before.before.before.before.before.fork-ok.ensures c.before.before.before.before.before.if2.false) (omega arith))
 
 seen-returns-4 : (t : ℕ) → seen-lts.Need-returns-4 (calls t) (seen_at t) seen.Post seen-Inv-loop seen-μ-loop
 seen-returns-4 t c =
     let l = c.before.before.before.before.before.before.loop in
-    let z = seen-no-leaf _ _ _ (told-leaf c.before.before.before.before.before.before.before.before.before.before.before.args.table.now c.before.before.before.before.word_at.result _ c.before.before.before.word-at2.ensures c.before.before.if3.false) (off _ _ c.before.leaf-ok.ensures c.if5.true) in
-    let x = son-seen _ _ _ _ _ _ c.before.before.before.before.word_at.ensures (sym z) in
-    added-stop _ l.q l.all (omega arith) (sym x) ∙ l.invariant.1
+    let z = seen_no_leaf _ _ _ (told_leaf c.before.before.before.before.before.before.before.before.before.before.before.args.table.now c.before.before.before.before.word_at.result _ c.before.before.before.word-at2.ensures c.before.before.if3.false) (off _ _ c.before.leaf-ok.ensures c.if5.true) in
+    let x = son_seen _ _ _ _ _ _ c.before.before.before.before.word_at.ensures (sym z) in
+    added_stop _ l.q l.all (omega arith) (sym x) ∙ l.invariant.1
 
 seen-add-all-2 : (t : ℕ) → seen-lts.Need-overflow-add-all-2 (calls t) (seen_at t) seen.Post seen-Inv-loop seen-μ-loop
 seen-add-all-2 t c = omega arith
@@ -117,8 +117,8 @@ seen-loop-less-2 t c = omega arith
 seen-loop-again-2 : (t : ℕ) → seen-lts.Need-loop-preserved-2 (calls t) (seen_at t) seen.Post seen-Inv-loop seen-μ-loop
 seen-loop-again-2 t c =
     let l = c.before.before.before.before.before.before.loop in
-    let z = seen-leaf _ _ _ (told-leaf c.before.before.before.before.before.before.before.before.before.before.before.args.table.now c.before.before.before.before.word_at.result _ c.before.before.before.word-at2.ensures c.before.before.if3.false) (on _ _ c.before.leaf-ok.ensures c.if5.false) in
-    let x = son-seen _ _ _ _ _ _ c.before.before.before.before.word_at.ensures (sym z) in
+    let z = seen_leaf _ _ _ (told_leaf c.before.before.before.before.before.before.before.before.before.before.before.args.table.now c.before.before.before.before.word_at.result _ c.before.before.before.word-at2.ensures c.before.before.if3.false) (on _ _ c.before.leaf-ok.ensures c.if5.false) in
+    let x = son_seen _ _ _ _ _ _ c.before.before.before.before.word_at.ensures (sym z) in
     (omega arith, added_more _ l.q l.all 1 (omega arith) x (λ e. omega arith) ∙ l.invariant.1, omega arith)
 
 seen-returns-5 : (t : ℕ) → seen-lts.Need-returns-5 (calls t) (seen_at t) seen.Post seen-Inv-loop seen-μ-loop

@@ -1,6 +1,6 @@
 -- `table_seen::fit`: each early return is one test of the definition; past the first the four are nodes. Assumes
 -- nothing.
-use Rattle.table_sound.proofs.SeenLaws.{told-four, not_same}
+use Rattle.table_sound.proofs.SeenLaws.{told_four, not_same}
 use Rattle.base.proofs.CaseLaws.{cases}
 use Rattle.table_sound.specs.Seen.{fits}
 use borrow.Author.Rules.{rules}
@@ -22,14 +22,14 @@ unfolding fits
 returns-2 c = search (cases, rules) depth 9
 
 is-father-requires : tie.Need-is-father-requires
-is-father-requires c κs = search (told-four, rules)
+is-father-requires c κs = search (told_four, rules)
 
 returns-3 : tie.Need-returns-3
 unfolding fits
 returns-3 c = search (cases, rules) depth 9
 
 are-like-requires : tie.Need-are-like-requires
-are-like-requires c κs = search (told-four, rules)
+are-like-requires c κs = search (told_four, rules)
 
 returns-4 : tie.Need-returns-4
 unfolding fits

@@ -1,5 +1,5 @@
 -- `table_seen::fork_ok`: the four son words. Assumes nothing.
-use Rattle.table_sound.proofs.SeenLaws.{fork-words}
+use Rattle.table_sound.proofs.SeenLaws.{fork_words}
 use borrow.Author.Rules.{rules}
 use Rattle.table_seen.proofs.fork_ok.Statement.{statement}
 use Rattle.table_seen.proofs.fork_ok.Tie as tie
@@ -20,7 +20,7 @@ fit-requires : tie.Need-fit-requires
 fit-requires c κs = search rules
 
 returns : tie.Need-returns
-returns c = search (fork-words, rules)
+returns c = search (fork_words, rules)
 
 pub fork-ok-spec : {M : Type 1} → statement M
 fork-ok-spec =

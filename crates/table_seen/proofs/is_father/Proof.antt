@@ -1,5 +1,5 @@
 -- `table_seen::is_father`: the four father words. Assumes nothing.
-use Rattle.table_sound.proofs.SeenLaws.{father-words}
+use Rattle.table_sound.proofs.SeenLaws.{father_words}
 use borrow.Author.Rules.{rules}
 use Rattle.table_seen.proofs.is_father.Statement.{statement}
 use Rattle.table_seen.proofs.is_father.Tie as tie
@@ -20,7 +20,7 @@ all-are-requires : tie.Need-all-are-requires
 all-are-requires c κs = search rules
 
 returns : tie.Need-returns
-returns c = search (father-words, rules)
+returns c = search (father_words, rules)
 
 pub is-father-spec : {M : Type 1} → statement M
 is-father-spec =

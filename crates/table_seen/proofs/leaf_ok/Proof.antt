@@ -1,5 +1,5 @@
 -- `table_seen::leaf_ok`: the type, then the four son words. Assumes nothing.
-use Rattle.table_sound.proofs.SeenLaws.{leaf_type, leaf-words}
+use Rattle.table_sound.proofs.SeenLaws.{leaf_type, leaf_words_lem}
 use borrow.Author.Rules.{rules}
 use Rattle.table_seen.proofs.leaf_ok.Statement.{statement}
 use Rattle.table_seen.proofs.leaf_ok.Tie as tie
@@ -26,7 +26,7 @@ all-are-requires : tie.Need-all-are-requires
 all-are-requires c κs = search rules
 
 returns-2 : tie.Need-returns-2
-returns-2 c = search (leaf-words, rules)
+returns-2 c = search (leaf_words_lem, rules)
 
 pub leaf-ok-spec : {M : Type 1} → statement M
 leaf-ok-spec =

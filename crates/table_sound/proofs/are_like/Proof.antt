@@ -1,5 +1,5 @@
 -- `table_sound::are_like`: the four types. Assumes nothing.
-use Rattle.table_sound.proofs.SeenLaws.{like-words}
+use Rattle.table_sound.proofs.SeenLaws.{like_words}
 use borrow.Author.Rules.{rules}
 use Rattle.table_sound.proofs.are_like.Statement.{statement}
 use Rattle.table_sound.proofs.are_like.Tie as tie
@@ -20,7 +20,7 @@ like-leaves-requires : tie.Need-like-leaves-requires
 like-leaves-requires c κs = search rules
 
 returns : tie.Need-returns
-returns c = search (like-words, rules)
+returns c = search (like_words, rules)
 
 pub are-like-spec : {M : Type 1} → statement M
 are-like-spec =

@@ -1,6 +1,6 @@
 -- `walk::down`: the son is the definition's, and its left column lies on the sheet. Assumes nothing.
-use Rattle.walk.proofs.NumberLaws.{side-pos, half-fits, son-fits}
-use Rattle.walk.proofs.StepLaws.{down-refused, down-moved}
+use Rattle.walk.proofs.NumberLaws.{side_pos, half_fits, son_fits}
+use Rattle.walk.proofs.StepLaws.{down_refused, down_moved}
 use borrow.Author.Rules.{rules}
 use Rattle.walk.proofs.down.Statement.{statement}
 use Rattle.walk.proofs.down.Tie as tie
@@ -12,10 +12,10 @@ side-requires : tie.Need-side-requires
 side-requires c κs = search rules
 
 div-east : tie.Need-nonzero-div-east
-div-east c = search (side-pos, rules)
+div-east c = search (side_pos, rules)
 
 div-south : tie.Need-nonzero-div-south
-div-south c = search (side-pos, rules)
+div-south c = search (side_pos, rules)
 
 cast-word-at : tie.Need-overflow-cast-word-at
 cast-word-at c = search rules
@@ -42,19 +42,19 @@ refused-requires : tie.Need-refused-requires
 refused-requires c κs = search rules
 
 returns : tie.Need-returns
-returns c = search (down-refused, rules)
+returns c = search (down_refused, rules)
 
 cast-t8 : tie.Need-overflow-cast-t8
 cast-t8 c = search rules
 
 mul-t10 : tie.Need-overflow-mul-t10
-mul-t10 c = search (half-fits, rules)
+mul-t10 c = search (half_fits, rules)
 
 add-t11 : tie.Need-overflow-add-t11
-add-t11 c = search (son-fits, rules)
+add-t11 c = search (son_fits, rules)
 
 returns-2 : tie.Need-returns-2
-returns-2 c = search (down-moved, rules)
+returns-2 c = search (down_moved, rules)
 
 pub down-spec : {M : Type 1} → statement M
 down-spec =

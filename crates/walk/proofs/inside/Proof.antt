@@ -1,7 +1,7 @@
 -- `walk::inside`: a leaf's run, or the refusals and the fork's `down`. Assumes nothing.
 use native.Mathlib.Nat.{le_refl}
 use Rattle.walk.proofs.NumberLaws.{end_fits}
-use Rattle.walk.proofs.StepLaws.{before-end, inside-run, inside-no-type, inside-too-deep}
+use Rattle.walk.proofs.StepLaws.{before_end, inside_run, inside_no_type, inside_too_deep}
 use borrow.Author.Rules.{rules}
 use Rattle.walk.proofs.inside.Statement.{statement}
 use Rattle.walk.proofs.inside.Tie as tie
@@ -22,22 +22,22 @@ cast-t7 : tie.Need-overflow-cast-t7
 cast-t7 c = search rules
 
 sub-t9 : tie.Need-overflow-sub-t9
-sub-t9 c = search (before-end, le_refl, rules)
+sub-t9 c = search (before_end, le_refl, rules)
 
 returns : tie.Need-returns
-returns c = search (inside-run, rules)
+returns c = search (inside_run, rules)
 
 refused-requires : tie.Need-refused-requires
 refused-requires c κs = search rules
 
 returns-2 : tie.Need-returns-2
-returns-2 c = search (inside-no-type, rules)
+returns-2 c = search (inside_no_type, rules)
 
 refused-requires-2 : tie.Need-refused-requires-2
 refused-requires-2 c κs = search rules
 
 returns-3 : tie.Need-returns-3
-returns-3 c = search (inside-too-deep, rules)
+returns-3 c = search (inside_too_deep, rules)
 
 down-requires : tie.Need-down-requires
 down-requires c κs = search rules

@@ -1,6 +1,6 @@
 -- `walk::Place::step`: the tests of level and length come first. Assumes nothing.
-use Rattle.walk.proofs.StepLaws.{step-sizes}
-use Rattle.table.proofs.CheckLaws.{sized-call}
+use Rattle.walk.proofs.StepLaws.{step_sizes}
+use Rattle.table.proofs.CheckLaws.{sized_call}
 use borrow.Author.Rules.{rules}
 use Rattle.walk.proofs.Place.step.Statement.{statement}
 use Rattle.walk.proofs.Place.step.Tie as tie
@@ -15,10 +15,10 @@ refused-requires : tie.Need-refused-requires
 refused-requires c κs = search rules
 
 returns : tie.Need-returns
-returns c = search (step-sizes, rules)
+returns c = search (step_sizes, rules)
 
 step-in-requires : tie.Need-step-in-requires
-step-in-requires c κs = search (sized-call, rules)
+step-in-requires c κs = search (sized_call, rules)
 
 returns-2 : tie.Need-returns-2
 returns-2 c = search rules
