@@ -1,4 +1,6 @@
 // What an outside call gives back: document 01's table 'Numbers given back', as an enum with one case for each code.
+#![tactic(auto)]
+
 ghost use Rattle.std.specs.Prelude.{◌≡◌, ◌≤◌};
 ghost use Rattle.answer.specs.Numbers.{code_of, value_of, number_of, with_level, answers};
 

@@ -1,5 +1,7 @@
 // The third of the worked-case programs: each code of document 01's table but 0, with its value; what a lent buffer
 // held, 7 everywhere, it holds still.
+#![tactic(auto)]
+
 use cases_shared::{parts, pictures, say, sheet_a};
 use walk::{Answer, Place};
 

@@ -1,1 +1,3 @@
 // The chessboard distance to the nearest white pixel.
+#![tactic(auto)]
+

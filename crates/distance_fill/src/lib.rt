@@ -1,4 +1,6 @@
 // Every leaf's distance: a pass from the root down hands each fork its eight neighbours (`sheet_distance`).
+#![tactic(auto)]
+
 ghost use Rattle.std.specs.Prelude.{◌≡◌, true, false, length, ◌+◌, ◌*◌, ◌^◌, ◌<◌, ◌≤◌};
 ghost use Rattle.quad.specs.Numbers.{top_level};
 ghost use Rattle.table.specs.Table.{nodes, son, is_fork};

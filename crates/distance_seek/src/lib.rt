@@ -1,4 +1,6 @@
 // The nearest white pixel under a grey neighbour.
+#![tactic(auto)]
+
 ghost use Rattle.std.specs.Prelude.{◌≡◌, true, ◌*◌, ◌/◌, ◌%◌, ◌^◌, ◌<◌, ◌≤◌, min};
 ghost use Rattle.quad.specs.Direction.{east_step, south_step};
 ghost use Rattle.table.specs.Table.{is_fork};

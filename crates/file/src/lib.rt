@@ -1,4 +1,6 @@
 // The sheet file: what reading and writing give; one file for each picture.
+#![tactic(auto)]
+
 use answer::Outcome;
 
 // Every record stands after a two-byte mark: 51, and 53 before the header or 4E before a node's type.

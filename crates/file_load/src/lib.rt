@@ -1,4 +1,6 @@
 // The programs' read: 15 straight after the test of n.
+#![tactic(auto)]
+
 ghost use Rattle.std.specs.Prelude.{◌≡◌};
 ghost use Rattle.file_load.specs.Load.{too_large, Loads};
 

@@ -1,4 +1,6 @@
 // A file's table: two ways to read, which agree, and then the nodes in preorder (`sheet_read`).
+#![tactic(auto)]
+
 ghost use Rattle.std.specs.Prelude.{◌≡◌, ◌+◌, ◌≤◌, length, get_or};
 ghost use Rattle.file.specs.File.{open_of};
 ghost use Rattle.file.specs.Calls.{Reads};

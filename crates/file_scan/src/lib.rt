@@ -1,4 +1,6 @@
 // Reading a sheet file at speed: where its block ends, or 0 where something is wrong.
+#![tactic(auto)]
+
 ghost use Rattle.std.specs.Prelude.{◌≡◌, ◌+◌, ◌<◌, ◌≤◌, length, get_or};
 ghost use Rattle.file.specs.File.{block_at, four_at};
 ghost use Rattle.file.specs.Reading.{end_of, stands_at, same_type, FourBytes, pixel_types};

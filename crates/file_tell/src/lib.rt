@@ -1,4 +1,6 @@
 // Reading a sheet file byte by byte: the first fault, with its place.
+#![tactic(auto)]
+
 ghost use Rattle.std.specs.Prelude.{◌≡◌, ◌+◌, ◌<◌, ◌≤◌, length};
 ghost use Rattle.file.specs.File.{block_at, four_at};
 ghost use Rattle.file.specs.Reading.{marks_of, record_of, told, Reaches, FourReach, header_of, count_of, closing_of};

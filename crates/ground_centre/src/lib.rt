@@ -1,4 +1,6 @@
 // A node's centre on the ground: the ranges are tested, then each operation is rounded once (`sheet_centre`).
+#![tactic(auto)]
+
 ghost use Rattle.std.specs.Prelude.{◌≡◌, ◌^◌, ◌≤◌, ◌<◌};
 ghost use Rattle.quad.specs.Numbers.{top_level};
 ghost use Rattle.table.specs.Rules.{Asked};

@@ -1,4 +1,6 @@
 // The eight neighbours of a son from those of its father.
+#![tactic(auto)]
+
 ghost use Rattle.std.specs.Prelude.{◌≡◌, ◌<◌, ◌≤◌, eqb, replicate};
 ghost use Rattle.quad.specs.Numbers.{fork_type};
 ghost use Rattle.table.specs.Table.{nodes};

@@ -1,5 +1,7 @@
 // The leaf at a corner of a node, beside one of its sides or diagonally beyond it (`sheet_corner_leaf`,
 // `sheet_diagonal_leaf`).
+#![tactic(auto)]
+
 ghost use Rattle.std.specs.Prelude.{◌≡◌, ◌<◌};
 ghost use Rattle.table.specs.Table.{nodes};
 ghost use Rattle.table.specs.Rules.{Accepted};

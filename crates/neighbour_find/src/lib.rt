@@ -1,4 +1,6 @@
 // A node's neighbour in any of eight directions, by one climb and one descent (`sheet_neighbour`).
+#![tactic(auto)]
+
 ghost use Rattle.std.specs.Prelude.{◌≡◌, ◌<◌};
 ghost use Rattle.quad.specs.Direction.{common_side_of};
 ghost use Rattle.table.specs.Table.{nodes};

@@ -1,4 +1,6 @@
 // The register in a lent slice of structs.
+#![tactic(auto)]
+
 ghost use Rattle.std.specs.Prelude.{◌≡◌, ◌<◌, ◌≤◌, length, get_or, set};
 ghost use Rattle.base.specs.Tab.{overlay};
 ghost use Rattle.table.specs.Rules.{Asked};

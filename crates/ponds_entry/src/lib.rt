@@ -1,4 +1,6 @@
 // An entry of the register, by value and in words.
+#![tactic(auto)]
+
 ghost use Rattle.std.specs.Prelude.{◌≡◌, length, ◌+◌, ◌*◌, ◌≤◌, ◌<◌, min, max};
 ghost use Rattle.ponds_entry.specs.Gathered.{empty_pond, grown_of, Fitting};
 ghost use Rattle.ponds_entry.specs.Words.{pond_at, put_at};

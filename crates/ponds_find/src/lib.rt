@@ -1,4 +1,6 @@
 // The ponds of a sheet: their numbers, and the register in words (`sheet_ponds`) or in structs.
+#![tactic(auto)]
+
 ghost use Rattle.std.specs.Prelude.{◌≡◌, false, ◌*◌, ◌<◌, ◌≤◌, eqb, length};
 ghost use Rattle.answer.specs.Numbers.{room, value_of};
 ghost use Rattle.quad.specs.Numbers.{black, max_words};

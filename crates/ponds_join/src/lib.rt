@@ -1,4 +1,6 @@
 // Two sets joined, and a leaf labelled by what it touches.
+#![tactic(auto)]
+
 ghost use Rattle.std.specs.Prelude.{◌≡◌, ◌≤◌};
 ghost use Rattle.ponds_sets.specs.Walk.{Facing, Meets, Nexts};
 ghost use Rattle.ponds_sets.specs.Touch.{first_nonzero, black_of, Touching, LabelsAs, one_if_nonzero, differ_of};

@@ -1,4 +1,6 @@
 // The walk that labels the black leaves.
+#![tactic(auto)]
+
 ghost use Rattle.std.specs.Prelude.{◌≡◌, true, length};
 ghost use Rattle.table.specs.Table.{nodes, is_fork};
 ghost use Rattle.table.specs.Rules.{Accepted};

@@ -1,4 +1,6 @@
 // A leaf, or four pixels under a fork, labelled in the walk.
+#![tactic(auto)]
+
 ghost use Rattle.std.specs.Prelude.{◌≡◌, true, ◌+◌, ◌*◌, ◌≤◌, length};
 ghost use Rattle.ponds_sets.specs.Lines.{across};
 ghost use Rattle.table.specs.Table.{is_fork};

@@ -1,4 +1,6 @@
 // A leaf, or the four pixels of a fork, entered into the register.
+#![tactic(auto)]
+
 ghost use Rattle.std.specs.Prelude.{◌≡◌, true, length, get_or, ◌+◌, ◌*◌, ◌≤◌, ◌<◌};
 ghost use Rattle.table.specs.Table.{nodes, son, is_fork};
 ghost use Rattle.ponds_entry.specs.Gathered.{Fitting};

@@ -1,4 +1,6 @@
 // The leaders of the ponds' sets stand in queues, one for each row of the sheet.
+#![tactic(auto)]
+
 ghost use Rattle.std.specs.Prelude.{◌≡◌};
 ghost use Rattle.ponds_queues.specs.Queues.{linked_of, head_of, Room, Stood, Reached, Through};
 

@@ -1,4 +1,6 @@
 // The ponds' numbers by rows, from their leaders.
+#![tactic(auto)]
+
 ghost use Rattle.std.specs.Prelude.{◌≡◌};
 ghost use Rattle.ponds_sets.specs.Labelled.{Labelled};
 ghost use Rattle.ponds_ranks.specs.Counts.{Row, RowOff, Rows, RowsOff};

@@ -1,4 +1,6 @@
 // The register in words: every leaf under the root is entered, each with its block.
+#![tactic(auto)]
+
 ghost use Rattle.std.specs.Prelude.{◌≡◌, true, length, replicate, ◌*◌, ◌≤◌};
 ghost use Rattle.base.specs.Tab.{overlay};
 ghost use Rattle.table.specs.Table.{is_fork};

@@ -1,4 +1,6 @@
 // A leaf joined with all that lies along its sides.
+#![tactic(auto)]
+
 ghost use Rattle.std.specs.Prelude.{◌≡◌, ◌+◌, ◌*◌, ◌≤◌, length};
 ghost use Rattle.ponds_sets.specs.Lines.{across};
 ghost use Rattle.ponds_sets.specs.Walk.{Shore, Shores, Quiet, ToSides, Sides, LinesFilled};

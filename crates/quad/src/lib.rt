@@ -1,4 +1,6 @@
 // Quadtrees: a block's side, four like leaves, and document 000's four tables, read by direction and quadrant number.
+#![tactic(auto)]
+
 ghost use Rattle.std.specs.Prelude.{◌≡◌, cond, ◌<◌, ◌≤◌, ◌^◌, eqb};
 ghost use Rattle.quad.specs.Numbers.{top_level, is_type};
 ghost use Rattle.quad.specs.Direction.{adj_of, reflect_of, opquad_of, common_side_of};

@@ -1,4 +1,6 @@
 // Building: a raster's table, its nodes counted first and then written in preorder (`sheet_build`).
+#![tactic(auto)]
+
 ghost use Rattle.std.specs.Prelude.{length};
 ghost use Rattle.quad.specs.Numbers.{none};
 ghost use Rattle.raster.specs.Calls.{Building};

@@ -1,4 +1,6 @@
 // The tests of a raster: its level, its length, its bytes.
+#![tactic(auto)]
+
 ghost use Rattle.std.specs.Prelude.{◌≡◌, ◌%◌, ◌≤◌, ◌^◌, length};
 ghost use Rattle.quad.specs.Numbers.{top_level};
 ghost use Rattle.raster.specs.Raster.{raster_length, pixels_from};

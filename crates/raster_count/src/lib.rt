@@ -1,4 +1,6 @@
 // The first pass of building: types noted, nodes counted.
+#![tactic(auto)]
+
 ghost use Rattle.std.specs.Prelude.{◌≡◌, ◌+◌, ◌*◌, ◌/◌, ◌%◌, ◌≤◌, ◌<◌, ◌^◌, length};
 ghost use Rattle.quad.specs.Tree.{colour, size_of, tree_of};
 ghost use Rattle.raster.specs.Raster.{picture_of};

@@ -1,4 +1,6 @@
 // Decoding: a table's raster, painted from the root down (`sheet_decode`).
+#![tactic(auto)]
+
 ghost use Rattle.std.specs.Prelude.{true, ◌≡◌, length};
 ghost use Rattle.table.specs.Table.{is_fork};
 ghost use Rattle.raster.specs.Calls.{Decoding};

@@ -1,4 +1,6 @@
 // A leaf's block filled, row by row.
+#![tactic(auto)]
+
 ghost use Rattle.std.specs.Prelude.{◌≡◌, ◌+◌, ◌≤◌, ◌^◌, length};
 ghost use Rattle.quad.specs.Numbers.{top_level};
 ghost use Rattle.quad.specs.Tree.{colour};

@@ -1,4 +1,6 @@
 // Pixels looked at many at once, as parts of one number.
+#![tactic(auto)]
+
 ghost use Rattle.std.specs.Prelude.{◌≡◌, ◌+◌, ◌*◌, ◌≤◌, ◌<◌, length, get_or};
 ghost use Rattle.quad.specs.Numbers.{fork_type};
 ghost use Rattle.quad.specs.Tree.{colour, size_of, tree_of};

@@ -1,4 +1,6 @@
 // The types of blocks above level 4 noted, quarter by quarter, and so those of a whole sheet from level 3 up.
+#![tactic(auto)]
+
 ghost use Rattle.std.specs.Prelude.{◌≡◌, ◌-◌, ◌≤◌, ◌<◌, ◌^◌};
 ghost use Rattle.quad.specs.Numbers.{top_level};
 ghost use Rattle.raster_notes.specs.Notes.{slots_of, part_at, NotedSize, joined_of};

@@ -1,4 +1,6 @@
 // The types of a sheet's largest blocks, told once and noted.
+#![tactic(auto)]
+
 ghost use Rattle.std.specs.Prelude.{◌≡◌, ◌+◌, ◌≤◌, length};
 ghost use Rattle.raster_notes.specs.Notes.{NotedSize, Lies, Parts};
 ghost use Rattle.raster_notes.specs.Notes.{EightToNote, EightNoted, QuartersToNote};

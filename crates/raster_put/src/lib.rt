@@ -1,4 +1,6 @@
 // The second pass of building, for the smallest blocks.
+#![tactic(auto)]
+
 ghost use Rattle.std.specs.Prelude.{length};
 ghost use Rattle.raster_put.specs.Putting.{BlockToPut, PixelsToPut, BlockPut};
 

@@ -1,5 +1,7 @@
 // The row program: reads one sheet file from standard input and prints its rows, run by run, as the row walk gives
 // them.
+#![tactic(auto)]
+
 ghost use Rattle.table.specs.Rules.{Accepted};
 ghost use Rattle.walk_rows.specs.Whole.{Tallied};
 

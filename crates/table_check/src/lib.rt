@@ -1,5 +1,7 @@
 // The check (`sheet_check`), and the tests that every other call begins with. A sound table is accepted by a fast way,
 // and only another one is gone through for the name of its fault.
+#![tactic(auto)]
+
 ghost use Rattle.std.specs.Prelude.{◌≡◌};
 ghost use Rattle.table.specs.Rules.{faults_of, length_ok, sizes_of, check_of, each_node_of, asked_of, Sized};
 

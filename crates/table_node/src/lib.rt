@@ -1,4 +1,6 @@
 // A node's words, read and written; its block, and its level.
+#![tactic(auto)]
+
 ghost use Rattle.std.specs.Prelude.{◌≡◌, ◌+◌, ◌*◌, ◌<◌, ◌≤◌, length};
 ghost use Rattle.table.specs.Rules.{Asked, depth_to};
 ghost use Rattle.table.specs.Nodes.{level_of, son_type};

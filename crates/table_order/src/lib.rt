@@ -1,6 +1,8 @@
 // Accepting a sound table that stands in preorder, as building and reading write it: a fork's NW son is the next node,
 // and each other son the one after all that is below its brother, so each node's number is known before it is read. A
 // table in another order, or of level 1, is left to `table_seen`.
+#![tactic(auto)]
+
 ghost use Rattle.std.specs.Prelude.{◌≡◌, true, ◌+◌, ◌*◌, ◌<◌, ◌≤◌, length};
 ghost use Rattle.table_order.specs.Order.{two_are, leaf_from, ForkOf, Named, needless_fork, Ordered};
 

@@ -1,4 +1,6 @@
 // The check's slow way, which names the fault: the six rules of document 01 for each node, nodes in rising number.
+#![tactic(auto)]
+
 ghost use Rattle.std.specs.Prelude.{◌≡◌, true, ◌+◌, ◌<◌, ◌≤◌, eqb, length};
 ghost use Rattle.quad.specs.Numbers.{max_words};
 ghost use Rattle.table.specs.Table.{nodes, father, son};

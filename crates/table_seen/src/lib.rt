@@ -1,6 +1,8 @@
 // Accepting a sound table, in any numbering, in one pass from the root down: each fork is seen once, its level in hand,
 // and its four sons are tested there. A node has one father word, so it is seen at most once; the table is sound if all
 // its nodes are seen.
+#![tactic(auto)]
+
 ghost use Rattle.std.specs.Prelude.{◌≡◌, true, ◌<◌, ◌≤◌, eqb};
 ghost use Rattle.quad.specs.Numbers.{top_level};
 ghost use Rattle.table.specs.Table.{nodes, is_fork};

@@ -1,5 +1,7 @@
 // When a table is sound, as the two fast ways find it: all nodes are seen from the root. That these are exactly the
 // accepted tables is proved here (`SoundExactly`).
+#![tactic(auto)]
+
 ghost use Rattle.std.specs.Prelude.{◌≡◌};
 ghost use Rattle.table.specs.Table.{nodes};
 ghost use Rattle.table_sound.specs.Seen.{Four, like_leaves};

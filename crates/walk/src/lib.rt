@@ -1,4 +1,6 @@
 // The row walk: a place goes in by value, and the next place comes back beside the answer.
+#![tactic(auto)]
+
 ghost use Rattle.std.specs.Prelude.{◌≡◌, true, ◌<◌, ◌≤◌, ◌^◌};
 ghost use Rattle.quad.specs.Numbers.{top_level, fork_type};
 ghost use Rattle.table.specs.Table.{node_type};

@@ -1,4 +1,6 @@
 // What the whole walk gives: rows, runs and links.
+#![tactic(auto)]
+
 ghost use Rattle.std.specs.Prelude.{◌≡◌, ◌+◌, ◌<◌, ◌≤◌};
 ghost use Rattle.walk_rows.specs.Rows.{moves};
 
