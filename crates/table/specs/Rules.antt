@@ -4,7 +4,7 @@ use Rattle.std.specs.Prelude.{Bool, true, false, not, cond, ◌&&◌, ◌||◌, 
 use Rattle.answer.specs.declared.Outcome.{Outcome}
 use Rattle.answer.specs.declared.Outcome.TheVariants.{Answered, BadLevel, WrongLength, BadNode, TooDeep, NeedlessFork, NoNode}
 use Rattle.answer.specs.Numbers.{and_then, unless}
-use Rattle.quad.specs.Numbers.{top_level, top_colour, is_type, none, max_words}
+use Rattle.quad.specs.Numbers.{top_level, top_colour, none, max_words}
 use Rattle.table.specs.Table.{nodes, father, son, node_type, is_fork}
 
 -- the number of father links from p to the root, or k where there are more
@@ -22,7 +22,7 @@ one b = cond b 1 0
 
 -- 1: type is 0, 1 or 2
 unfoldable pub type_ok : List ℕ → ℕ → Bool
-type_ok T p = is_type (node_type T p)
+type_ok T p = leb (node_type T p) top_colour || is_fork T p
 
 -- 2: node 0 has father None; any other has a father number below p
 unfoldable pub father_ok : List ℕ → ℕ → Bool
