@@ -2,14 +2,18 @@
 // distances and walks.
 #![tactic(auto)]
 
+use std::io::{self, BufWriter, Write};
+
 mod built;
 mod distances;
 mod named_blocks;
 mod walks;
 
-fn main() {
-    built::all();
-    named_blocks::all();
-    distances::all();
-    walks::all();
+fn main(rt: HostRuntime) -> io::Result<()> {
+    let mut out = BufWriter::new(rt.alloc(), io::writer(&rt))?;
+    built::all(&mut out)?;
+    named_blocks::all(&mut out)?;
+    distances::all(&mut out)?;
+    walks::all(&mut out)?;
+    out.flush()
 }

@@ -2,10 +2,14 @@
 // and behind another colon the register.
 #![tactic(auto)]
 
+use std::io::{self, BufWriter, Write};
+
 mod in_words;
 mod structs;
 
-fn main() {
-    in_words::all();
-    structs::all();
+fn main(rt: HostRuntime) -> io::Result<()> {
+    let mut out = BufWriter::new(rt.alloc(), io::writer(&rt))?;
+    in_words::all(&mut out)?;
+    structs::all(&mut out)?;
+    out.flush()
 }

@@ -2,6 +2,7 @@
 use answer::Outcome;
 use cases_shared::{pictures, say, sheet_a};
 use ponds::Pond;
+use std::io::{self, Write};
 
 // The most nodes of a sheet here; a register has room for three ponds.
 const NODES: usize = 9;
@@ -47,25 +48,26 @@ fn words(reg: [Pond; 3]) -> [u32; 15] {
     ]
 }
 
-fn of_table(name: &[u8], n: u32, table: &[u32]) {
+fn of_table(out: &mut impl Write, name: &str, n: u32, table: &[u32]) -> io::Result<()> {
     let mut numbers = [7u32; NODES];
     let call = in_structs(n, table, &mut numbers);
     let given = call.given;
     let reg = call.reg;
-    say::case(name, answer::number(given));
-    say::list(&numbers);
+    say::case(out, name, answer::number(given))?;
+    say::list(out, &numbers)?;
     let held = words(reg);
-    say::ponds(&held);
+    say::ponds(out, &held)
 }
 
-pub fn all() {
+pub fn all(out: &mut impl Write) -> io::Result<()> {
     let table = sheet_a::preorder();
-    of_table(b"structs, sheet A", 2, &table);
+    of_table(out, "structs, sheet A", 2, &table)?;
     let mut other = [0u32; pictures::WORDS];
     let given = pictures::build(2, pictures::J, &mut other);
     of_table(
-        b"structs, 9, (j) and three structs",
+        out,
+        "structs, 9, (j) and three structs",
         2,
         pictures::filled(given, &other),
-    );
+    )
 }

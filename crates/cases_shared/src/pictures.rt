@@ -1,5 +1,6 @@
 // Pictures of up to 64 pixels, a pixel to a bit of a number, row by row, 1 for black; and building and decoding them.
 use crate::{parts, say};
+use std::io::{self, Write};
 
 // The most pixels of a picture here, and the words of a table with room for it.
 const PIXELS: usize = 256;
@@ -85,9 +86,16 @@ pub fn build(n: u32, picture: u64, table: &mut [u32]) -> u64 {
 }
 
 // A table decoded to a raster of this many pixels, printed with this many to a row.
-pub fn decode(name: &[u8], n: u32, table: &[u32], count: usize, side: usize) {
+pub fn decode(
+    out: &mut impl Write,
+    name: &str,
+    n: u32,
+    table: &[u32],
+    count: usize,
+    side: usize,
+) -> io::Result<()> {
     let mut raster = [7u8; PIXELS];
     let lent = parts::bytes_to_fill(&mut raster, count);
-    say::case(name, sheet::sheet_decode(n, table, lent));
-    say::raster(lent, side);
+    say::case(out, name, sheet::sheet_decode(n, table, lent))?;
+    say::raster(out, lent, side)
 }

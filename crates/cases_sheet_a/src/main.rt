@@ -3,10 +3,14 @@
 // value, and behind a colon what a lent buffer then holds.
 #![tactic(auto)]
 
+use std::io::{self, BufWriter, Write};
+
 mod questions;
 mod small_tables;
 
-fn main() {
-    small_tables::all();
-    questions::all();
+fn main(rt: HostRuntime) -> io::Result<()> {
+    let mut out = BufWriter::new(rt.alloc(), io::writer(&rt))?;
+    small_tables::all(&mut out)?;
+    questions::all(&mut out)?;
+    out.flush()
 }

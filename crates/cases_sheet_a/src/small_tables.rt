@@ -2,96 +2,80 @@
 // it.
 ghost use Rattle.std.specs.Prelude.{◌<◌};
 
-use cases_shared::say;
+use std::io::{self, Write};
 
-fn flag(yes: bool) {
-    if yes {
-        say::text(b" T");
-    } else {
-        say::text(b" F");
-    }
+fn flag(yes: bool) -> &'static str {
+    if yes { "T" } else { "F" }
 }
 
-fn quadrant(q: usize) {
+fn quadrant(q: usize) -> &'static str {
     match q {
-        0 => say::text(b" NW"),
-        1 => say::text(b" NE"),
-        2 => say::text(b" SW"),
-        _ => say::text(b" SE"),
+        0 => "NW",
+        1 => "NE",
+        2 => "SW",
+        _ => "SE",
     }
 }
 
 // A side, or `-` where there is none.
-pub fn side(d: usize) {
+pub fn side(d: usize) -> &'static str {
     match d {
-        0 => say::text(b" N"),
-        1 => say::text(b" E"),
-        2 => say::text(b" S"),
-        3 => say::text(b" W"),
-        _ => say::text(b" -"),
+        0 => "N",
+        1 => "E",
+        2 => "S",
+        3 => "W",
+        _ => "-",
     }
 }
 
-fn adj(d: usize)
+fn adj(out: &mut impl Write, d: usize) -> io::Result<()>
     requires { d < 4 }
 {
-    say::text(b"ADJ of");
-    side(d);
-    say::colon();
-    flag(quad::adj(d, 0));
-    flag(quad::adj(d, 1));
-    flag(quad::adj(d, 2));
-    flag(quad::adj(d, 3));
-    say::end();
+    write!(out, "ADJ of {}:", side(d))?;
+    for q in 0..4 {
+        write!(out, " {}", flag(quad::adj(d, q)))?;
+    }
+    writeln!(out)
 }
 
-fn reflect(d: usize)
+fn reflect(out: &mut impl Write, d: usize) -> io::Result<()>
     requires { d < 4 }
 {
-    say::text(b"REFLECT of");
-    side(d);
-    say::colon();
-    quadrant(quad::reflect(d, 0));
-    quadrant(quad::reflect(d, 1));
-    quadrant(quad::reflect(d, 2));
-    quadrant(quad::reflect(d, 3));
-    say::end();
+    write!(out, "REFLECT of {}:", side(d))?;
+    for q in 0..4 {
+        write!(out, " {}", quadrant(quad::reflect(d, q)))?;
+    }
+    writeln!(out)
 }
 
-fn opquad() {
-    say::text(b"OPQUAD:");
-    quadrant(quad::opquad(0));
-    quadrant(quad::opquad(1));
-    quadrant(quad::opquad(2));
-    quadrant(quad::opquad(3));
-    say::end();
+fn opquad(out: &mut impl Write) -> io::Result<()> {
+    write!(out, "OPQUAD:")?;
+    for q in 0..4 {
+        write!(out, " {}", quadrant(quad::opquad(q)))?;
+    }
+    writeln!(out)
 }
 
-fn common_side(q: usize)
+fn common_side(out: &mut impl Write, q: usize) -> io::Result<()>
     requires { q < 4 }
 {
-    say::text(b"COMMONSIDE of");
-    quadrant(q);
-    say::colon();
-    side(quad::common_side(q, 0));
-    side(quad::common_side(q, 1));
-    side(quad::common_side(q, 2));
-    side(quad::common_side(q, 3));
-    say::end();
+    write!(out, "COMMONSIDE of {}:", quadrant(q))?;
+    for other in 0..4 {
+        write!(out, " {}", side(quad::common_side(q, other)))?;
+    }
+    writeln!(out)
 }
 
-pub fn all() {
-    adj(0);
-    adj(1);
-    adj(2);
-    adj(3);
-    reflect(0);
-    reflect(1);
-    reflect(2);
-    reflect(3);
-    opquad();
-    common_side(0);
-    common_side(1);
-    common_side(2);
-    common_side(3);
+pub fn all(out: &mut impl Write) -> io::Result<()> {
+    for d in 0..4 {
+        adj(out, d)?;
+    }
+    for d in 0..4 {
+        reflect(out, d)?;
+    }
+    opquad(out)?;
+    for q in 0..4 {
+        common_side(out, q)?;
+    }
+    Ok(())
 }
