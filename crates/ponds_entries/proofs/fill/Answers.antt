@@ -1,59 +1,53 @@
--- `ponds_entries::fill` meets its contract: a walk of its MIR, by hand. The borrow of the register is opened once,
--- before the loops, and closed after them; between the two the row of entries is the function's own, and is lent to
--- each call for a lifetime of its own. The first loop has an empty entry put in each place (`cleared`); the second has
--- the entry of a node's pond grow by the node's block (`filled`). All that is known of the functions called is that
--- they meet their contracts.
-use Prim.Native.Nat.{ℕ}
-use mathlib.Core.List.{List, ◌∷◌}
-use mir.Syntax.{Lifetime, Ty, named, mut, imm, w32, w64, ty_int, ty_ref}
-use denote.Memory.{pointee}
-use denote.Builtin.{usize, u32}
-use denote.Ref.{Bor}
-use denote.Slice.{slice_ty}
-use denote.Struct.Laws as LL
-use denote.Signature.{plain}
-use denote.Triple.Walked.{Stays, stay_none, stay_none_slice, stay_slice}
-use denote.Exit.{yes}
-use Rattle.ponds.specs.declared.Pond.{Pond}
-use Rattle.ponds.specs.contracts.Pond as T
-use Rattle.ponds.proofs.Pond.TheLaws as T'
-use Rattle.ponds_entry.specs.contracts.empty as empty
-use Rattle.ponds_entry.proofs.empty.Symbol as empty_def
-use Rattle.ponds_entry.proofs.empty.Met as empty-thm
-use Rattle.ponds_entries.specs.contracts.number_at as number
-use Rattle.ponds_entries.proofs.number_at.Symbol as number-def
-use Rattle.ponds_entries.proofs.number_at.Met as number-thm
-use Rattle.ponds_entries.specs.contracts.put as put
-use Rattle.ponds_entries.proofs.put.Symbol as put-def
-use Rattle.ponds_entries.proofs.put.Met as put-thm
-use Rattle.ponds_entries.specs.contracts.grow as grow
-use Rattle.ponds_entries.proofs.grow.Symbol as grow-def
-use Rattle.ponds_entries.proofs.grow.Met as grow-thm
-use Rattle.ponds_entries.specs.contracts.fill as fill
+use Rattle.std.proofs.Common.{◌≡◌, ◌<◌, ◌-◌, ℕ, suc, length, get_or, arith, sym, ap, ◌∙◌}
+use Rattle.table.specs.Table.{nodes}
+use Rattle.ponds_entry.specs.Gathered.{empty_pond}
+use Rattle.ponds_entries.proofs.SliceLaws.{cleared, cleared_none, cleared_more, cleared_length, filled_none, filled_length, filled_all, filled_same, filled_more, filled_fits}
 use Rattle.ponds_entries.proofs.fill.Goals as goal
+use Rattle.ponds_entries.proofs.fill.Goals.{then-k-ne0, else-k-ne0}
 
-stayed : Stays (fill.ended).signature.params (fill.ended).kept 
-stayed = (
-  stay_none (λ _. u32) yes,
-  (
-    stay_none_slice (0 ∷ []) tt (plain (λ _. u32)) yes,
+pub loop-i-init : goal.loop-i-init
+loop-i-init c = (omega arith, cleared_none c.args.reg.now)
+
+pub loop-i-preserved : goal.loop-i-preserved
+loop-i-preserved c =
+    (omega arith, c.put.ensures ∙ rw c.loop-i.invariant.1 (cleared_more c.args.reg.now c.loop-i.i c.empty.result (omega arith) c.empty.ensures))
+
+pub loop-p-init : goal.loop-p-init
+loop-p-init c =
+    let e : c.loop-i.i ≡ c.args.count = omega arith in
+    (omega arith, c.loop-i.invariant.1 ∙ ap (cleared c.args.reg.now) e ∙ filled_none c.args.n c.args.table.now c.args.numbers.now c.args.count c.args.reg.now)
+
+-- the node passed has the number of a pond
+pub grow-requires : goal.grow-requires
+grow-requires c =
+    let s = c.args in
+    let sheet = c.requires.0 in
+    let p = c.loop-p.p in
+    let k = c.number_at-k.result in
+    let node : p < nodes s.table.now = omega (arith, sheet.words) in
+    let few : k - 1 < s.count = omega (arith, c.number_at-k.ensures, sheet.few p node) in
+    rw c.loop-p.invariant.1
     (
-      stay_none_slice (1 ∷ []) tt (plain (λ _. u32)) yes,
-      (stay_slice (2 ∷ []) tt (plain (λ _. T.the_row)), (stay_none (λ _. usize) yes, tt)),
-    ),
-  ),
+      omega (arith, few, filled_length s.n s.table.now s.numbers.now s.count s.reg.now p c.requires.1),
+      (record { accepted = sheet.accepted; node = node }, filled_fits s.n s.table.now s.numbers.now s.count s.reg.now p (k - 1) few sheet node),
+    )
 
-Arg : Type 0 
-Arg = ℕ × (Bor (List ℕ) × (Bor (List ℕ) × (Bor (List Pond) × (ℕ × Unit {0}))))
+pub loop-p-preserved : goal.loop-p-preserved
+loop-p-preserved c =
+    let s = c.args in
+    let sheet = c.requires.0 in
+    let p = c.loop-p.p in
+    let k = c.number_at-k.result in
+    let is = c.number_at-k.ensures in
+    elim c.if-k-ne0.branch [
+      then-k-ne0 w ↦
+        let few : k - 1 < s.count = omega (arith, is, w.if-k-ne0.true, sheet.words, sheet.few p (omega (arith, sheet.words))) in
+        let named : get_or s.numbers.now p 0 ≡ suc (k - 1) = omega (arith, is, w.if-k-ne0.true) in
+        (omega arith, w.reg-is ∙ w.grow.ensures ∙ rw c.loop-p.invariant.1 (filled_more s.n s.table.now s.numbers.now s.count s.reg.now p (k - 1) few named))
+      | else-k-ne0 w ↦ (omega arith, w.reg-is ∙ c.loop-p.invariant.1 ∙ filled_same s.n s.table.now s.numbers.now s.count s.reg.now p k is w.if-k-ne0.false)
+    ]
 
-word : Ty 
-word = ty_int w64
-
-shared : ℕ → Ty 
-shared k = slice_ty (ty_ref (named k) imm (ty_int w32))
-
-entry : Ty 
-entry = pointee (T.the_row).written
-
-lent : Lifetime → Ty 
-lent ℓ = slice_ty (ty_ref ℓ mut entry)
+pub returns : goal.returns
+returns c =
+    let e : c.loop-p.p ≡ nodes c.args.table.now = omega (arith, c.requires.0.words) in
+    c.loop-p.invariant.1 ∙ filled_all c.args.n c.args.table.now c.args.numbers.now c.args.count c.args.reg.now c.requires.0 c.loop-p.p e
