@@ -51,7 +51,7 @@ odd_number d s (suc q) k l = fin_number _ _ _
 units_number : (f : Format) (s : Bool) (q k : ℕ) → Number (units f s q k)
 unfolding units
 units_number f s q k =
-    cond_case Number (ltb (q * 2 ^ k) (2 ^ (low f + suc (emax f)))) (odd (suc (prec f)) s q k (low f)) (inf s) (λ h. odd_number _ s q k _) (λ h. inf_number s)
+    cond_case Number (ltb (q * 2 ^ k) (2 ^ (low f + suc (emax f)))) (odd (suc (prec f)) s q k (low f)) (inf s) (λ h. odd_number (suc (prec f)) s q k (low f)) (λ h. inf_number s)
 
 round_number : (f : Format) (s : Bool) (a b : ℕ) → Number (round f s a b)
 unfolding round

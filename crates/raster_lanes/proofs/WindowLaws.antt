@@ -28,7 +28,8 @@ tree_moved f a b (suc l) x y =
     let v : 2 * (b + y) ≡ 2 * b + 2 * y = omega arith in
     let us : 2 * a + 2 * x + 1 ≡ 2 * a + (2 * x + 1) = omega arith in
     let vs : 2 * b + 2 * y + 1 ≡ 2 * b + (2 * y + 1) = omega arith in
-    rw (ea, eb, u, v, us, vs, tree_moved f (2 * a) (2 * b) l (2 * x) (2 * y), tree_moved f (2 * a) (2 * b) l (2 * x + 1) (2 * y), tree_moved f (2 * a) (2 * b) l (2 * x) (2 * y + 1), tree_moved f (2 * a) (2 * b) l (2 * x + 1) (2 * y + 1))
+    let q : (i j : ℕ) → tree_of (λ s t. f (a * 2 ^ suc l + s) (b * 2 ^ suc l + t)) l i j ≡ tree_of f l (2 * a + i) (2 * b + j) = λ i j. rw (ea, eb) (tree_moved f (2 * a) (2 * b) l i j) in
+    rw (q (2 * x) (2 * y), q (2 * x + 1) (2 * y), q (2 * x) (2 * y + 1), q (2 * x + 1) (2 * y + 1), u, v, us, vs)
 
 -- the row j of eight pixels, as one number
 unfoldable pub row_of : (ℕ → ℕ → ℕ) → ℕ → ℕ

@@ -40,7 +40,12 @@ module _ {n x y p words : ℕ} {R : List ℕ} (b : BlockToPut n R 1 x y p words)
   pixels_to_put mixed =
       let e = four_fork (picture_of n R) (λ i j. b.picture.colours _) x y (λ z. mixed (omega (arith, z))) in
       let five : size_of (tree_of (picture_of n R) 1 x y) ≡ 5 = rw e (unfold size_of tree_of in refl) in
-      record { picture = b.picture; on = b.on; fork = e; room = omega (arith, b.ready.room, five); few = omega (arith, b.ready.few, five) }
+      record { picture = b.picture; on = b.on; room = omega (arith, b.ready.room, five); few = omega (arith, b.ready.few, five) }
+
+  -- what a fork over its four pixels was written for
+  pub pixels_are : (s % 4 ≡ 0 → ⊥) → (f : ℕ) (before after : List ℕ) (r : ℕ) → Put (four_over (picture_of n R) 0 x y) f p before after r → BlockPut n R 1 x y f p before after r
+  pixels_are mixed f before after r h =
+      let e = four_fork (picture_of n R) (λ i j. b.picture.colours _) x y (λ z. mixed (omega (arith, z))) in rw e h
 
 -- a block of level 2, s being the sum of its pixels
 module _ {n x y p words : ℕ} {R : List ℕ} (t : BlockToPut n R 2 x y p words) (s : ℕ) (es : s ≡ sixteen_sum (picture_of n R) x y) where

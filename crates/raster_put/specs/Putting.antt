@@ -1,10 +1,9 @@
 -- What the second pass of building asks and gives, for a block of any level.
-use Rattle.std.specs.Prelude.{List, ◌≡◌, ℕ, ◌+◌, ◌*◌, ◌≤◌}
+use Rattle.std.specs.Prelude.{List, ℕ, ◌+◌, ◌*◌, ◌≤◌}
 use Rattle.quad.specs.Numbers.{max_words}
 use Rattle.quad.specs.Tree.{tree_of}
 use Rattle.table.specs.Writing.{Ready, Put}
 use Rattle.raster.specs.Raster.{picture_of}
-use Rattle.raster.specs.Sums.{four_over}
 use Rattle.raster.specs.Blocks.{Picture, OnSheet}
 
 -- the tree of the block (x, y) of level l on the sheet R of level n may be written from node p on, in a table of so
@@ -14,11 +13,10 @@ pub record BlockToPut (n : ℕ) (R : List ℕ) (l x y p words : ℕ) : Type 0 wh
   pub on : OnSheet n l x y
   pub ready : Ready (tree_of (picture_of n R) l x y) p words
 
--- the block is one of level 1, and its four pixels are not alike: so it has five nodes
+-- a fork over the four pixels of the block (x, y) of level 1 may be written: it has five nodes
 pub record PixelsToPut (n : ℕ) (R : List ℕ) (x y p words : ℕ) : Type 0 where
   pub picture : Picture n R
   pub on : OnSheet n 1 x y
-  pub fork : tree_of (picture_of n R) 1 x y ≡ four_over (picture_of n R) 0 x y
   pub room : 6 * (p + 5) ≤ words
   pub few : p + 5 ≤ max_words
 

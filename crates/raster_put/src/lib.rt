@@ -2,6 +2,9 @@
 #![tactic(auto)]
 
 ghost use Rattle.std.specs.Prelude.{length};
+ghost use Rattle.table.specs.Writing.{Put};
+ghost use Rattle.raster.specs.Raster.{picture_of};
+ghost use Rattle.raster.specs.Sums.{four_over};
 ghost use Rattle.raster_put.specs.Putting.{BlockToPut, PixelsToPut, BlockPut};
 
 use raster_count::{pixel_at, sum_four, sum_sixteen};
@@ -18,7 +21,7 @@ fn put_pixels(
     father: u32,
 ) -> u32
     requires { PixelsToPut n raster.now x y p (length table.old) }
-    ensures { BlockPut n raster.now 1 x y father p table.old table.new result }
+    ensures { Put (four_over (picture_of n raster.now) 0 x y) father p table.old table.new result }
 {
     let west = 2 * x;
     let north = 2 * y;
