@@ -7,12 +7,6 @@ use Rattle.file_tell.proofs.+read_block_read_four.Goals as goal
 pub read_block-read_record-root-requires : goal.read_block-read_record-root-requires
 read_block-read_record-root-requires t c = omega (arith, some_block c.args.level)
 
--- LEFT read-block-enum-known-root : (t : ℕ) → read-block-lts.Need-enum-known-root (block-calls t) (read-block-at t) read-block.Post
--- read-block-enum-known-root t c = search rules
-
--- LEFT read-block-enum-told : (t : ℕ) → read-block-lts.Need-enum-told (block-calls t) (read-block-at t) read-block.Post
--- read-block-enum-told t c = search rules
-
 pub read_block-returns-in_default : goal.read_block-returns-in_default
 read_block-returns-in_default t c = search (block_wrong, rules)
 
@@ -34,35 +28,17 @@ read_block-returns t c = search (block_fork, rules)
 pub read_four-read_block-nw-requires : goal.read_four-read_block-nw-requires
 read_four-read_block-nw-requires t c = (omega arith, search (reach_1, rules))
 
--- LEFT read-four-enum-known-nw : (t : ℕ) → read-four-lts.Need-enum-known-nw (four-calls t) (read-four-at t) read-four.Post
--- read-four-enum-known-nw t c = search rules
-
--- LEFT read-four-enum-told : (t : ℕ) → read-four-lts.Need-enum-told (four-calls t) (read-four-at t) read-four.Post
--- read-four-enum-told t c = search rules
-
 pub read_four-returns-in_default : goal.read_four-returns-in_default
 read_four-returns-in_default t c = search (four_1, rules)
 
 pub read_four-read_block-ne-requires : goal.read_four-read_block-ne-requires
 read_four-read_block-ne-requires t c = (omega arith, search (reach_2, rules))
 
--- LEFT read-four-enum-known-ne : (t : ℕ) → read-four-lts.Need-enum-known-ne (four-calls t) (read-four-at t) read-four.Post
--- read-four-enum-known-ne t c = search rules
-
--- LEFT read-four-enum-told-2 : (t : ℕ) → read-four-lts.Need-enum-told-2 (four-calls t) (read-four-at t) read-four.Post
--- read-four-enum-told-2 t c = search rules
-
 pub read_four-returns-in_default-ne : goal.read_four-returns-in_default-ne
 read_four-returns-in_default-ne t c = search (four_2, rules)
 
 pub read_four-read_block-sw-requires : goal.read_four-read_block-sw-requires
 read_four-read_block-sw-requires t c = (omega arith, search (reach_3, rules))
-
--- LEFT read-four-enum-known-sw : (t : ℕ) → read-four-lts.Need-enum-known-sw (four-calls t) (read-four-at t) read-four.Post
--- read-four-enum-known-sw t c = search rules
-
--- LEFT read-four-enum-told-3 : (t : ℕ) → read-four-lts.Need-enum-told-3 (four-calls t) (read-four-at t) read-four.Post
--- read-four-enum-told-3 t c = search rules
 
 pub read_four-returns-in_default-sw : goal.read_four-returns-in_default-sw
 read_four-returns-in_default-sw t c = search (four_3, rules)
@@ -72,13 +48,7 @@ read_four-read_block-se-requires t c =
     let third = c in
     let second = third in
     let first = second in
-    (search rules, reach_4 _ _ _ _ first.read_block-nw.ensures _ _ first.nw-1.given.1 _ second.read_block-ne.ensures _ _ second.ne-1.given.1 _ third.read_block-sw.ensures _ _ third.sw-1.given.1 first.requires)
-
--- LEFT read-four-enum-known-se : (t : ℕ) → read-four-lts.Need-enum-known-se (four-calls t) (read-four-at t) read-four.Post
--- read-four-enum-known-se t c = search rules
-
--- LEFT read-four-enum-told-4 : (t : ℕ) → read-four-lts.Need-enum-told-4 (four-calls t) (read-four-at t) read-four.Post
--- read-four-enum-told-4 t c = search rules
+    (search rules, reach_4 _ _ _ _ first.read_block-nw.ensures _ _ first.in-Read.is _ second.read_block-ne.ensures _ _ second.in-Read-ne.is _ third.read_block-sw.ensures _ _ third.in-Read-sw.is first.requires)
 
 pub read_four-returns-in_default-se : goal.read_four-returns-in_default-se
 read_four-returns-in_default-se t c = search (four_4, rules)
@@ -88,7 +58,7 @@ read_four-overflow_add-result t c =
     let third = c in
     let second = third in
     let first = second in
-    omega (arith, some_block first.args.level, reach_3 _ _ _ _ first.read_block-nw.ensures _ _ first.nw-1.given.1 _ second.read_block-ne.ensures _ _ second.ne-1.given.1 first.requires, reach_4 _ _ _ _ first.read_block-nw.ensures _ _ first.nw-1.given.1 _ second.read_block-ne.ensures _ _ second.ne-1.given.1 _ third.read_block-sw.ensures _ _ third.sw-1.given.1 first.requires)
+    omega (arith, some_block first.args.level, reach_3 _ _ _ _ first.read_block-nw.ensures _ _ first.in-Read.is _ second.read_block-ne.ensures _ _ second.in-Read-ne.is first.requires, reach_4 _ _ _ _ first.read_block-nw.ensures _ _ first.in-Read.is _ second.read_block-ne.ensures _ _ second.in-Read-ne.is _ third.read_block-sw.ensures _ _ third.in-Read-sw.is first.requires)
 
 pub read_four-returns-then-like_leaves : goal.read_four-returns-then-like_leaves
 read_four-returns-then-like_leaves t c = search (four_like, rules)

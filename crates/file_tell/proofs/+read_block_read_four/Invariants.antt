@@ -5,5 +5,5 @@ use Rattle.file_tell.proofs.+read_block_read_four.Given as goal
 abbrev pub decreases-read_block : goal.decreases-read_block
 decreases-read_block l = 2 * l.level
 
-abbrev pub decreases-read_block : goal.decreases-read_block
-decreases-read_block l = 2 * l.level + 1
+abbrev pub decreases-read_four : goal.decreases-read_four
+decreases-read_four l = 2 * l.level + 1

@@ -5,6 +5,9 @@ use Rattle.table_order.proofs.OrderLaws.{no_order, passing_none, again_fork, aga
 use Prim.Native.Nat.{◌-◌}
 use mathlib.Core.Path.{ap}
 use mathlib.Core.Bool.{not}
+use mathlib.Core.Path.{ap}
+use mathlib.Core.Bool.{not}
+use Rattle.table_order.proofs.+in_order.Goals.{then-level-eq2+else-not-pixels, else-level-eq2+else-next-eq0}
 use Rattle.table_order.proofs.+in_order.Goals as goal
 
 pub overflow_add-p : goal.overflow_add-p
@@ -59,7 +62,7 @@ pub in_order-next-requires : goal.in_order-next-requires
 in_order-next-requires t c =
     let s = c in
     let l = c in
-    (omega (arith, s.measure, s.requires.1), (record { node = omega (arith, l.loop-q.invariant.room); fork = told_fork s.args.table.now l.loop-q.next _ c.word_at-in-loop-q.ensures c.if-word_at-eq-FORK.true; all = s.requires.0.all; few = s.requires.0.few }, omega (arith, s.requires.1, c.if-level-eq2.false)))
+    (omega (arith, c.decreases, c.requires.1), (record { node = omega (arith, l.loop-q.invariant.room); fork = told_fork s.args.table.now l.loop-q.next _ c.word_at-in-loop-q.ensures c.if-word_at-eq-FORK.true; all = s.requires.0.all; few = s.requires.0.few }, omega (arith, s.requires.1, c.if-level-eq2.false)))
 
 pub returns-then-next-eq0 : goal.returns-then-next-eq0
 returns-then-next-eq0 t c = no_order _ _ _
@@ -72,8 +75,10 @@ overflow_add-count t c = omega arith
 
 pub overflow_add-next-then-word_at-eq-FORK : goal.overflow_add-next-then-word_at-eq-FORK
 overflow_add-next-then-word_at-eq-FORK t c =
-    let s = c in
-    ⊎_elim (λ x. omega (arith, x.3, c.loop-q.invariant.room, s.requires.0.few)) (λ y. omega (arith, y.1.ensures.within, y.3, s.requires.0.few)) c.if-level-eq2.branch
+    elim c.if-level-eq2.branch [
+      then-level-eq2+else-not-pixels w ↦ omega (arith, w.next-is, c.loop-q.invariant.room, c.requires.0.few)
+      | else-level-eq2+else-next-eq0 w ↦ omega (arith, w.in_order-next.ensures.within, w.next-is, c.requires.0.few)
+    ]
 
 pub returns-then-count-q : goal.returns-then-count-q
 returns-then-count-q t c = no_order _ _ _
@@ -83,11 +88,13 @@ loop-q-smaller-else-count-q t c = omega arith
 
 pub loop-q-preserved-else-count-q : goal.loop-q-preserved-else-count-q
 loop-q-preserved-else-count-q t c =
-    let s = c in
-    let l = c in
-    let m = c in
-    let v = c in
-    ⊎_elim (λ x. again_pixels _ _ _ _ _ _ _ l.loop-q.invariant (omega arith) s.requires.0 m.word_at.ensures v.if-word_at-son.false _ _ c.word_at-then-word_at-eq-FORK.ensures c.if-word_at-fork.false x.0.taken _ x.1.ensures x.2.left x.3 (omega arith)) (λ y. again_fork _ _ _ _ _ _ _ l.loop-q.invariant (omega arith) s.requires.0 m.word_at.ensures v.if-word_at-son.false _ _ c.word_at-then-word_at-eq-FORK.ensures c.if-word_at-fork.false (rw y.3 y.1.ensures) (rw y.3 y.2.left) (omega arith)) c.if-level-eq2.branch
+    let i = c.loop-q.invariant in
+    let f = c.requires.0 in
+    let e = c.word_at-then-word_at-eq-FORK.ensures in
+    elim c.if-level-eq2.branch [
+      then-level-eq2+else-not-pixels w ↦ again_pixels _ _ _ _ _ _ _ i (omega arith) f c.word_at.ensures c.if-word_at-son.false _ _ e c.if-word_at-fork.false w.if-level-eq2.true _ w.pixels.ensures (ap not w.if-not-pixels.false) w.next-is (omega arith)
+      | else-level-eq2+else-next-eq0 w ↦ again_fork _ _ _ _ _ _ _ i (omega arith) f c.word_at.ensures c.if-word_at-son.false _ _ e c.if-word_at-fork.false (rw w.next-is w.in_order-next.ensures) (rw w.next-is w.if-next-eq0.false) (omega arith)
+    ]
 
 pub overflow_mul-son : goal.overflow_mul-son
 overflow_mul-son t c = omega arith

@@ -1,0 +1,21 @@
+-- `ponds_leaf::leaf`: its label, its sides, and the lines.
+use mathlib.Core.Path.{refl}
+use Rattle.ponds_sides.proofs.LeafLaws.{leaf_room, leaf_touched, leaf_shore, leaf_past}
+use borrow.Author.Rules.{rules}
+use Rattle.ponds_leaf.proofs.leaf.Goals as goal
+
+pub sides-requires : goal.sides-requires
+sides-requires c =
+    let s = c in
+    (λ b. leaf_shore s.requires _ _ (leaf_touched s.requires _ _ _ refl refl refl _ _ c.label_at-label.ensures) b, (leaf_room s.requires).0, (leaf_room s.requires).1)
+
+pub fill-requires : goal.fill-requires
+fill-requires c =
+    let s = c in
+    (s.requires.coming.long, (leaf_room s.requires).0, (leaf_room s.requires).1)
+
+-- LEFT same_length : tie.Need-same-length
+-- same_length c = search rules
+
+pub returns : goal.returns
+returns c = λ z. leaf_past _ _ _ c.sides.ensures _ _ c.fill.ensures c.one_if_own.ensures.0 z (leaf_touched z _ _ _ refl refl refl _ _ c.label_at-label.ensures)

@@ -1,0 +1,32 @@
+-- `ponds_pixels::pass_pixels`: nothing where the greatest number is 0; one growth where all that have a number have
+-- it; else pixel by pixel.
+use borrow.Author.Rules.{rules}
+use Rattle.ponds_pixels.proofs.PixelLaws.{pixel_below, pixels_none, four_stands, four_fits, pixels_alike}
+use Rattle.ponds_pixels.proofs.pass_pixels.Goals as goal
+
+pub son_number-nw-requires : goal.son_number-nw-requires
+son_number-nw-requires c = search (pixel_below, rules)
+
+pub son_number-ne-requires : goal.son_number-ne-requires
+son_number-ne-requires c = search (pixel_below, rules)
+
+pub son_number-sw-requires : goal.son_number-sw-requires
+son_number-sw-requires c = search (pixel_below, rules)
+
+pub son_number-se-requires : goal.son_number-se-requires
+son_number-se-requires c = search (pixel_below, rules)
+
+pub returns-then-number-eq0 : goal.returns-then-number-eq0
+returns-then-number-eq0 c z = search (pixels_none, rules)
+
+pub grow_four-requires : goal.grow_four-requires
+grow_four-requires c = search (four_stands, four_fits, rules)
+
+-- LEFT same_length : tie.Need-same-length
+-- same_length c = search rules
+
+pub returns-then-alike : goal.returns-then-alike
+returns-then-alike c z = search (pixels_alike, rules)
+
+-- LEFT same-length-2 : tie.Need-same-length-2
+-- same-length-2 c = search rules
