@@ -78,7 +78,7 @@ pub loop-quadrant-preserved-then-half-eq1 : goal.loop-quadrant-preserved-then-ha
 loop-quadrant-preserved-then-half-eq1 t c =
     let s = c in
     let l = c in
-    (omega (arith, l.loop-quadrant-test.true), c.pixels.auto.1.0 ∙ s.loop-quadrant.invariant.1, s.loop-quadrant.invariant.2, s.loop-quadrant.invariant.3, firsts_pixels _ _ _ _ _ _ _ c.requires.1 _ _ s.loop-quadrant.invariant.3 s.loop-quadrant.invariant.2 s.loop-quadrant.quadrant l.loop-quadrant-test.true _ _ _ s.loop-quadrant.invariant.4 _ _ _ (son_read _ _ _ c.four_sons-sons.ensures s.loop-quadrant.quadrant l.loop-quadrant-test.true) refl refl _ _ _ c.if-half-eq1.true c.pixels.ensures _ c.first_nonzero-leaders.ensures)
+    (omega (arith, l.loop-quadrant-test.true), c.pixels.auto.words ∙ s.loop-quadrant.invariant.1, s.loop-quadrant.invariant.2, s.loop-quadrant.invariant.3, firsts_pixels _ _ _ _ _ _ _ c.requires.1 _ _ s.loop-quadrant.invariant.3 s.loop-quadrant.invariant.2 s.loop-quadrant.quadrant l.loop-quadrant-test.true _ _ _ s.loop-quadrant.invariant.4 _ _ _ (son_read _ _ _ c.four_sons-sons.ensures s.loop-quadrant.quadrant l.loop-quadrant-test.true) refl refl _ _ _ c.if-half-eq1.true c.pixels.ensures _ c.first_nonzero-leaders.ensures)
 
 pub fork-requires : goal.fork-requires
 fork-requires t c =
@@ -95,7 +95,7 @@ pub loop-quadrant-preserved-else-half-eq1 : goal.loop-quadrant-preserved-else-ha
 loop-quadrant-preserved-else-half-eq1 t c =
     let s = c in
     let l = c in
-    (omega (arith, l.loop-quadrant-test.true), c.fork.auto.1.0 ∙ s.loop-quadrant.invariant.1, s.loop-quadrant.invariant.2, s.loop-quadrant.invariant.3, firsts_fork _ _ _ _ _ _ _ c.requires.1 _ _ s.loop-quadrant.invariant.3 s.loop-quadrant.invariant.2 s.loop-quadrant.quadrant l.loop-quadrant-test.true _ _ _ s.loop-quadrant.invariant.4 _ _ _ (son_read _ _ _ c.four_sons-sons.ensures s.loop-quadrant.quadrant l.loop-quadrant-test.true) refl refl _ _ _ c.fork.ensures _ c.first_nonzero-leaders-else-half-eq1.ensures)
+    (omega (arith, l.loop-quadrant-test.true), c.fork.auto.words ∙ s.loop-quadrant.invariant.1, s.loop-quadrant.invariant.2, s.loop-quadrant.invariant.3, firsts_fork _ _ _ _ _ _ _ c.requires.1 _ _ s.loop-quadrant.invariant.3 s.loop-quadrant.invariant.2 s.loop-quadrant.quadrant l.loop-quadrant-test.true _ _ _ s.loop-quadrant.invariant.4 _ _ _ (son_read _ _ _ c.four_sons-sons.ensures s.loop-quadrant.quadrant l.loop-quadrant-test.true) refl refl _ _ _ c.fork.ensures _ c.first_nonzero-leaders-else-half-eq1.ensures)
 
 pub leaf_of_two-requires : goal.leaf_of_two-requires
 leaf_of_two-requires t c =
@@ -113,7 +113,7 @@ loop-quadrant-preserved-then-half-eq1-2 t c =
     let s = c in
     let l = c in
     let m = c in
-    (omega (arith, m.loop-quadrant-test.true), c.leaf_of_two.auto.0 ∙ l.loop-quadrant.invariant.1, l.loop-quadrant.invariant.2, l.loop-quadrant.invariant.3, firsts_leaf _ _ _ _ _ _ _ c.requires.1 _ _ l.loop-quadrant.invariant.3 l.loop-quadrant.invariant.2 l.loop-quadrant.quadrant m.loop-quadrant-test.true _ _ _ l.loop-quadrant.invariant.4 _ _ _ (son_read _ _ _ s.four_sons-sons.ensures l.loop-quadrant.quadrant m.loop-quadrant-test.true) refl refl _ _ (type_read _ _ _ s.four_sons-sons.ensures _ c.four_types-kinds.ensures l.loop-quadrant.quadrant m.loop-quadrant-test.true) c.if-kind-eq-FORK.false (two_power _ c.if-half-eq1-2.true) _ _ _ c.leaf_of_two.ensures _ c.first_nonzero-leaders-then-half-eq1-2.ensures)
+    (omega (arith, m.loop-quadrant-test.true), c.leaf_of_two.auto.words ∙ l.loop-quadrant.invariant.1, l.loop-quadrant.invariant.2, l.loop-quadrant.invariant.3, firsts_leaf _ _ _ _ _ _ _ c.requires.1 _ _ l.loop-quadrant.invariant.3 l.loop-quadrant.invariant.2 l.loop-quadrant.quadrant m.loop-quadrant-test.true _ _ _ l.loop-quadrant.invariant.4 _ _ _ (son_read _ _ _ s.four_sons-sons.ensures l.loop-quadrant.quadrant m.loop-quadrant-test.true) refl refl _ _ (type_read _ _ _ s.four_sons-sons.ensures _ c.four_types-kinds.ensures l.loop-quadrant.quadrant m.loop-quadrant-test.true) c.if-kind-eq-FORK.false (two_power _ c.if-half-eq1-2.true) _ _ _ c.leaf_of_two.ensures _ c.first_nonzero-leaders-then-half-eq1-2.ensures)
 
 pub leaf-requires : goal.leaf-requires
 leaf-requires t c =
@@ -131,7 +131,7 @@ loop-quadrant-preserved t c =
     let s = c in
     let l = c in
     let m = c in
-    (omega (arith, m.loop-quadrant-test.true), c.leaf.auto.0 ∙ l.loop-quadrant.invariant.1, l.loop-quadrant.invariant.2, l.loop-quadrant.invariant.3, firsts_leaf _ _ _ _ _ _ _ c.requires.1 _ _ l.loop-quadrant.invariant.3 l.loop-quadrant.invariant.2 l.loop-quadrant.quadrant m.loop-quadrant-test.true _ _ _ l.loop-quadrant.invariant.4 _ _ _ (son_read _ _ _ s.four_sons-sons.ensures l.loop-quadrant.quadrant m.loop-quadrant-test.true) refl refl _ _ (type_read _ _ _ s.four_sons-sons.ensures _ c.four_types-kinds.ensures l.loop-quadrant.quadrant m.loop-quadrant-test.true) c.if-kind-eq-FORK.false l.loop-quadrant.invariant.3 _ _ _ c.leaf.ensures _ c.first_nonzero-leaders-else-half-eq1-2.ensures)
+    (omega (arith, m.loop-quadrant-test.true), c.leaf.auto.words ∙ l.loop-quadrant.invariant.1, l.loop-quadrant.invariant.2, l.loop-quadrant.invariant.3, firsts_leaf _ _ _ _ _ _ _ c.requires.1 _ _ l.loop-quadrant.invariant.3 l.loop-quadrant.invariant.2 l.loop-quadrant.quadrant m.loop-quadrant-test.true _ _ _ l.loop-quadrant.invariant.4 _ _ _ (son_read _ _ _ s.four_sons-sons.ensures l.loop-quadrant.quadrant m.loop-quadrant-test.true) refl refl _ _ (type_read _ _ _ s.four_sons-sons.ensures _ c.four_types-kinds.ensures l.loop-quadrant.quadrant m.loop-quadrant-test.true) c.if-kind-eq-FORK.false l.loop-quadrant.invariant.3 _ _ _ c.leaf.ensures _ c.first_nonzero-leaders-else-half-eq1-2.ensures)
 
 pub offset_bounds-words-p : goal.offset_bounds-words-p
 offset_bounds-words-p t c =

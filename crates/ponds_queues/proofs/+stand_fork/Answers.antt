@@ -64,7 +64,7 @@ loop-left-preserved-then-half-eq1 t c =
     let el = one_less pos in
     let e = s.word_at-son.ensures in
     let f = told_fork c.args.table.now s.word_at-son.result _ c.word_at.ensures c.if-word_at-eq-FORK.true in
-    (omega (arith, lt), c.stand_pixels.auto.1.0 ∙ v.1, λ n F D r. turn_fork r (v.2 n F D r) el lt e f c.if-half-eq1.true (son_row r lt e) c.stand_pixels.ensures)
+    (omega (arith, lt), c.stand_pixels.auto.words ∙ v.1, λ n F D r. turn_fork r (v.2 n F D r) el lt e f c.if-half-eq1.true (son_row r lt e) c.stand_pixels.ensures)
 
 pub offset_bounds-words-son : goal.offset_bounds-words-son
 offset_bounds-words-son t c =
@@ -107,7 +107,7 @@ loop-left-preserved-then-words-son-eq0 t c =
     let el = one_less pos in
     let e = s.word_at-son.ensures in
     let f = told_fork c.args.table.now s.word_at-son.result _ c.word_at.ensures c.if-word_at-eq-FORK.true in
-    (omega (arith, lt), c.stand_fork.auto.1.0 ∙ v.1, λ n F D r. turn_fork r (v.2 n F D r) el lt e f refl (son_row r lt e) c.stand_fork.ensures)
+    (omega (arith, lt), c.stand_fork.auto.words ∙ v.1, λ n F D r. turn_fork r (v.2 n F D r) el lt e f refl (son_row r lt e) c.stand_fork.ensures)
 
 pub loop-left-smaller-else-words-son-eq0 : goal.loop-left-smaller-else-words-son-eq0
 loop-left-smaller-else-words-son-eq0 t c = omega (arith, c.loop-left-test.true)
@@ -197,7 +197,7 @@ loop-left-preserved t c =
     let el = one_less pos in
     let e = s.word_at-son.ensures in
     let f = told_leaf c.args.table.now s.word_at-son.result _ c.word_at.ensures c.if-word_at-eq-FORK.false in
-    (omega (arith, lt), c.stand.auto.0 ∙ v.1, λ n F D r. turn_leaf r (v.2 n F D r) el lt e f (son_row r lt e) c.stand.ensures)
+    (omega (arith, lt), c.stand.auto.words ∙ v.1, λ n F D r. turn_leaf r (v.2 n F D r) el lt e f (son_row r lt e) c.stand.ensures)
 
 -- LEFT stand-fork-same-length : (t : ℕ) → stand-fork-lts.Need-same-length (calls t) (stand-fork-at t) stand-fork.Post stand-fork-Inv-loop stand-fork-μ-loop
 -- stand-fork-same-length t c = c.before.loop.invariant.1
