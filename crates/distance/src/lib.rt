@@ -1,3 +1,2 @@
 // The chessboard distance to the nearest white pixel.
 #![tactic(auto)]
-

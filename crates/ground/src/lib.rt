@@ -1,7 +1,6 @@
 // A block's centre on the ground, and what is lost in rounding.
 #![tactic(auto)]
 
-
 // A ground place: the east and north coordinates of the origin, which is the centre of the top left pixel, and a
 // pixel's side.
 #[derive(Clone, Copy)]

@@ -1,7 +1,6 @@
 // Neighbours and corner leaves, as the papers' geometry names them.
 #![tactic(auto)]
 
-
 // What a search ends on: a node and its level, or no block of the sheet.
 #[derive(Clone, Copy)]
 pub enum Found {

@@ -1,7 +1,6 @@
 // Ponds: when water is one, their order by rows, and their entries in the register. What the call gives.
 #![tactic(auto)]
 
-
 // What a pond covers: how many pixels, its first and last row, its first and last column.
 #[derive(Clone, Copy)]
 pub struct Pond {

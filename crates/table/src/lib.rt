@@ -2,7 +2,6 @@
 // code is the type of a block.
 #![tactic(auto)]
 
-
 // The block in that column and row among the blocks of its level.
 #[derive(Clone, Copy)]
 pub struct Block {

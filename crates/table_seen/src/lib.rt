@@ -64,7 +64,7 @@ fn all_different(nw: usize, ne: usize, sw: usize, se: usize) -> bool
 }
 
 // Whether four numbers are all this one.
-fn all_are_lem(k: usize, nw: usize, ne: usize, sw: usize, se: usize) -> bool
+fn all_are(k: usize, nw: usize, ne: usize, sw: usize, se: usize) -> bool
     ensures { result ≡ all_are k nw ne sw se }
 {
     if nw != k {
@@ -84,7 +84,7 @@ fn is_father(table: &[u32], p: usize, nw: usize, ne: usize, sw: usize, se: usize
     requires { Four (nodes table.now) nw ne sw se }
     ensures { result ≡ father_of table.now p nw ne sw se }
 {
-    all_are_lem(
+    all_are(
         p,
         word_at(table, nw, 0),
         word_at(table, ne, 0),
@@ -135,7 +135,7 @@ fn leaf_ok(table: &[u32], p: usize) -> bool
     if quad::TOP_COLOUR < word_at(table, p, 5) {
         return false;
     }
-    all_are_lem(
+    all_are(
         quad::NONE,
         word_at(table, p, 1),
         word_at(table, p, 2),

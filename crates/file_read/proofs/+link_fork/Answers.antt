@@ -138,12 +138,6 @@ bounds-table-own-2 t c =
     let s = l in
     type_room (its_fork s.requires) s.args.table.now s.requires.block.ready s.args.father l.loop-q.invariant
 
--- LEFT link-fork-same-length : (t : ℕ) → link-fork-lts.Need-same-length (calls t) (link-fork-at t) link-fork.Post link-fork-Inv-loop link-fork-μ-loop
--- link-fork-same-length t c =
---     let l = c.before in
---     let s = l.before.before in
---     put_length (sons_put (its_fork s.requires.1) s.args.table.now s.requires.1.block.ready s.args.father l.loop.invariant (omega arith))
-
 pub returns : goal.returns
 returns t c =
     let l = c in

@@ -8,17 +8,11 @@ use Rattle.file_read.proofs.link_block.Goals as goal
 pub type_of-kind-requires : goal.type_of-kind-requires
 type_of-kind-requires c = search (type_asks, rules)
 
--- LEFT same_length : tie.Need-same-length
--- same_length c = search rules
-
 pub overflow_cast-kind : goal.overflow_cast-kind
 overflow_cast-kind c = omega (arith, kind_le c.requires c.type_of-kind.ensures)
 
 pub put_leaf-requires : goal.put_leaf-requires
 put_leaf-requires c = node_room c.requires.ready
-
--- LEFT same-length-2 : tie.Need-same-length-2
--- same-length-2 c = search rules
 
 pub returns : goal.returns
 returns c = search (links_leaf, rules)

@@ -82,9 +82,6 @@ overflow_add-result c =
     let s = r in
     omega (arith, pixels_few s.requires)
 
--- LEFT same_length : tie.Need-same-length
--- same_length c = search rules
-
 pub returns : goal.returns
 returns c =
     let se = c in

@@ -4,14 +4,8 @@ use Rattle.file_read.proofs.ReadCallLaws.{reads_faulty, sheet_fits, reads_full, 
 use borrow.Author.Rules.{rules}
 use Rattle.file_read.proofs.read.Goals as goal
 
--- LEFT enum-known-contents : tie.Need-enum-known-contents
--- enum-known-contents c = search rules
-
--- LEFT enum-known-contents-2 : tie.Need-enum-known-contents-2
--- enum-known-contents-2 c = search rules
-
 pub overflow_mul-words : goal.overflow_mul-words
-overflow_mul-words c = omega (arith, sheet_fits _ c.args.table.now _ c.survey-contents.ensures _ _ c.contents-in-Sheet-1.given.1)
+overflow_mul-words c = omega (arith, sheet_fits _ c.args.table.now _ c.survey-contents.ensures _ _ c.in-Sheet.is)
 
 pub returns-then-table-words : goal.returns-then-table-words
 returns-then-table-words c = search (reads_full, rules)
@@ -20,13 +14,10 @@ pub link_block-requires : goal.link_block-requires
 link_block-requires c = search (link_asks, rules)
 
 pub with_level-requires : goal.with_level-requires
-with_level-requires c = omega (arith, sheet_fits _ c.args.table.now _ c.survey-contents.ensures _ _ c.contents-in-Sheet-1.given.1)
+with_level-requires c = omega (arith, sheet_fits _ c.args.table.now _ c.survey-contents.ensures _ _ c.in-Sheet.is)
 
 pub returns-in-Faulty : goal.returns-in-Faulty
 returns-in-Faulty c = search (reads_faulty, rules)
-
--- LEFT same_length : tie.Need-same-length
--- same_length c = search rules
 
 pub returns-else-table-words : goal.returns-else-table-words
 returns-else-table-words c = search (reads_sheet, rules)

@@ -25,12 +25,6 @@ returns-then-end-ne0 c = search (survey_scanned, rules)
 pub read_block-root-requires : goal.read_block-root-requires
 read_block-root-requires c = search (block_asks, rules)
 
--- LEFT enum-known-root : tie.Need-enum-known-root
--- enum-known-root c = search rules
-
--- LEFT enum-known-root-2 : tie.Need-enum-known-root-2
--- enum-known-root-2 c = search rules
-
 pub close-requires-in-Read : goal.close-requires-in-Read
 close-requires-in-Read c = (search (close_start, rules), search (close_long, rules))
 

@@ -7,12 +7,6 @@ use Rattle.file_scan.proofs.has_record.Goals as goal
 pub returns-then-file-at-lt3 : goal.returns-then-file-at-lt3
 returns-then-file-at-lt3 c = record_short _ _ c.if-file-at-lt3.true
 
--- LEFT cast-first : tie.Need-overflow-cast-first
--- cast-first c = omega (arith, c.shared-slice-known2.given c.before.before.before.args.at)
-
--- LEFT cast-second : tie.Need-overflow-cast-second
--- cast-second c = omega (arith, c.shared-slice-known3.given (c.before.before.before.before.args.at + 1))
-
 pub overflow_mul-second : goal.overflow_mul-second
 overflow_mul-second c = omega (arith, c.shared_slice_known-3-1.given (c.args.at + 1))
 

@@ -14,9 +14,6 @@ pub returns-then-file-le2 : goal.returns-then-file-le2
 unfolding header_of
 returns-then-file-le2 c = search (thens, cases, rules) depth 9
 
--- LEFT cast-level : tie.Need-overflow-cast-level
--- cast-level c = omega (arith, c.shared-slice-known2.given 2)
-
 pub returns-then-level-gt-TOP_LEVEL : goal.returns-then-level-gt-TOP_LEVEL
 unfolding header_of
 returns-then-level-gt-TOP_LEVEL c = search (thens, cases, rules) depth 9

@@ -26,8 +26,7 @@ grow-requires c =
     let k = c.number_at-k.result in
     let node : p < nodes s.table.now = omega (arith, sheet.words) in
     let few : k - 1 < s.count = omega (arith, c.number_at-k.ensures, sheet.few p node) in
-    rw c.loop-p.invariant.1
-    (
+    rw c.loop-p.invariant.1 (
       omega (arith, few, filled_length s.n s.table.now s.numbers.now s.count s.reg.now p c.requires.1),
       (record { accepted = sheet.accepted; node = node }, filled_fits s.n s.table.now s.numbers.now s.count s.reg.now p (k - 1) few sheet node),
     )
@@ -40,10 +39,10 @@ loop-p-preserved c =
     let k = c.number_at-k.result in
     let is = c.number_at-k.ensures in
     elim c.if-k-ne0.branch [
-      then-k-ne0 w ↦
-        let few : k - 1 < s.count = omega (arith, is, w.if-k-ne0.true, sheet.words, sheet.few p (omega (arith, sheet.words))) in
-        let named : get_or s.numbers.now p 0 ≡ suc (k - 1) = omega (arith, is, w.if-k-ne0.true) in
-        (omega arith, w.reg-is ∙ w.grow.ensures ∙ rw c.loop-p.invariant.1 (filled_more s.n s.table.now s.numbers.now s.count s.reg.now p (k - 1) few named))
+      | then-k-ne0 w ↦
+          let few : k - 1 < s.count = omega (arith, is, w.if-k-ne0.true, sheet.words, sheet.few p (omega (arith, sheet.words))) in
+          let named : get_or s.numbers.now p 0 ≡ suc (k - 1) = omega (arith, is, w.if-k-ne0.true) in
+          (omega arith, w.reg-is ∙ w.grow.ensures ∙ rw c.loop-p.invariant.1 (filled_more s.n s.table.now s.numbers.now s.count s.reg.now p (k - 1) few named))
       | else-k-ne0 w ↦ (omega arith, w.reg-is ∙ c.loop-p.invariant.1 ∙ filled_same s.n s.table.now s.numbers.now s.count s.reg.now p k is w.if-k-ne0.false)
     ]
 

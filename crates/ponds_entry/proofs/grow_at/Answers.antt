@@ -6,8 +6,5 @@ use Rattle.ponds_entry.proofs.grow_at.Goals as goal
 pub grown-e-requires : goal.grown-e-requires
 grown-e-requires c = search (fitting_read, rules)
 
--- LEFT same_length : tie.Need-same-length
--- same_length c = search rules
-
 pub returns : goal.returns
 returns c = search (grown_written, rules)

@@ -8,9 +8,6 @@ use Rattle.ponds_join.proofs.join.Goals as goal
 pub root-b-requires : goal.root-b-requires
 root-b-requires c = search (second_asking, rules)
 
--- LEFT same_length : tie.Need-same-length
--- same_length c = search rules
-
 pub returns-then-a-b : goal.returns-then-a-b
 returns-then-a-b c = search (one_already, rules)
 
@@ -23,17 +20,11 @@ bounds-words-b c = search (second_within, rules)
 pub bounds-words-b-then-words-a : goal.bounds-words-b-then-words-a
 bounds-words-b-then-words-a c = second_within c.requires c.root-a.ensures c.root-b.ensures
 
--- LEFT same-length-2 : tie.Need-same-length-2
--- same-length-2 c = simp length-set (omega (arith, c.before.before.before.before.before.before.before.before.before.before.root.auto, c.before.before.before.before.before.before.root2.auto))
-
 pub returns-then-words-a : goal.returns-then-words-a
 returns-then-words-a c = search (second_under, rules)
 
 pub bounds-words-a-2 : goal.bounds-words-a-2
 bounds-words-a-2 c = search (first_within, rules)
-
--- LEFT same-length-3 : tie.Need-same-length-3
--- same-length-3 c = simp length-set (omega (arith, c.before.before.before.before.before.before.before.before.before.before.root.auto, c.before.before.before.before.before.before.root2.auto))
 
 pub returns : goal.returns
 returns c = search (first_under, rules)

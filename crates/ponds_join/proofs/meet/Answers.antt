@@ -6,9 +6,6 @@ use Rattle.ponds_join.proofs.meet.Goals as goal
 pub join-requires : goal.join-requires
 join-requires c = search (face_joining, rules)
 
--- LEFT same_length : tie.Need-same-length
--- same_length c = search rules
-
 pub returns-then-first_nonzero-label : goal.returns-then-first_nonzero-label
 returns-then-first_nonzero-label c = search (face_joined, rules)
 

@@ -6,8 +6,5 @@ use Rattle.ponds_join.proofs.next.Goals as goal
 pub returns-then-other-before : goal.returns-then-other-before
 returns-then-other-before c = next_none c.if-other-before.true
 
--- LEFT same_length : tie.Need-same-length
--- same_length c = search rules
-
 pub returns : goal.returns
 returns c = next_met c.if-other-before.false c.meet.ensures

@@ -3,14 +3,8 @@ use borrow.Author.Rules.{rules}
 use Rattle.ponds_join.proofs.JoinLaws.{root_own, root_shorter}
 use Rattle.ponds_join.proofs.root.Goals as goal
 
--- LEFT same_length : tie.Need-same-length
--- same_length c = search rules
-
 pub returns-then-r-p : goal.returns-then-r-p
 returns-then-r-p c = search (root_shorter, rules)
-
--- LEFT same-length-2 : tie.Need-same-length-2
--- same-length-2 c = search rules
 
 pub returns-else-r-p : goal.returns-else-r-p
 returns-else-r-p c = search (root_own, rules)

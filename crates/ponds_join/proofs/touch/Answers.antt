@@ -17,16 +17,8 @@ overflow_add-kind-2 c = omega (arith, kind_few c.requires, c.one_if_nonzero.ensu
 pub join-requires : goal.join-requires
 join-requires c = touch_joining c.requires _ _ _ _ _ _ _ c.first_nonzero-first.ensures c.first_nonzero.ensures c.black_of-label.ensures c.first_nonzero-2.ensures c.black_of.ensures c.one_if_nonzero.ensures c.apart.ensures c.if-kind-one_if_nonzero-eq3.true
 
--- LEFT same_length : tie.Need-same-length
--- same_length c =
---     let s = c.before.before.before.before.before.before.before.before.before.before.before.before.before in
---     set_long s.args.words.now c.before.before.join.new.0 s.args.p c.before.before.before.before.before.before.before.black-of2.result c.before.before.join.auto.0
-
 pub returns-then-kind-one_if_nonzero-eq3 : goal.returns-then-kind-one_if_nonzero-eq3
 returns-then-kind-one_if_nonzero-eq3 c = λ z. touched_joined z _ _ _ _ _ _ _ c.first_nonzero-first.ensures c.first_nonzero.ensures c.black_of-label.ensures c.first_nonzero-2.ensures c.black_of.ensures c.one_if_nonzero.ensures c.apart.ensures c.if-kind-one_if_nonzero-eq3.true _ c.join.ensures
-
--- LEFT same-length-2 : tie.Need-same-length-2
--- same-length-2 c = search rules
 
 pub returns-else-kind-one_if_nonzero-eq3 : goal.returns-else-kind-one_if_nonzero-eq3
 returns-else-kind-one_if_nonzero-eq3 c = λ z. touched_plain z _ _ _ _ _ _ _ c.first_nonzero-first.ensures c.first_nonzero.ensures c.black_of-label.ensures c.first_nonzero-2.ensures c.black_of.ensures c.one_if_nonzero.ensures c.apart.ensures c.if-kind-one_if_nonzero-eq3.false

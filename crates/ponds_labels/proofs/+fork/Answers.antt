@@ -143,10 +143,5 @@ bounds-words-p t c =
     let s = c in
     all_within _ _ _ _ _ _ _ s.requires.1 _ _ c.loop-quadrant.invariant.3 c.loop-quadrant.invariant.2 _ _ _ (four_of_lem c.loop-quadrant.invariant.0 c.loop-quadrant-test.false c.loop-quadrant.invariant.4) s.requires.0
 
--- LEFT fork-same-length : (t : ℕ) → fork-lts.Need-same-length (calls t) (fork_at t) fork.Post fork-Inv-loop fork-μ-loop
--- fork-same-length t c =
---     let s = c.before.before.before.before.before.before.before.before in
---     set_kept c.before.before.loop.words s.args.words.now s.args.p c.mark.result c.before.before.loop.invariant.1
-
 pub returns : goal.returns
 returns t c = firsts_all _ _ _ _ _ _ _ c.requires.1 _ _ c.loop-quadrant.invariant.3 c.loop-quadrant.invariant.2 _ _ _ _ (four_of_lem c.loop-quadrant.invariant.0 c.loop-quadrant-test.false c.loop-quadrant.invariant.4) c.mark.ensures

@@ -13,8 +13,5 @@ loop-p-smaller c = simp length-set (omega (arith, c.loop-p-test.true))
 pub loop-p-preserved : goal.loop-p-preserved
 loop-p-preserved c = clear_more c.loop-p.invariant c.loop-p-test.true
 
--- LEFT same_length : tie.Need-same-length invariant-loop decreases-loop
--- same_length c = c.before.loop.invariant.long
-
 pub returns : goal.returns
 returns c = clear_all c.loop-p.invariant c.loop-p-test.false

@@ -9,9 +9,6 @@ fork-requires c =
     let s = c in
     (lead_coming s.requires.0 s.requires.1 s.requires.2 c.clear.ensures _ refl, s.requires.2)
 
--- LEFT same_length : tie.Need-same-length
--- same_length c = search rules
-
 pub returns : goal.returns
 returns c =
     let s = c in

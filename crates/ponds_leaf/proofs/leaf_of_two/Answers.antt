@@ -15,8 +15,5 @@ fill_two-requires c =
     let s = c in
     (s.requires.coming.long, (leaf_room s.requires).0, (leaf_room s.requires).1)
 
--- LEFT same_length : tie.Need-same-length
--- same_length c = search rules
-
 pub returns : goal.returns
 returns c = λ z. leaf_past _ _ _ c.two_sides.ensures _ _ c.fill_two.ensures c.one_if_own.ensures.0 z (leaf_touched z _ _ _ refl refl refl _ _ c.label_at-label.ensures)

@@ -145,9 +145,6 @@ fill_last-requires c =
     let s = c in
     let b = room s.requires.0 s.requires.1 1 0 refl refl in (s.requires.0.long, omega (arith, b.0), omega (arith, b.1))
 
--- LEFT same_length : tie.Need-same-length
--- same_length c = (c.before.before.before.before.before.touch4.auto.0 ∙ c.before.before.before.before.before.before.before.before.before.before.touch3.auto.0 ∙ c.before.before.before.before.before.before.before.before.before.before.before.before.before.before.before.before.touch2.auto.0 ∙ c.before.before.before.before.before.before.before.before.before.before.before.before.before.before.before.before.before.before.before.before.before.before.touch.auto.0)
-
 pub returns : goal.returns
 returns c =
     let s = c in

@@ -7,8 +7,5 @@ use Rattle.ponds_pixels.proofs.grow_four.Goals as goal
 pub grown_four-e-requires : goal.grown_four-e-requires
 grown_four-e-requires c = search (fitting_read, rules)
 
--- LEFT same_length : tie.Need-same-length
--- same_length c = search rules
-
 pub returns : goal.returns
 returns c = search (four_written, rules)

@@ -48,9 +48,6 @@ pass_number-requires-4 c =
     let three = pixel_gained z.1 2 (omega arith) _ c.part-3.ensures _ two _ z.2.2 _ c.pass_number-3.ensures in
     pixel_passing z.1 3 (omega arith) _ c.part-4.ensures _ three _ z.2.3 z.0
 
--- LEFT same_length : tie.Need-same-length
--- same_length c = search rules
-
 pub returns : goal.returns
 returns c =
     let z = c.requires in

@@ -9,8 +9,5 @@ returns-then-number-eq0 c = search (passed_none, rules)
 pub grow_at-requires : goal.grow_at-requires
 grow_at-requires c = search (passing_stands, passing_fits, rules)
 
--- LEFT same_length : tie.Need-same-length
--- same_length c = search rules
-
 pub returns : goal.returns
 returns c = search (passed_one, rules)

@@ -22,11 +22,6 @@ returns-then-number-eq0 c z = search (pixels_none, rules)
 pub grow_four-requires : goal.grow_four-requires
 grow_four-requires c = search (four_stands, four_fits, rules)
 
--- LEFT same_length : tie.Need-same-length
--- same_length c = search rules
-
 pub returns-then-alike : goal.returns-then-alike
 returns-then-alike c z = search (pixels_alike, rules)
 
--- LEFT same-length-2 : tie.Need-same-length-2
--- same-length-2 c = search rules

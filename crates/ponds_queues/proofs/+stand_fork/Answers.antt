@@ -199,8 +199,5 @@ loop-left-preserved t c =
     let f = told_leaf c.args.table.now s.word_at-son.result _ c.word_at.ensures c.if-word_at-eq-FORK.false in
     (omega (arith, lt), c.stand.auto.words ∙ v.1, λ n F D r. turn_leaf r (v.2 n F D r) el lt e f (son_row r lt e) c.stand.ensures)
 
--- LEFT stand-fork-same-length : (t : ℕ) → stand-fork-lts.Need-same-length (calls t) (stand-fork-at t) stand-fork.Post stand-fork-Inv-loop stand-fork-μ-loop
--- stand-fork-same-length t c = c.before.loop.invariant.1
-
 pub returns : goal.returns
 returns t c = λ n F D r. part_end r c.loop-left-test.false (c.loop-left.invariant.2 n F D r)

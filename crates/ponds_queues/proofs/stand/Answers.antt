@@ -3,8 +3,5 @@ use Rattle.ponds_queues.proofs.QueueLaws.{stood}
 use borrow.Author.Rules.{rules}
 use Rattle.ponds_queues.proofs.stand.Goals as goal
 
--- LEFT same_length : tie.Need-same-length
--- same_length c = search rules
-
 pub returns : goal.returns
 returns c = stood _ _ _ _ _ c.linked.ensures c.head.ensures

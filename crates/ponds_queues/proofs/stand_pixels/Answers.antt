@@ -70,9 +70,6 @@ offset_bounds-rows-y-4 c = let r = c.requires.reach in omega (arith, south_row r
 pub bounds-rows-y-4 : goal.bounds-rows-y-4
 bounds-rows-y-4 c = let r = c.requires.reach in omega (arith, south_row r)
 
--- LEFT same_length : tie.Need-same-length
--- same_length c = search rules
-
 pub returns : goal.returns
 returns c =
     let s = c in

@@ -81,8 +81,5 @@ loop-q-smaller t c = omega arith
 pub loop-q-preserved : goal.loop-q-preserved
 loop-q-preserved t c = let leaf = told_leaf c.args.table.now _ _ (type_read _ _ _ c.four_sons-sons.ensures _ c.four_types-kinds.ensures c.loop-q.q (omega arith)) c.if-kind-eq-FORK.false in (omega arith, c.pass.auto.reg ∙ c.loop-q.invariant.1, gained_more c.requires.1 c.loop-q.q _ _ _ (omega arith) (son_read _ _ _ c.four_sons-sons.ensures c.loop-q.q (omega arith)) c.part-its.ensures c.loop-q.invariant.2 _ (λ e. leaf_entered e _ leaf c.pass.ensures))
 
--- LEFT pass-fork-same-length : (t : ℕ) → pass-fork-lts.Need-same-length (calls t) (pass-fork-at t) pass-fork.Post pass-fork-Inv-loop pass-fork-μ-loop
--- pass-fork-same-length t c = c.before.loop.invariant.1
-
 pub returns : goal.returns
 returns t c = gained_all c.requires.1 c.loop-q.q _ c.loop-q.invariant.0 (omega arith) c.loop-q.invariant.2

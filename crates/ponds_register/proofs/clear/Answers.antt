@@ -9,8 +9,5 @@ loop-i-init c = search (cleared_none, rules)
 pub loop-i-preserved : goal.loop-i-preserved
 loop-i-preserved c = search (cleared_more, rules)
 
--- LEFT same_length : tie.Need-same-length invariant-loop decreases-loop
--- same_length c = search rules
-
 pub returns : goal.returns
 returns c = search (cleared_all, rules)

@@ -9,9 +9,6 @@ pass_fork-requires c =
     let s = c in
     (sheet_entering s.requires.0 _ _ s.requires.1 c.clear.ensures, told_fork s.args.table.now 0 _ c.word_at.ensures c.if-word_at-eq-FORK.true)
 
--- LEFT same_length : tie.Need-same-length
--- same_length c = search rules
-
 pub returns-then-word_at-eq-FORK : goal.returns-then-word_at-eq-FORK
 returns-then-word_at-eq-FORK c =
     let s = c in
@@ -21,9 +18,6 @@ pub pass-requires : goal.pass-requires
 pass-requires c =
     let s = c in
     let e = sheet_entering s.requires.0 _ _ s.requires.1 c.clear.ensures in (number_there e, entering_passing e)
-
--- LEFT same-length-2 : tie.Need-same-length-2
--- same-length-2 c = search rules
 
 pub returns : goal.returns
 returns c =

@@ -70,8 +70,5 @@ loop-i-preserved c =
     let l = c in
     (shore_more _ _ s.loop-i.invariant.1 l.loop-i-test.true s.loop-i.invariant.0 _ refl _ refl _ c.next.ensures _ refl _ refl _ c.next-in-loop-i.ensures, omega arith, omega (arith, l.loop-i-test.true))
 
--- LEFT same_length : tie.Need-same-length invariant-loop decreases-loop
--- same_length c = search rules
-
 pub returns : goal.returns
 returns c = shore_all c.loop-i.invariant.0 c.loop-i.invariant.2 c.loop-i-test.false

@@ -13,8 +13,5 @@ returns-then-others-eq0 c = sides_wet c.if-kind-ne-BLACK.false (quiet_shores c.o
 pub shore-requires : goal.shore-requires
 shore-requires c = c.requires.0 c.if-kind-ne-BLACK.false
 
--- LEFT same_length : tie.Need-same-length
--- same_length c = search rules
-
 pub returns : goal.returns
 returns c = sides_wet c.if-kind-ne-BLACK.false c.shore.ensures

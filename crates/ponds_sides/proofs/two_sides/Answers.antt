@@ -129,8 +129,5 @@ next-requires-2 c =
     let s = c in
     two_west c.next.ensures (s.requires.0.0 (omega (arith, s.requires.1, c.apart-north.ensures.1, c.apart-west.ensures.1, c.if-kind-north-le2.false)))
 
--- LEFT same_length : tie.Need-same-length
--- same_length c = search rules
-
 pub returns : goal.returns
 returns c = sides_wet (omega (arith, c.requires.1, c.apart-north.ensures.1, c.apart-west.ensures.1, c.if-kind-north-le2.false)) (two_shores c.next.ensures _ c.next-2.ensures)

@@ -10,9 +10,6 @@ loop-i-init c = (omega arith, refl)
 pub bounds-raster-i : goal.bounds-raster-i
 bounds-raster-i c = omega arith
 
--- LEFT cast-if1 : tie.Need-overflow-cast-if1 invariant-loop decreases-loop
--- cast-if1 c = omega (arith, c.shared-slice-known.given c.before.before.loop.i)
-
 pub overflow_cast-result : goal.overflow_cast-result
 overflow_cast-result c = omega arith
 

@@ -56,8 +56,5 @@ loop-j-preserved c =
       rows_more s.n s.level s.x s.y _ _ _ _ _ (block_fits l.requires.1).0 c.loop-j.invariant.1 (rw (m.side-width.ensures, c.side-across.ensures) at c.fill_row.ensures),
     )
 
--- LEFT same_length : tie.Need-same-length invariant-loop decreases-loop
--- same_length c = c.before.loop.invariant.1.size
-
 pub returns : goal.returns
 returns c = rows_all _ _ _ _ _ _ _ _ (omega (arith, c.loop-j.invariant.0, rw c.side-width.ensures at c.loop-j-test.false)) c.loop-j.invariant.1

@@ -7,9 +7,6 @@ fill_block-requires c =
     let s = c in
     (s.requires.0, rw c.if-level-eq1.true at s.requires.1, s.requires.2)
 
--- LEFT same_length : tie.Need-same-length
--- same_length c = search rules
-
 pub returns-then-level-eq1 : goal.returns-then-level-eq1
 returns-then-level-eq1 c = rw c.if-level-eq1.true c.fill_block.ensures
 
@@ -17,9 +14,6 @@ pub fill_block-requires-then-level-eq2 : goal.fill_block-requires-then-level-eq2
 fill_block-requires-then-level-eq2 c =
     let s = c in
     (s.requires.0, rw c.if-level-eq2.true at s.requires.1, s.requires.2)
-
--- LEFT same-length-2 : tie.Need-same-length-2
--- same-length-2 c = search rules
 
 pub returns-then-level-eq2 : goal.returns-then-level-eq2
 returns-then-level-eq2 c = rw c.if-level-eq2.true c.fill_block-then-level-eq2.ensures
@@ -29,9 +23,6 @@ fill_block-requires-then-level-eq3 c =
     let s = c in
     (s.requires.0, rw c.if-level-eq3.true at s.requires.1, s.requires.2)
 
--- LEFT same-length-3 : tie.Need-same-length-3
--- same-length-3 c = search rules
-
 pub returns-then-level-eq3 : goal.returns-then-level-eq3
 returns-then-level-eq3 c = rw c.if-level-eq3.true c.fill_block-then-level-eq3.ensures
 
@@ -40,11 +31,6 @@ fill_block-requires-then-level-eq4 c =
     let s = c in
     (s.requires.0, rw c.if-level-eq4.true at s.requires.1, s.requires.2)
 
--- LEFT same-length-4 : tie.Need-same-length-4
--- same-length-4 c = search rules
-
 pub returns-then-level-eq4 : goal.returns-then-level-eq4
 returns-then-level-eq4 c = rw c.if-level-eq4.true c.fill_block-then-level-eq4.ensures
 
--- LEFT same-length-5 : tie.Need-same-length-5
--- same-length-5 c = search rules

@@ -14,8 +14,5 @@ overflow_add-raster c = record { fits = rw c.side-across.ensures (omega (arith, 
 pub bounds-raster-y : goal.bounds-raster-y
 bounds-raster-y c = rw (c.side-across.ensures, c.requires.2) (place_lt c.requires.1)
 
--- LEFT same_length : tie.Need-same-length
--- same_length c = search rules
-
 pub returns : goal.returns
 returns c = rw c.side-across.ensures (painted_pixel _ _ _ _ _ c.requires.1 c.requires.2)

@@ -22,9 +22,6 @@ loop-i-smaller c = omega arith
 pub loop-i-preserved : goal.loop-i-preserved
 loop-i-preserved c = (omega arith, filled_more _ _ _ _ _ (omega (arith, c.loop-i.invariant.1.size)) c.loop-i.invariant.1)
 
--- LEFT same_length : tie.Need-same-length invariant-loop decreases-loop
--- same_length c = c.before.loop.invariant.1.size
-
 pub returns : goal.returns
 returns c =
     let e : c.loop-i.i ≡ c.args.width = omega arith in

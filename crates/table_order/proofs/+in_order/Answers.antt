@@ -76,7 +76,7 @@ overflow_add-count t c = omega arith
 pub overflow_add-next-then-word_at-eq-FORK : goal.overflow_add-next-then-word_at-eq-FORK
 overflow_add-next-then-word_at-eq-FORK t c =
     elim c.if-level-eq2.branch [
-      then-level-eq2+else-not-pixels w ↦ omega (arith, w.next-is, c.loop-q.invariant.room, c.requires.0.few)
+      | then-level-eq2+else-not-pixels w ↦ omega (arith, w.next-is, c.loop-q.invariant.room, c.requires.0.few)
       | else-level-eq2+else-next-eq0 w ↦ omega (arith, w.in_order-next.ensures.within, w.next-is, c.requires.0.few)
     ]
 
@@ -92,7 +92,7 @@ loop-q-preserved-else-count-q t c =
     let f = c.requires.0 in
     let e = c.word_at-then-word_at-eq-FORK.ensures in
     elim c.if-level-eq2.branch [
-      then-level-eq2+else-not-pixels w ↦ again_pixels _ _ _ _ _ _ _ i (omega arith) f c.word_at.ensures c.if-word_at-son.false _ _ e c.if-word_at-fork.false w.if-level-eq2.true _ w.pixels.ensures (ap not w.if-not-pixels.false) w.next-is (omega arith)
+      | then-level-eq2+else-not-pixels w ↦ again_pixels _ _ _ _ _ _ _ i (omega arith) f c.word_at.ensures c.if-word_at-son.false _ _ e c.if-word_at-fork.false w.if-level-eq2.true _ w.pixels.ensures (ap not w.if-not-pixels.false) w.next-is (omega arith)
       | else-level-eq2+else-next-eq0 w ↦ again_fork _ _ _ _ _ _ _ i (omega arith) f c.word_at.ensures c.if-word_at-son.false _ _ e c.if-word_at-fork.false (rw w.next-is w.in_order-next.ensures) (rw w.next-is w.if-next-eq0.false) (omega arith)
     ]
 

@@ -39,12 +39,12 @@ pub seen-below-requires : goal.seen-below-requires
 seen-below-requires t c =
     let s = c in
     let u = s.requires in (
-      omega (arith, u.0, c.if-level-eq0.false),
+      omega (arith, c.decreases, c.if-level-eq0.false),
       (
         rw c.word_at-son.ensures (node_of_son _ _ _ (on _ _ c.fork_ok.ensures (ap not c.if-not-fork_ok.false)) (omega arith)),
         told_fork s.args.table.now c.word_at-son.result _ c.word_at.ensures c.if-word_at-eq-FORK.true,
-        u.1.2,
-        omega (arith, u.1.3),
+        u.2,
+        omega (arith, u.3),
       ),
     )
 
