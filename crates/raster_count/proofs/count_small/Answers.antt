@@ -1,0 +1,26 @@
+-- `raster_count::count_small`: a leaf, five nodes, or those of sixteen pixels.
+use mathlib.Core.Path.{◌≡◌, ap, sym, ◌∙◌}
+use native.Mathlib.Omega.{arith}
+use Rattle.quad.specs.Tree.{colour, size_of}
+use Rattle.raster_notes.proofs.NoteLaws.{leaf_noted, alone_noted}
+use Rattle.raster.proofs.BuildLaws.{sheet_on}
+use Rattle.raster_count.proofs.NotedLaws.{sheet_window, small_five, small_two}
+use Rattle.raster_count.proofs.count_small.Goals as goal
+
+pub returns-then-kind : goal.returns-then-kind
+returns-then-kind c = leaf_noted _ _ _ _ _ _ _ (omega (arith, c.requires.2)) (c.small_kind-kind.ensures ∙ sym (ap colour (sheet_window _ _))) c.if-kind.true
+
+pub returns-then-n-eq1 : goal.returns-then-n-eq1
+returns-then-n-eq1 c =
+    let s = c in
+    alone_noted _ _ _ _ _ _ _ _ (omega (arith, s.requires.1)) (omega (arith, s.requires.2)) (small_five _ _ s.requires.0 c.if-n-eq1.true (sym c.small_kind-kind.ensures ∙ c.if-kind.false)) (c.small_kind-kind.ensures ∙ sym (ap colour (sheet_window _ _)))
+
+pub count_sixteen-requires : goal.count_sixteen-requires
+count_sixteen-requires c =
+    let s = c in
+    let two : s.args.n ≡ 2 = small_two _ _ s.requires.0 s.requires.1 c.if-n-eq1.false (sym c.small_kind-kind.ensures ∙ c.if-kind.false) in (rw two at s.requires.0, sheet_on 2)
+
+pub returns : goal.returns
+returns c =
+    let s = c in
+    let two : s.args.n ≡ 2 = small_two _ _ s.requires.0 s.requires.1 c.if-n-eq1.false (sym c.small_kind-kind.ensures ∙ c.if-kind.false) in alone_noted _ _ _ _ _ _ _ _ (omega (arith, s.requires.1)) (omega (arith, s.requires.2)) (rw two (c.count_sixteen.ensures ∙ sym (ap size_of (sheet_window 2 _)))) (c.small_kind-kind.ensures ∙ sym (ap colour (sheet_window _ _)))
