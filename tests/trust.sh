@@ -15,6 +15,7 @@ set -u
 cd "$(dirname "$0")/.." || exit 1
 log=${1:-build/log/rt ci.out}
 archive=target/staticlib/libsheet
+[ -f "$log" ] || { echo "there is no log of rt ci: tests/run crates writes it, and runs this" && echo "0 passed, 1 failed" && exit 1; }
 work=$(mktemp -d) || exit 1
 trap 'rm -rf "$work"' EXIT
 passed=0 failed=0
@@ -90,7 +91,7 @@ verdicts() {
     verdict "no crate stands on a library of the kit but std" $?
     ! grep -q '^logic=.* incremental=' "$archive.say" ||
         echo "libsheet.a was made over libraries of earlier checks: rm -r crates/*/out/rlib, and run tests/run crates again"
-    [ "$archive.a" -nt build/proved ] && proved "$archive.say" && assumes_nothing "$archive.say" &&
+    [ -n "$(find "$archive.a" -newer build/proved)" ] && proved "$archive.say" && assumes_nothing "$archive.say" &&
         grep -q '^axioms ' "$archive.say"
     verdict "libsheet.a with all that is linked into it: no assumption" $?
 }
