@@ -165,12 +165,6 @@ bounds-table-own-2 t c =
     let s = l in
     type_room (its_fork s.requires) s.args.table.now s.requires.block.ready s.args.father l.loop-q.invariant
 
--- LEFT put-fork-same-length : (t : ℕ) → put-fork-lts.Need-same-length (calls t) (put-fork-at t) put-fork.Post put-fork-Inv-loop put-fork-μ-loop
--- put-fork-same-length t c =
---     let l = c.before in
---     let s = l.before.before.before in
---     put_length (sons_put (its_fork s.requires.1) s.args.table.now s.requires.1.block.ready s.args.father l.loop.invariant (omega arith))
-
 pub returns : goal.returns
 returns t c =
     let l = c in

@@ -67,9 +67,6 @@ put-value-requires c =
       noted = counted.noted;
     }
 
--- LEFT same_length : tie.Need-same-length
--- same_length c = search rules
-
 pub returns : goal.returns
 returns c =
     let a = c in

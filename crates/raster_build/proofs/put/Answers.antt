@@ -9,9 +9,6 @@ use Rattle.raster_build.proofs.put.Goals as goal
 pub put_leaf-requires : goal.put_leaf-requires
 put_leaf-requires c = node_room c.requires.block.ready
 
--- LEFT same_length : tie.Need-same-length
--- same_length c = search rules
-
 pub returns-then-kind : goal.returns-then-kind
 returns-then-kind c =
     let d = c in
@@ -20,17 +17,11 @@ returns-then-kind c =
 pub put_four-requires : goal.put_four-requires
 put_four-requires c = sheet_of 1 c.requires.block c.if-n-eq1.true
 
--- LEFT same-length-2 : tie.Need-same-length-2
--- same-length-2 c = search rules
-
 pub returns-then-n-eq1 : goal.returns-then-n-eq1
 returns-then-n-eq1 c = rw c.if-n-eq1.true c.put_four.ensures
 
 pub put_sixteen-requires : goal.put_sixteen-requires
 put_sixteen-requires c = sheet_of 2 c.requires.block c.if-n-eq2.true
-
--- LEFT same-length-3 : tie.Need-same-length-3
--- same-length-3 c = search rules
 
 pub returns-then-n-eq2 : goal.returns-then-n-eq2
 returns-then-n-eq2 c = rw c.if-n-eq2.true c.put_sixteen.ensures
@@ -41,5 +32,3 @@ put_fork-requires c =
     sheet_forked d.requires d.if-kind.false c.if-n-eq1.false c.if-n-eq2.false _
     c.slots-slots.ensures
 
--- LEFT same-length-4 : tie.Need-same-length-4
--- same-length-4 c = search rules
