@@ -115,8 +115,9 @@ PLAIN_NAMES = $(if $(filter-out 4,$(words $(FOLDERS))),$(error a folder has a sp
 
 lib: target/staticlib/libsheet.a
 
-target/staticlib/libsheet.a: crates.txt $(shell find crates 2>/dev/null)
-	rt staticlib sheet
+target/staticlib/libsheet.a: packaging/archive crates.txt $(wildcard build/proved) \
+		$(shell find crates -mindepth 2 -name out -prune -o -print)
+	packaging/archive $@
 
 build/archive.path: always
 	@mkdir -p $(@D)

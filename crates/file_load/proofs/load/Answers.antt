@@ -6,8 +6,5 @@ use Rattle.file_load.proofs.load.Goals as goal
 pub returns-then-too_large : goal.returns-then-too_large
 returns-then-too_large c = search (load_large, rules)
 
--- LEFT same_length : tie.Need-same-length
--- same_length c = search rules
-
 pub returns : goal.returns
 returns c = search (load_read, rules)

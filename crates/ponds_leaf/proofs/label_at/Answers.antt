@@ -31,4 +31,3 @@ overflow_cast-y c = omega (arith, (leaf_bounds c.requires.leaf).0, (leaf_bounds 
 
 pub touch-requires : goal.touch-requires
 touch-requires c = leaf_touching c.requires.leaf _ _ _ refl refl refl
-

@@ -24,4 +24,3 @@ grow_four-requires c = search (four_stands, four_fits, rules)
 
 pub returns-then-alike : goal.returns-then-alike
 returns-then-alike c z = search (pixels_alike, rules)
-

@@ -35,8 +35,5 @@ loop-at-smaller c = let z = c.requires in let g = c.loop-at.invariant z in omega
 pub loop-at-preserved : goal.loop-at-preserved
 loop-at-preserved c = λ z. going_more z.full z.row (c.loop-at.invariant z) c.loop-at-test.true
 
--- LEFT same_length : tie.Need-same-length invariant-loop decreases-loop
--- same_length c = let z = c.before.before.requires in (c.before.loop.invariant z).counted.long ∙ sym z.counted.long
-
 pub returns : goal.returns
 returns c = rowing_all c.loop-at.invariant c.loop-at-test.false

@@ -27,8 +27,5 @@ loop-y-preserved c =
     let s = c in
     (omega (arith, s.loop-y-test.true), rowings_more c.loop-y.invariant.1 s.loop-y-test.true _ refl _ _ c.count_row-count.ensures)
 
--- LEFT same_length : tie.Need-same-length invariant-loop decreases-loop
--- same_length c = (c.before.loop.invariant.1 c.before.before.before.requires).long
-
 pub returns : goal.returns
 returns c = rowings_all c.loop-y.invariant.1 c.loop-y.invariant.0 c.loop-y-test.false

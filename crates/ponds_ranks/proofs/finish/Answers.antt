@@ -21,8 +21,5 @@ loop-p-smaller c = omega (arith, c.loop-p-test.true, c.loop-p.invariant.1.long)
 pub loop-p-preserved : goal.loop-p-preserved
 loop-p-preserved c = (omega (arith, c.loop-p-test.true, c.loop-p.invariant.1.long), writing_more (omega (arith, c.loop-p-test.true, c.loop-p.invariant.1.long)) c.loop-p.invariant.1)
 
--- LEFT same_length : tie.Need-same-length invariant-loop decreases-loop
--- same_length c = c.before.loop.invariant.1.long
-
 pub returns : goal.returns
 returns c = writing_all (omega (arith, c.loop-p-test.false, c.loop-p.invariant.1.long)) c.loop-p.invariant.1

@@ -24,13 +24,6 @@ finish-requires c =
     let o = counted_off h c.side.ensures c.count_rows-count.ensures in
     full_finishing h o c.settle.ensures
 
--- LEFT same_length : tie.Need-same-length
--- same_length c =
---     let s = c.before.before.before.before.before.before.before.before.before.before.before.before.before.before.before.before.before.before.before.before.before in
---     let h = all_queued s.requires c.before.before.before.before.before.before.before.before.before.before.before.before.before.before.before.before.stand-fork.ensures in
---     let o = counted_off h c.before.before.before.before.before.before.before.before.before.before.before.side.ensures c.before.before.before.before.before.before.before.before.before.before.count-rows.ensures in
---     (full_ranked h o c.before.before.before.before.before.before.settle.ensures c.before.before.finish.ensures).each ∙ sym s.requires.sets.each
-
 pub returns : goal.returns
 returns c =
     let h = all_queued c.requires c.stand_fork.ensures in

@@ -51,8 +51,5 @@ loop-p-preserved c =
     let l = c.loop-p-test.true in
     (omega (arith, l, v.long), settling_more (omega (arith, l, v.long)) c.next-one.ensures c.next-two.ensures c.follow.ensures v)
 
--- LEFT same_length : tie.Need-same-length invariant-loop decreases-loop
--- same_length c = c.before.loop.invariant.1.long
-
 pub returns : goal.returns
 returns c = settling_all (omega (arith, c.loop-p-test.false, c.loop-p.invariant.1.long)) c.loop-p.invariant.1

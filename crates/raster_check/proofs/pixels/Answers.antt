@@ -5,4 +5,4 @@ use Rattle.raster.proofs.TestLaws.{pixels_pass}
 use Rattle.raster_check.proofs.pixels.Goals as goal
 
 pub returns : goal.returns
-returns c = sym (pixels_pass c.args.raster.now 0 (λ i lt. omega (arith, c.highest.ensures i lt, c.if-highest-gt-TOP_COLOUR.false)))
+returns c = sym (pixels_pass c.args.raster.now 0 (λ i lt. omega (arith, c.highest.ensures i lt)))

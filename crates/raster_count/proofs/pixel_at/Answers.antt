@@ -19,10 +19,5 @@ bounds-raster-y c =
     let s = c in
     rw (c.side-across.ensures, s.requires.0.whole) (place_lt s.requires.1)
 
--- LEFT cast-result : tie.Need-overflow-cast-result
--- cast-result c =
---     let s = c.before.before.before in
---     omega (arith, c.shared-slice-known2.given (s.args.y * c.before.side.result + s.args.x))
-
 pub returns : goal.returns
 returns c = rw c.side-across.ensures

@@ -33,4 +33,3 @@ fill_block-requires-then-level-eq4 c =
 
 pub returns-then-level-eq4 : goal.returns-then-level-eq4
 returns-then-level-eq4 c = rw c.if-level-eq4.true c.fill_block-then-level-eq4.ensures
-

@@ -7,9 +7,6 @@ use Rattle.raster_put.proofs.put_four.Goals as goal
 pub put_leaf-requires : goal.put_leaf-requires
 put_leaf-requires c = node_room c.requires.ready
 
--- LEFT same_length : tie.Need-same-length
--- same_length c = search rules
-
 pub returns-then-sum-eq0 : goal.returns-then-sum-eq0
 returns-then-sum-eq0 c =
     let d = c in
@@ -17,9 +14,6 @@ returns-then-sum-eq0 c =
 
 pub put_pixels-requires : goal.put_pixels-requires
 put_pixels-requires c = pixels_to_put c.requires _ c.sum_four-sum.ensures.0 c.if-sum-eq0.false
-
--- LEFT same-length-2 : tie.Need-same-length-2
--- same-length-2 c = search rules
 
 pub returns : goal.returns
 returns c = pixels_are c.requires _ c.sum_four-sum.ensures.0 c.if-sum-eq0.false _ _ _ _ c.put_pixels.ensures

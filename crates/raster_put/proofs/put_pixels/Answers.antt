@@ -61,9 +61,6 @@ overflow_add-result c =
     let d = c in
     omega (arith, d.requires.few)
 
--- LEFT same_length : tie.Need-same-length
--- same_length c = search rules
-
 pub returns : goal.returns
 returns c =
     let se = c in

@@ -9,9 +9,6 @@ use Rattle.raster_put.proofs.put_sixteen.Goals as goal
 pub put_leaf-requires : goal.put_leaf-requires
 put_leaf-requires c = node_room c.requires.ready
 
--- LEFT same_length : tie.Need-same-length
--- same_length c = search rules
-
 pub returns-then-sum-eq0 : goal.returns-then-sum-eq0
 returns-then-sum-eq0 c =
     let d = c in
@@ -41,7 +38,7 @@ pub put_four-c-requires : goal.put_four-c-requires
 put_four-c-requires c =
     let nw = c in
     let d = nw in
-    rw nw.put_four-b.auto.1.1.1.1.0
+    rw nw.put_four-b.auto.table
     (ne_to_put d.requires _ d.sum_sixteen-sum.ensures d.if-sum-eq0.false _ nw.put_four-b.ensures.next)
 
 pub overflow_add-north : goal.overflow_add-north
@@ -54,7 +51,7 @@ put_four-d-requires c =
     let ne = c in
     let nw = ne in
     let d = nw in
-    rw (ne.put_four-c.auto.1.1.1.1.0, nw.put_four-b.auto.1.1.1.1.0)
+    rw (ne.put_four-c.auto.table, nw.put_four-b.auto.table)
     (sw_to_put d.requires _ d.sum_sixteen-sum.ensures d.if-sum-eq0.false _ nw.put_four-b.ensures.next _
     ne.put_four-c.ensures.next)
 
@@ -74,7 +71,7 @@ put_four-next-requires c =
     let ne = sw in
     let nw = ne in
     let d = nw in
-    rw (sw.put_four-d.auto.1.1.1.1.0, ne.put_four-c.auto.1.1.1.1.0, nw.put_four-b.auto.1.1.1.1.0)
+    rw (sw.put_four-d.auto.table, ne.put_four-c.auto.table, nw.put_four-b.auto.table)
     (se_to_put d.requires _ d.sum_sixteen-sum.ensures d.if-sum-eq0.false _ nw.put_four-b.ensures.next _
     ne.put_four-c.ensures.next _ sw.put_four-d.ensures.next)
 
@@ -84,11 +81,8 @@ put_node-requires c =
     let sw = se in
     let ne = sw in
     let nw = ne in
-    rw (se.put_four-next.auto.1.1.1.1.0, sw.put_four-d.auto.1.1.1.1.0, ne.put_four-c.auto.1.1.1.1.0, nw.put_four-b.auto.1.1.1.1.0)
+    rw (se.put_four-next.auto.table, sw.put_four-d.auto.table, ne.put_four-c.auto.table, nw.put_four-b.auto.table)
     (node_room nw.requires.ready)
-
--- LEFT same-length-2 : tie.Need-same-length-2
--- same-length-2 c = search rules
 
 pub returns : goal.returns
 returns c =

@@ -1,0 +1,34 @@
+use Prim.Native.Nat.{◌-◌}
+use native.Mathlib.Omega.{arith}
+use Rattle.distance_fill.proofs.HandedLaws.{land_black, land_last, none_more}
+use Rattle.distance_fill.proofs.outside.Goals as goal
+
+pub overflow_sub-last : goal.overflow_sub-last
+overflow_sub-last c = omega (arith, c.node_count-last.ensures, c.requires.sized.some)
+
+pub loop-p-init : goal.loop-p-init
+loop-p-init c = (omega arith, λ j lt. absurd (omega arith))
+
+pub word_at-requires : goal.word_at-requires
+word_at-requires c = (omega (arith, c.node_count-last.ensures), omega arith)
+
+pub overflow_cast-result : goal.overflow_cast-result
+overflow_cast-result c = omega (arith, c.node_count-last.ensures, c.requires.sized.few)
+
+pub returns-then-word_at-eq-BLACK : goal.returns-then-word_at-eq-BLACK
+returns-then-word_at-eq-BLACK c = land_black _ _ c.requires _ _ (omega (arith, c.node_count-last.ensures)) c.word_at.ensures c.if-word_at-eq-BLACK.true
+
+pub overflow_add-p : goal.overflow_add-p
+overflow_add-p c = omega arith
+
+pub loop-p-smaller : goal.loop-p-smaller
+loop-p-smaller c = omega arith
+
+pub loop-p-preserved : goal.loop-p-preserved
+loop-p-preserved c = (omega arith, none_more c.args.table.now c.loop-p.p c.loop-p.invariant.1 _ c.word_at.ensures c.if-word_at-eq-BLACK.false)
+
+pub overflow_cast-result-2 : goal.overflow_cast-result-2
+overflow_cast-result-2 c = omega (arith, c.node_count-last.ensures, c.requires.sized.few)
+
+pub returns : goal.returns
+returns c = land_last _ _ c.requires _ (omega (arith, c.node_count-last.ensures, c.requires.sized.some, c.loop-p.invariant.0)) c.loop-p.invariant.1

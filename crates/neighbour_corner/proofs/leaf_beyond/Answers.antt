@@ -1,0 +1,29 @@
+-- `neighbour_corner::leaf_beyond`: the neighbour, then down by the mirrored corner, is the leaf that holds the pixel
+-- beyond.
+use mathlib.Core.Path.{sym, ◌∙◌}
+use native.Mathlib.Omega.{arith}
+use Rattle.neighbour.proofs.FoundLaws.{found_facts}
+use Rattle.neighbour.proofs.CornerLaws.{beyond_off, beyond_at, mirror_small}
+use borrow.Author.Rules.{rules}
+use Rattle.neighbour_corner.proofs.leaf_beyond.Goals as goal
+
+pub level_of-level-requires : goal.level_of-level-requires
+level_of-level-requires c = let z = c.requires in record { accepted = z.accepted; node = z.node }
+
+pub find-found-requires : goal.find-found-requires
+find-found-requires c = let z = c.requires in (z.accepted, z.node, c.level_of-level.ensures, omega (arith, z.way, z.corner))
+
+pub returns-in_default : goal.returns-in_default
+returns-in_default c = beyond_off _ _ _ _ _ c.requires (sym c.find-found.ensures ∙ c.in_default.is)
+
+pub corner_of-requires : goal.corner_of-requires
+corner_of-requires c =
+    let z = c.requires in
+    let k = found_facts _ _ z.accepted _ _ z.node (omega (arith, z.way)) _ _ (sym c.find-found.ensures ∙ c.in-At.is) in
+    (z.accepted, k.below, k.level, omega (arith, c.mirror-quadrant.ensures, mirror_small _ _ _ _ _ z))
+
+pub returns : goal.returns
+returns c =
+    let z = c.requires in
+    let found = sym c.find-found.ensures ∙ c.in-At.is in
+    beyond_at _ _ _ _ _ z _ _ _ _ found c.mirror-quadrant.ensures c.corner_of.ensures
