@@ -45,16 +45,16 @@ fn links_line(out: &mut impl Write, links: u32) -> io::Result<()> {
 // Prints what one answer adds to the rows: a run, behind the row's number where it is the row's first, or the row's
 // end.
 fn print_answer(out: &mut impl Write, answer: Answer, from: Place) -> io::Result<()> {
-    match answer {
-        Answer::Run { colour, width } => {
-            if from.x == 0 {
-                row_number(out, from.y)?;
-            }
-            run(out, colour, width)
+    if let Answer::Run { colour, width } = answer {
+        if from.x == 0 {
+            row_number(out, from.y)?;
         }
-        Answer::EndRow => writeln!(out),
-        Answer::Moved | Answer::Done | Answer::Refused { .. } => Ok(()),
+        run(out, colour, width)?;
     }
+    if let Answer::EndRow = answer {
+        writeln!(out)?;
+    }
+    Ok(())
 }
 
 // Walks over the table from the start place to the first Done, prints the rows, and gives the links followed: the Moved
