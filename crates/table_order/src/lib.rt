@@ -95,6 +95,7 @@ fn needless(table: &[u32], p: u32, next: u32) -> bool
 // The node after all that is below fork p, which is above level 1, where it stands in order and as the rules want it,
 // and there is room for those that are still to come; else 0. A son that is a leaf, or a fork of four pixels, is passed
 // here, without a call.
+#[tactic(auto, using(crate::proofs::OrderLaws::no_order))]
 pub fn in_order(table: &[u32], count: u32, level: u32, p: u32) -> u32
     requires { ForkOf table.now count p × (2 ≤ level) }
     ensures { Ordered table.now level p result }

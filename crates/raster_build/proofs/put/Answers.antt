@@ -31,4 +31,3 @@ put_fork-requires c =
     let d = c in
     sheet_forked d.requires d.if-kind.false c.if-n-eq1.false c.if-n-eq2.false _
     c.slots-slots.ensures
-

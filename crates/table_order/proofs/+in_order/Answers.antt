@@ -1,7 +1,7 @@
 use mathlib.Core.Logic.{⊎_elim}
 use native.Mathlib.Omega.{arith}
 use Rattle.table.proofs.TypeLaws.{told_fork}
-use Rattle.table_order.proofs.OrderLaws.{no_order, passing_none, again_fork, again_pixels, again_leaf, passed_named, passed_told}
+use Rattle.table_order.proofs.OrderLaws.{passing_none, again_fork, again_pixels, again_leaf, passed_named, passed_told}
 use Prim.Native.Nat.{◌-◌}
 use mathlib.Core.Path.{ap}
 use mathlib.Core.Bool.{not}
@@ -12,9 +12,6 @@ use Rattle.table_order.proofs.+in_order.Goals as goal
 
 pub overflow_add-p : goal.overflow_add-p
 overflow_add-p t c = omega arith
-
-pub returns-then-count-p : goal.returns-then-count-p
-returns-then-count-p t c = no_order _ _ _
 
 pub overflow_add-next : goal.overflow_add-next
 overflow_add-next t c = omega arith
@@ -31,26 +28,17 @@ overflow_add-q t c = omega arith
 pub word_at-requires : goal.word_at-requires
 word_at-requires t c = (c.requires.0.node, omega arith)
 
-pub returns-then-word_at-son : goal.returns-then-word_at-son
-returns-then-word_at-son t c = no_order _ _ _
-
 pub word_at-requires-in-loop-q : goal.word_at-requires-in-loop-q
 word_at-requires-in-loop-q t c = (omega (arith, c.loop-q.invariant.room), omega arith)
 
 pub word_at-requires-then-word_at-eq-FORK : goal.word_at-requires-then-word_at-eq-FORK
 word_at-requires-then-word_at-eq-FORK t c = (omega (arith, c.loop-q.invariant.room), omega arith)
 
-pub returns-then-word_at-fork : goal.returns-then-word_at-fork
-returns-then-word_at-fork t c = no_order _ _ _
-
 pub pixels-requires : goal.pixels-requires
 pixels-requires t c =
     let s = c in
     let l = c in
     record { node = omega (arith, l.loop-q.invariant.room); fork = told_fork s.args.table.now l.loop-q.next _ c.word_at-in-loop-q.ensures c.if-word_at-eq-FORK.true; all = s.requires.0.all; few = s.requires.0.few }
-
-pub returns-then-not-pixels : goal.returns-then-not-pixels
-returns-then-not-pixels t c = no_order _ _ _
 
 pub overflow_add-next-then-level-eq2 : goal.overflow_add-next-then-level-eq2
 overflow_add-next-then-level-eq2 t c = omega (arith, c.loop-q.invariant.room, c.requires.0.few)
@@ -63,9 +51,6 @@ in_order-next-requires t c =
     let s = c in
     let l = c in
     (omega (arith, c.decreases, c.requires.1), (record { node = omega (arith, l.loop-q.invariant.room); fork = told_fork s.args.table.now l.loop-q.next _ c.word_at-in-loop-q.ensures c.if-word_at-eq-FORK.true; all = s.requires.0.all; few = s.requires.0.few }, omega (arith, s.requires.1, c.if-level-eq2.false)))
-
-pub returns-then-next-eq0 : goal.returns-then-next-eq0
-returns-then-next-eq0 t c = no_order _ _ _
 
 pub overflow_cast-q : goal.overflow_cast-q
 overflow_cast-q t c = omega arith
@@ -80,9 +65,6 @@ overflow_add-next-then-word_at-eq-FORK t c =
       | else-level-eq2+else-next-eq0 w ↦ omega (arith, w.in_order-next.ensures.within, w.next-is, c.requires.0.few)
     ]
 
-pub returns-then-count-q : goal.returns-then-count-q
-returns-then-count-q t c = no_order _ _ _
-
 pub loop-q-smaller-else-count-q : goal.loop-q-smaller-else-count-q
 loop-q-smaller-else-count-q t c = omega arith
 
@@ -92,8 +74,8 @@ loop-q-preserved-else-count-q t c =
     let f = c.requires.0 in
     let e = c.word_at-then-word_at-eq-FORK.ensures in
     elim c.if-level-eq2.branch [
-      | then-level-eq2+else-not-pixels w ↦ again_pixels _ _ _ _ _ _ _ i (omega arith) f c.word_at.ensures c.if-word_at-son.false _ _ e c.if-word_at-fork.false w.if-level-eq2.true _ w.pixels.ensures (ap not w.if-not-pixels.false) w.next-is (omega arith)
-      | else-level-eq2+else-next-eq0 w ↦ again_fork _ _ _ _ _ _ _ i (omega arith) f c.word_at.ensures c.if-word_at-son.false _ _ e c.if-word_at-fork.false (rw w.next-is w.in_order-next.ensures) (rw w.next-is w.if-next-eq0.false) (omega arith)
+      | then-level-eq2+else-not-pixels w ↦ again_pixels _ _ _ _ _ _ _ i (omega arith) f c.word_at.ensures c.if-word_at-son.false _ _ e (omega arith) w.if-level-eq2.true _ w.pixels.ensures (ap not w.if-not-pixels.false) w.next-is (omega arith)
+      | else-level-eq2+else-next-eq0 w ↦ again_fork _ _ _ _ _ _ _ i (omega arith) f c.word_at.ensures c.if-word_at-son.false _ _ e (omega arith) (rw w.next-is w.in_order-next.ensures) (rw w.next-is w.if-next-eq0.false) (omega arith)
     ]
 
 pub overflow_mul-son : goal.overflow_mul-son
@@ -101,9 +83,6 @@ overflow_mul-son t c = omega arith
 
 pub is_leaf_of-requires : goal.is_leaf_of-requires
 is_leaf_of-requires t c = omega (arith, c.loop-q.invariant.room)
-
-pub returns-then-not-is_leaf_of : goal.returns-then-not-is_leaf_of
-returns-then-not-is_leaf_of t c = no_order _ _ _
 
 pub overflow_add-next-else-word_at-eq-FORK : goal.overflow_add-next-else-word_at-eq-FORK
 overflow_add-next-else-word_at-eq-FORK t c = omega arith
@@ -116,9 +95,6 @@ loop-q-preserved t c = again_leaf _ _ _ _ _ _ _ c.loop-q.invariant (omega arith)
 
 pub needless-requires : goal.needless-requires
 needless-requires t c = passed_named _ _ _ _ _ _ c.loop-q.invariant (omega arith) c.requires.0
-
-pub returns-then-needless : goal.returns-then-needless
-returns-then-needless t c = no_order _ _ _
 
 pub returns : goal.returns
 returns t c =
