@@ -150,9 +150,13 @@ def main():
         if clash_here:
             print("look:", path, "takes from outside", clash_here)
 
-        def turn(piece):
+        def words(piece):
             parts = SPLIT.split(piece)
             return "".join(p if i % 2 else (table[p] if p in table and p not in skip else p) for i, p in enumerate(parts))
+
+        # what a string holds is the program's
+        def turn(piece):
+            return "".join(p if i % 2 else words(p) for i, p in enumerate(re.split(r'(b?"(?:[^"\\]|\\.)*")', piece)))
 
         mark = "--" if path.endswith(".antt") else "//"
         lines = []

@@ -12,6 +12,7 @@ use Rattle.table.specs.Writing.{leaf_words}
 use Rattle.table.proofs.WritingLaws.{type_put, Forked, InTurn, son_ready, son_put}
 use Rattle.raster.specs.Raster.{picture_of}
 use Rattle.raster.proofs.BlockLaws.{on_small, on_son}
+use Rattle.raster.proofs.BuildLaws.{sheet_on}
 use Rattle.raster_notes.specs.Notes.{slots_of}
 use Rattle.raster_notes.proofs.NoteLaws.{slots_some, times_below}
 use Rattle.raster_count.specs.Kinds.{Known}
@@ -80,12 +81,15 @@ pub sheet_of : {n words : ℕ} {R : List ℕ} (m : ℕ) → BlockToPut n R n 0 0
 sheet_of m b e = rw e at b
 
 module _ {n words : ℕ} {R K : List ℕ} (b : SheetToPut n R K words) where
+  pub sheet_block : BlockToPut n R n 0 0 0 words
+  sheet_block = record { picture = b.picture; on = sheet_on n; ready = b.ready }
+
   pub sheet_forked : get_or K 0 0 ≡ fork_type → (n ≡ 1 → ⊥) → (n ≡ 2 → ⊥) → (t : ℕ) → t ≡ slots_of (n - 3) → ForkToPut n R K n 0 0 0 t 0 words
   sheet_forked e one two t et =
       let fk = sym (sheet_kind n R K b.noted) ∙ e in
       record {
-        block = b.block;
-        high = omega (arith, fork_pos n n 0 0 R b.block.picture fk, one, two);
+        block = sheet_block;
+        high = omega (arith, fork_pos n n 0 0 R b.picture fk, one, two);
         fork = fk;
-        known = sheet_known n R K b.noted t b.block.picture.top et;
+        known = sheet_known n R K b.noted t b.picture.top et;
       }

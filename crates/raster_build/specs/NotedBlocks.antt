@@ -2,7 +2,9 @@
 use Rattle.std.specs.Prelude.{List, ◌≡◌, ℕ, ◌-◌, ◌^◌, ◌≤◌}
 use Rattle.quad.specs.Numbers.{fork_type}
 use Rattle.quad.specs.Tree.{colour, tree_of}
+use Rattle.table.specs.Writing.{Ready}
 use Rattle.raster.specs.Raster.{picture_of}
+use Rattle.raster.specs.Blocks.{Picture}
 use Rattle.raster_notes.specs.Notes.{Noted}
 use Rattle.raster_count.specs.Kinds.{Known}
 use Rattle.raster_put.specs.Putting.{BlockToPut}
@@ -16,5 +18,6 @@ pub record ForkToPut (n : ℕ) (R K : List ℕ) (l x y slot slots p words : ℕ)
 
 -- the whole sheet R of level n may be put; its notes are K
 pub record SheetToPut (n : ℕ) (R K : List ℕ) (words : ℕ) : Type 0 where
-  pub block : BlockToPut n R n 0 0 0 words
+  pub picture : Picture n R
   pub noted : Noted R (2 ^ n) K (n - 3) n 0 0
+  pub ready : Ready (tree_of (picture_of n R) n 0 0) 0 words

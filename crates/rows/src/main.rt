@@ -58,7 +58,7 @@ fn print_answer(out: &mut impl Write, answer: Answer, from: Place) -> io::Result
 }
 
 // Walks over the table from the start place to the first Done, prints the rows, and gives the links followed: the Moved
-// that its steps told.
+// that its steps told. The one error is that of a write to `out`; the table is only read.
 fn print_rows(out: &mut impl Write, level: u32, table: &[u32]) -> io::Result<u32>
     requires { Accepted level table.now }
     ensures { IfOk result (Tallied level table.now) }

@@ -1,9 +1,6 @@
 -- `ground_centre::centre`: the refusals in their order, then two stores; nothing is written before the last test.
---
 use Rattle.ground_centre.proofs.CentreLaws.{centre_asked, centre_range, centre_room, centre_put}
 use Rattle.table.proofs.CheckLaws.{asked_call}
-use lib.ListN.{length-set}
-use native.Mathlib.Omega.{arith}
 use borrow.Author.Rules.{rules}
 use Rattle.ground_centre.proofs.centre.Goals as goal
 
@@ -18,9 +15,6 @@ returns-then-place-lt2 c = search (centre_room, rules)
 
 pub middle_of-middle-requires : goal.middle_of-middle-requires
 middle_of-middle-requires c = search (asked_call, rules)
-
-pub bounds-place-1 : goal.bounds-place-1
-bounds-place-1 c = simp length-set (omega arith)
 
 pub returns : goal.returns
 returns c = search (centre_put, rules)

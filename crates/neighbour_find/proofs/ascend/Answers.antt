@@ -10,16 +10,16 @@ pub loop-way-init : goal.loop-way-init
 loop-way-init c = set_out _ _ _ _ _ c.requires
 
 pub returns-then-node-eq0 : goal.returns-then-node-eq0
-returns-then-node-eq0 c = (c.loop-way.invariant, inr c.if-node-eq0.true)
+returns-then-node-eq0 c = (c.loop-way.invariant, inr (omega arith))
 
 pub son_type-quadrant-requires : goal.son_type-quadrant-requires
 son_type-quadrant-requires c =
     let v = c.loop-way.invariant in
-    (v.node, (turn _ _ _ _ _ c.requires _ _ _ _ _ _ v c.if-node-eq0.false refl refl).father)
+    (v.node, (turn _ _ _ _ _ c.requires _ _ _ _ _ _ v (λ e. omega (arith, e)) refl refl).father)
 
 -- what one turn comes to, once the quadrant is read
 turned : (c : After-son_type-quadrant) → let s = c.args in let v = c.loop-way in Turn s.n s.table.now s.p s.level s.direction v.node v.above v.way v.moves c.son_type-quadrant.result (father s.table.now v.node)
-turned c = turn _ _ _ _ _ c.requires _ _ _ _ _ _ c.loop-way.invariant c.if-node-eq0.false c.son_type-quadrant.ensures refl
+turned c = turn _ _ _ _ _ c.requires _ _ _ _ _ _ c.loop-way.invariant (λ e. omega (arith, e)) c.son_type-quadrant.ensures refl
 
 pub overflow_mul-moves : goal.overflow_mul-moves
 overflow_mul-moves c = omega (arith, (turned (goal.at.overflow_mul-moves c).After-son_type-quadrant).fits)

@@ -8,7 +8,7 @@ use Rattle.quad.specs.Tree.{size_of, tree_of}
 use Rattle.quad.proofs.TreeLaws.{size_fits}
 use Rattle.quad.proofs.PictureLaws.{tree_within}
 use Rattle.raster.specs.Raster.{picture_of}
-use Rattle.raster.proofs.BuildLaws.{builds_refused, passed_picture, builds_short, builds_done, sheet_on, sheet_ready}
+use Rattle.raster.proofs.BuildLaws.{builds_refused, passed_picture, builds_short, builds_done, sheet_ready}
 use Rattle.raster_count.proofs.NotedLaws.{sheet_window}
 use borrow.Author.Rules.{rules}
 use mathlib.Core.Bool.{not}
@@ -58,13 +58,9 @@ put-value-requires c =
     let pic = passed_picture s.args.n s.args.raster.now s.args.table.now
     _ _ a.readable-read.ensures a.answered.ensures (ap not a.if-not-answered.false) in
     record {
-      block = record {
-        picture = pic;
-        on = sheet_on s.args.n;
-        ready = sheet_ready s.args.n s.args.raster.now s.args.table.now pic.top _ (counted.nodes ∙ ap size_of (sheet_window _ _))
-            c.if-table-needed.false;
-      };
+      picture = pic;
       noted = counted.noted;
+      ready = sheet_ready s.args.n s.args.raster.now s.args.table.now pic.top _ (counted.nodes ∙ ap size_of (sheet_window _ _)) c.if-table-needed.false;
     }
 
 pub returns : goal.returns

@@ -2,12 +2,12 @@
 use mathlib.Core.Path.{refl}
 use Rattle.table.proofs.WritingLaws.{node_room, type_put}
 use Rattle.raster_count.proofs.NotedLaws.{sheet_kind}
-use Rattle.raster_build.proofs.QuarterLaws.{sheet_forked, sheet_of}
+use Rattle.raster_build.proofs.QuarterLaws.{sheet_forked, sheet_of, sheet_block}
 use borrow.Author.Rules.{rules}
 use Rattle.raster_build.proofs.put.Goals as goal
 
 pub put_leaf-requires : goal.put_leaf-requires
-put_leaf-requires c = node_room c.requires.block.ready
+put_leaf-requires c = node_room c.requires.ready
 
 pub returns-then-kind : goal.returns-then-kind
 returns-then-kind c =
@@ -15,13 +15,13 @@ returns-then-kind c =
     type_put _ _ 0 _ _ _ _ (sheet_kind _ _ _ d.requires.noted) d.if-kind.true refl c.put_leaf.ensures
 
 pub put_four-requires : goal.put_four-requires
-put_four-requires c = sheet_of 1 c.requires.block c.if-n-eq1.true
+put_four-requires c = sheet_of 1 (sheet_block c.requires) c.if-n-eq1.true
 
 pub returns-then-n-eq1 : goal.returns-then-n-eq1
 returns-then-n-eq1 c = rw c.if-n-eq1.true c.put_four.ensures
 
 pub put_sixteen-requires : goal.put_sixteen-requires
-put_sixteen-requires c = sheet_of 2 c.requires.block c.if-n-eq2.true
+put_sixteen-requires c = sheet_of 2 (sheet_block c.requires) c.if-n-eq2.true
 
 pub returns-then-n-eq2 : goal.returns-then-n-eq2
 returns-then-n-eq2 c = rw c.if-n-eq2.true c.put_sixteen.ensures
