@@ -11,11 +11,13 @@ use Rattle.quad.specs.Numbers.{fork_type, top_colour, max_words}
 use Rattle.quad.specs.Tree.{Tree, leaf, fork, colour, son_of, Within, Reduced, Coloured, size_of, types_of}
 use Rattle.quad.proofs.TreeLaws.{by_quadrant, type_le, types_length}
 use Rattle.table.specs.Preorder.{preorder}
-use Rattle.table.specs.Writing.{node_words, leaf_words, Ready}
+use Rattle.table.specs.Writing.{node_words, leaf_words, Ready, Put}
 use Rattle.table.proofs.PreorderLaws.{son_node}
 use Rattle.table.proofs.WritingLaws.{type_put, Forked, InTurn, son_ready, son_put}
 use Rattle.file.specs.File.{got, block_at}
-use Rattle.file_read.specs.Linking.{record_place, tree_in, tree_on, BlockToLink, ForkToLink, BlockLinked}
+use Rattle.file.specs.Linking as linking
+use Rattle.file.specs.Linking.{record_place, tree_in, Linked}
+use Rattle.file_read.specs.Linking.{tree_on, BlockToLink, ForkToLink, BlockLinked}
 use Rattle.file.proofs.SpeltLaws.{Stands, Spelt, spelt_parts}
 use Rattle.file_scan.proofs.PixelLaws.{pixel_of}
 use Rattle.file.proofs.BlockLaws.{Spells, block_spells, root_kind, block_read}
@@ -23,6 +25,25 @@ use Rattle.file.proofs.BlockLaws.{Spells, block_spells, root_kind, block_read}
 -- a tree that was read at node p's record, and is ready
 pub linkable : {s : List ℕ} {l p words : ℕ} (t : Tree) → block_at s l (record_place p) ≡ got (record_place (p + size_of t)) t → Ready t p words → BlockToLink s l p words
 linkable t e r = record { read = rw e; ready = rw e r }
+
+-- what is asked and promised of a block, said of its tree, and back
+pub to_link : {s : List ℕ} {l p words : ℕ} → linking.Ready s l p words → BlockToLink s l p words
+to_link h = linkable h.tree h.is (record { room = h.room; few = h.few })
+
+pub fork_to_link : {s : List ℕ} {l p words : ℕ} → linking.Ready s l p words × (get_or s (record_place p + 2) 0 ≡ fork_type) → ForkToLink s l p words
+fork_to_link h = record { block = to_link h.0; fork = h.1 }
+
+pub link_ready : {s : List ℕ} {l p words : ℕ} → BlockToLink s l p words → linking.Ready s l p words
+link_ready {s} {l} {p} b = record { tree = tree_on s l p; is = b.read; room = b.ready.room; few = b.ready.few }
+
+pub fork_ready : {s : List ℕ} {l p words : ℕ} → ForkToLink s l p words → linking.Ready s l p words × (get_or s (record_place p + 2) 0 ≡ fork_type)
+fork_ready k = (link_ready k.block, k.fork)
+
+pub linked : (t : Tree) {f p r : ℕ} {before after : List ℕ} → Put t f p before after r → Linked t f p before after r
+linked t h = record { next = h.next; words = h.words }
+
+pub put_of : (t : Tree) {f p r : ℕ} {before after : List ℕ} → Linked t f p before after r → Put t f p before after r
+put_of t h = record { next = h.next; words = h.words }
 
 -- a fork of level l that was read at node p's record: its sons were read at theirs
 record ForkRead (s : List ℕ) (l p : ℕ) (t : Tree) : Type 0 where
@@ -81,8 +102,11 @@ module _ {s : List ℕ} {l p words : ℕ} (b : BlockToLink s l p words) where
     pub kind_le : k ≤ fork_type
     kind_le = rw kind_is (type_le (tree_on s l p) its_spells.sound.coloured)
 
-    pub links_leaf : {f : ℕ} {before after : List ℕ} → (k ≡ fork_type → ⊥) → after ≡ sets before (6 * p) (leaf_words f k) → BlockLinked s l f p before after (p + 1)
-    links_leaf {f} {before} {after} ne h = type_put (tree_on s l p) k p f _ before after kind_is ne refl h
+    pub links_put : {f : ℕ} {before after : List ℕ} → (k ≡ fork_type → ⊥) → after ≡ sets before (6 * p) (leaf_words f k) → BlockLinked s l f p before after (p + 1)
+    links_put {f} {before} {after} ne h = type_put (tree_on s l p) k p f _ before after kind_is ne refl h
+
+    pub links_leaf : {f : ℕ} {before after : List ℕ} → (k ≡ fork_type → ⊥) → after ≡ sets before (6 * p) (leaf_words f k) → Linked (tree_in (block_at s l (record_place p))) f p before after (p + 1)
+    links_leaf ne h = linked (tree_on s l p) (links_put ne h)
 
 -- a fork: its sons were read, one after the other
 module _ {s : List ℕ} {l p words : ℕ} (b : ForkToLink s l p words) where
@@ -119,8 +143,8 @@ module _ {s : List ℕ} {l p : ℕ} (w : List ℕ) (b : ForkToLink s l p (length
   pub son_forked : {k : ℕ} → k ≡ get_or s (record_place next + 2) 0 → k ≡ fork_type → ForkToLink s m next (length (set w' (6 * p + 1 + q) next))
   son_forked e fk = record { block = son_to_link; fork = sym e ∙ fk }
 
-  pub son_linked : {w₂ : List ℕ} {r : ℕ} → BlockLinked s m p next (set w' (6 * p + 1 + q) next) w₂ r → InTurn (tree_on s l p) p (q + 1) r (set w (6 * p) f) w₂
-  son_linked h = son_put (its_fork b) w b.block.ready f turn q4 (rw (ap tree_in here) at h)
+  pub son_linked : {w₂ : List ℕ} {r : ℕ} → Linked (tree_in (block_at s m (record_place next))) p next (set w' (6 * p + 1 + q) next) w₂ r → InTurn (tree_on s l p) p (q + 1) r (set w (6 * p) f) w₂
+  son_linked h = son_put (its_fork b) w b.block.ready f turn q4 (rw (ap tree_in here) at (put_of (tree_on s m next) h))
 
 -- a pixel that was read
 pixel_read : (s : List ℕ) (i r k : ℕ) (t : Tree) → block_at s 0 (record_place i) ≡ got r t → k ≡ get_or s (record_place i + 2) 0
@@ -169,7 +193,7 @@ module _ {s : List ℕ} {p words : ℕ} (k : ForkToLink s 1 p words) where
       → w₀ ≡ sets w (6 * p) (node_words f (p + 1) (p + 1 + 1) (p + 1 + 1 + 1) (p + 1 + 1 + 1 + 1) fork_type)
       → w₁ ≡ sets w₀ (6 * (p + 1)) (leaf_words p a) → w₂ ≡ sets w₁ (6 * (p + 1 + 1)) (leaf_words p b)
       → w₃ ≡ sets w₂ (6 * (p + 1 + 1 + 1)) (leaf_words p c) → w₄ ≡ sets w₃ (6 * (p + 1 + 1 + 1 + 1)) (leaf_words p d)
-      → BlockLinked s 1 f p w w₄ (p + 1 + 1 + 1 + 1 + 1)
+      → Linked (tree_in (block_at s 1 (record_place p))) f p w w₄ (p + 1 + 1 + 1 + 1 + 1)
   unfolding size_of preorder
   pixels_linked {f} {a} {b} {c} {d} {w} {w₀} {w₁} {w₂} {w₃} {w₄} ea eb ec ed e₀ e₁ e₂ e₃ e₄ =
       let own : List ℕ = node_words f (p + 1) (p + 1 + 1) (p + 1 + 1 + 1) (p + 1 + 1 + 1 + 1) fork_type in

@@ -16,11 +16,10 @@ use Rattle.quad.proofs.TreeLaws.{size_fits}
 use Rattle.table.proofs.PreorderLaws.{Written, written_whole}
 use Rattle.file.specs.declared.Contents.{Contents}
 use Rattle.file.specs.declared.Contents.TheVariants.{Sheet, Faulty}
-use Rattle.file.specs.File.{Opened, opened, faulty, open_of, read_of, read_table}
+use Rattle.file.specs.File.{block_at, Opened, opened, faulty, open_of, read_of, read_table}
 use Rattle.file.specs.Calls.{Reads}
 use Rattle.file.specs.Reading.{contents_of}
-use Rattle.file_read.specs.Linking.{BlockToLink, BlockLinked}
-use Rattle.file_read.proofs.LinkLaws.{linkable}
+use Rattle.file.specs.Linking.{record_place, tree_in, Ready, Linked}
 use Rattle.file.proofs.OpenLaws.{Whole, open_whole}
 
 -- a file that opens, as the first pass tells it
@@ -70,10 +69,10 @@ module _ (s old : List ℕ) (c : Contents) (e : c ≡ contents_of (open_of s)) w
       table = rw (its.is, its.size, lt-ltb (length old) (6 * count) lt);
     }
 
-    pub link_asks : 6 * count ≤ length old → BlockToLink s n 0 (length old)
-    link_asks le = linkable its.tree (rw zero-add whole.block) (record { room = omega (arith, its.size); few = omega (arith, its.size, sheet_fits.1) })
+    pub link_asks : 6 * count ≤ length old → Ready s n 0 (length old)
+    link_asks le = record { tree = its.tree; is = rw zero-add whole.block; room = omega (arith, its.size); few = omega (arith, its.size, sheet_fits.1) }
 
-    pub reads_sheet : 6 * count ≤ length old → (after : List ℕ) (r : ℕ) → BlockLinked s n none 0 old after r
+    pub reads_sheet : 6 * count ≤ length old → (after : List ℕ) (r : ℕ) → Linked (tree_in (block_at s n (record_place 0))) none 0 old after r
         → (v : ℕ) → v ≡ with_level count n → Reads s old (Answered v) after
     unfolding read_of read_table
     reads_sheet le after r h v is =

@@ -1,19 +1,10 @@
--- Linking, the second pass: the words of the preorder table, written from a node on. Node p's record is record p of the
--- file.
-use Rattle.std.specs.Prelude.{List, ◌≡◌, ℕ, ◌+◌, ◌*◌, get_or}
+-- Linking, said of the tree that a block holds: what the second pass's laws speak of.
+use Rattle.std.specs.Prelude.{List, ◌≡◌, ℕ, ◌+◌, get_or}
 use Rattle.quad.specs.Numbers.{fork_type}
-use Rattle.quad.specs.Tree.{Tree, leaf, size_of}
+use Rattle.quad.specs.Tree.{Tree, size_of}
 use Rattle.table.specs.Writing.{Ready, Put}
-use Rattle.file.specs.File.{Got, got, bad, block_at}
-
--- where node p's record starts
-abbrev pub record_place : ℕ → ℕ
-record_place p = 5 + 3 * p
-
--- the tree of a block that was read
-abbrev pub tree_in : Got → Tree
-tree_in (got at t) = t
-tree_in (bad o) = leaf 0
+use Rattle.file.specs.File.{got, block_at}
+use Rattle.file.specs.Linking.{record_place, tree_in}
 
 -- the tree of the block of level l that node p's record begins
 abbrev pub tree_on : List ℕ → ℕ → ℕ → Tree

@@ -2,10 +2,11 @@
 #![tactic(auto)]
 
 ghost use Rattle.std.specs.Prelude.{◌≡◌, ◌+◌, ◌≤◌, length, get_or};
-ghost use Rattle.file.specs.File.{open_of};
+ghost use Rattle.quad.specs.Numbers.{fork_type};
+ghost use Rattle.file.specs.File.{open_of, block_at};
 ghost use Rattle.file.specs.Calls.{Reads};
 ghost use Rattle.file.specs.Reading.{contents_of};
-ghost use Rattle.file_read.specs.Linking.{record_place, BlockToLink, ForkToLink, BlockLinked};
+ghost use Rattle.file.specs.Linking.{record_place, tree_in, Ready, Linked};
 
 use answer::Outcome;
 use file::{Block, Contents};
@@ -44,8 +45,8 @@ fn type_of(file: &[u8], p: u32) -> usize
 
 // The second pass, for a fork over four pixels: its five nodes from p on, and the next node.
 fn link_pixels(file: &[u8], table: &mut [u32], p: u32, father: u32) -> u32
-    requires { ForkToLink file.now 1 p (length table.old) }
-    ensures { BlockLinked file.now 1 father p table.old table.new result }
+    requires { Ready file.now 1 p (length table.old) × (get_or file.now (record_place p + 2) 0 ≡ fork_type) }
+    ensures { Linked (tree_in (block_at file.now 1 (record_place p))) father p table.old table.new result }
 {
     let nw = p + 1;
     let ne = nw + 1;
@@ -67,8 +68,9 @@ fn link_pixels(file: &[u8], table: &mut [u32], p: u32, father: u32) -> u32
 // the son's part, and the type last; a son that is a leaf, or a fork over four pixels, is written here, without a call,
 // and each call hands on the one reference to the file.
 fn link_fork(file: &&[u8], level: u32, table: &mut [u32], p: u32, father: u32) -> u32
-    requires { ForkToLink file.now.now level p (length table.old) }
-    ensures { BlockLinked file.now.now level father p table.old table.new result }
+    requires { Ready file.now.now level p (length table.old)
+        × (get_or file.now.now (record_place p + 2) 0 ≡ fork_type) }
+    ensures { Linked (tree_in (block_at file.now.now level (record_place p))) father p table.old table.new result }
 {
     let own = 6 * (p as usize);
     table[own] = father;
@@ -95,8 +97,8 @@ fn link_fork(file: &&[u8], level: u32, table: &mut [u32], p: u32, father: u32) -
 
 // The second pass, for a block: its nodes from p on, in preorder, and the next node.
 fn link_block(file: &[u8], level: u32, table: &mut [u32], p: u32, father: u32) -> u32
-    requires { BlockToLink file.now level p (length table.old) }
-    ensures { BlockLinked file.now level father p table.old table.new result }
+    requires { Ready file.now level p (length table.old) }
+    ensures { Linked (tree_in (block_at file.now level (record_place p))) father p table.old table.new result }
 {
     let kind = type_of(file, p);
     if kind == quad::FORK {

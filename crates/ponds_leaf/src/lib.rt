@@ -1,11 +1,11 @@
 // A leaf, or four pixels under a fork, labelled in the walk.
 #![tactic(auto)]
 
-ghost use Rattle.std.specs.Prelude.{◌≡◌, true, ◌+◌, ◌*◌, ◌≤◌, length};
+ghost use Rattle.std.specs.Prelude.{◌≡◌, true, ◌+◌, ◌*◌, ◌≤◌, length, get_or};
 ghost use Rattle.ponds_sets.specs.Lines.{across};
 ghost use Rattle.table.specs.Table.{is_fork};
-ghost use Rattle.ponds_sets.specs.Walk.{written, ToLeaf, Reaching, TouchesAt, PastLeaf, Coming, Goes};
-ghost use Rattle.ponds_sets.specs.Touch.{one_if_own};
+ghost use Rattle.ponds_sets.specs.Walk.{written, ToLeaf, Reaching, PastLeaf, Coming, Goes};
+ghost use Rattle.ponds_sets.specs.Touch.{one_if_own, LabelsAs};
 
 use ponds_join::touch;
 use ponds_sides::{ACROSS, fill, fill_two, sides, two_sides};
@@ -24,7 +24,8 @@ fn one_if_own(label: u32, p: usize) -> u32
 // The label of leaf p, of which (x, y) is the top left pixel, from what the lines tell there.
 fn label_at(words: &mut [u32], lines: &[u32; 256], kind: usize, p: usize, x: usize, y: usize) -> u32
     requires { Reaching words.old lines.now kind p x y }
-    ensures { TouchesAt words.old lines.now kind p x y words.new result }
+    ensures { LabelsAs words.old kind p (get_or lines.now x 0) (get_or lines.now (across + y) 0) (across * y + x) words.new
+        result }
 {
     touch(
         words,

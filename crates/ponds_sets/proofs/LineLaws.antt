@@ -1,7 +1,7 @@
 -- The lines as the sets grow together, and a label joined with what a line tells.
 use mathlib.Core.List.{List}
 use mathlib.Core.Path.{◌≡◌, refl, ap, sym, ◌∙◌}
-use Prim.Native.Nat.{ℕ, ◌-◌}
+use Prim.Native.Nat.{ℕ}
 use Rattle.ponds_sets.specs.Sets.{Placed, Further, Joining, Joined}
 use Rattle.ponds_sets.specs.Lines.{Label, Line, MetAt, Met}
 use Rattle.ponds_sets.specs.Touch.{first_nonzero}

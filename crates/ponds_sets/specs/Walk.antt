@@ -9,7 +9,6 @@ use Rattle.ponds.specs.Chain.{Water, Chain}
 use Rattle.ponds.specs.Words.{word_of}
 use Rattle.ponds_sets.specs.Sets.{leading, Placed, Sets, Begins, Further, Alike}
 use Rattle.ponds_sets.specs.Lines.{Has, Label, Line, Met, across}
-use Rattle.ponds_sets.specs.Touch.{LabelsAs}
 
 -- the lines L tell of what lies north and west of the block of level l at (x, y)
 pub record Lines (n : ℕ) (T W : List ℕ) (lead : ℕ → ℕ) (L : List ℕ) (x y l : ℕ) : Type 0 where
@@ -115,10 +114,6 @@ pub record Quiet (L : List ℕ) (label from k r : ℕ) : Type 0 where
   pub few : r ≤ k
   pub same : r ≡ 0 → (i : ℕ) → i < k → (get_or L (from + i) 0 ≡ 0 → ⊥) → get_or L (from + i) 0 ≡ label
 
--- a leaf of any type joined along its sides: what it asks, and what it leaves. A white one has nothing to join
-abbrev pub ToSides : ℕ → List ℕ → List ℕ → ℕ → ℕ → ℕ → ℕ → Type 0
-ToSides kind W L label x y side = (kind ≡ black → Shore W L label x y side) × (x + side ≤ across) × (y + side ≤ across)
-
 pub record Sides (kind : ℕ) (W L : List ℕ) (label x y side : ℕ) (W' : List ℕ) : Type 0 where
   pub wet : kind ≡ black → Shores W L label x y side side W'
   pub dry : (kind ≡ black → ⊥) → W' ≡ W
@@ -148,10 +143,6 @@ pub record ToLeaf (W L : List ℕ) (kind p side x y : ℕ) : Type 0 where
 pub record Reaching (W L : List ℕ) (kind p x y : ℕ) : Type 0 where
   pub side : ℕ
   pub leaf : ToLeaf W L kind p side x y
-
--- it has its label, from what the lines tell of the pixels beside its top left one
-abbrev pub TouchesAt : List ℕ → List ℕ → ℕ → ℕ → ℕ → ℕ → List ℕ → ℕ → Type 0
-TouchesAt W L kind p x y W' r = LabelsAs W kind p (get_or L x 0) (get_or L (across + y) 0) (across * y + x) W' r
 
 -- it has been gone through
 abbrev pub PastLeaf : List ℕ → List ℕ → ℕ → ℕ → ℕ → ℕ → ℕ → List ℕ → List ℕ → ℕ → Type 0

@@ -2,8 +2,9 @@
 #![tactic(auto)]
 
 ghost use Rattle.std.specs.Prelude.{◌≡◌, ◌+◌, ◌*◌, ◌≤◌, length};
+ghost use Rattle.quad.specs.Numbers.{black};
 ghost use Rattle.ponds_sets.specs.Lines.{across};
-ghost use Rattle.ponds_sets.specs.Walk.{Shore, Shores, Quiet, ToSides, Sides, LinesFilled};
+ghost use Rattle.ponds_sets.specs.Walk.{Shore, Shores, Quiet, Sides, LinesFilled};
 ghost use Rattle.ponds_sets.specs.Touch.{one_if_other};
 
 use ponds_join::{apart, next};
@@ -68,7 +69,7 @@ pub fn sides(
     y: usize,
     side: usize,
 )
-    requires { ToSides kind words.old lines.now label x y side }
+    requires { (kind ≡ black → Shore words.old lines.now label x y side) × (x + side ≤ across) × (y + side ≤ across) }
     ensures { Sides kind words.old lines.now label x y side words.new }
 {
     if kind != quad::BLACK {
@@ -85,7 +86,7 @@ pub fn sides(
 // `sides` for a leaf of two by two pixels. Mostly the second pixel of either side tells what the first told, and then
 // nothing is to be done.
 pub fn two_sides(words: &mut [u32], lines: &[u32; 256], kind: usize, label: u32, x: usize, y: usize)
-    requires { ToSides kind words.old lines.now label x y 2 × (kind ≤ 1) }
+    requires { (kind ≡ black → Shore words.old lines.now label x y 2) × (x + 2 ≤ across) × (y + 2 ≤ across) × (kind ≤ 1) }
     ensures { Sides kind words.old lines.now label x y 2 words.new }
 {
     let north = apart(lines[x + 1], lines[x]);

@@ -7,19 +7,33 @@ use native.Mathlib.Omega.{arith}
 use lib.ListN.{length, get_or, set}
 use lib.Seq.{sets}
 use Rattle.quad.specs.Numbers.{fork_type, top_level}
-use Rattle.quad.specs.Tree.{son_of, tree_of}
-use Rattle.table.specs.Writing.{leaf_words}
+use Rattle.quad.specs.Tree.{colour, son_of, tree_of}
+use Rattle.table.specs.Writing.{leaf_words, Ready}
 use Rattle.table.proofs.WritingLaws.{type_put, Forked, InTurn, son_ready, son_put}
 use Rattle.raster.specs.Raster.{picture_of}
 use Rattle.raster.proofs.BlockLaws.{on_small, on_son}
 use Rattle.raster.proofs.BuildLaws.{sheet_on}
-use Rattle.raster_notes.specs.Notes.{slots_of}
+use Rattle.raster.specs.Blocks.{Picture, OnSheet}
+use Rattle.raster_notes.specs.Notes.{slots_of, Noted}
 use Rattle.raster_notes.proofs.NoteLaws.{slots_some, times_below}
 use Rattle.raster_count.specs.Kinds.{Known}
 use Rattle.raster_count.proofs.ForkLaws.{tree_of_son, block_forked, fork_pos}
 use Rattle.raster_count.proofs.NotedLaws.{known_kind, known_part, sheet_kind, sheet_known}
 use Rattle.raster_put.specs.Putting.{BlockToPut, BlockPut}
 use Rattle.raster_build.specs.NotedBlocks.{ForkToPut, SheetToPut}
+
+-- what is asked of a fork to be put, and of the whole sheet, as one fact, and back
+pub fork_to_put : {n : ℕ} {R K : List ℕ} {l x y slot slots p words : ℕ}
+    → Picture n R × OnSheet n l x y × (3 ≤ l) × (colour (tree_of (picture_of n R) l x y) ≡ fork_type) × Ready (tree_of (picture_of n R) l x y) p words × Known n R K l x y slot slots
+    → ForkToPut n R K l x y slot slots p words
+fork_to_put h = record { block = record { picture = h.0; on = h.1; ready = h.4 }; high = h.2; fork = h.3; known = h.5 }
+
+pub fork_asks : {n : ℕ} {R K : List ℕ} {l x y slot slots p words : ℕ} → ForkToPut n R K l x y slot slots p words
+    → Picture n R × OnSheet n l x y × (3 ≤ l) × (colour (tree_of (picture_of n R) l x y) ≡ fork_type) × Ready (tree_of (picture_of n R) l x y) p words × Known n R K l x y slot slots
+fork_asks b = (b.block.picture, b.block.on, b.high, b.fork, b.block.ready, b.known)
+
+pub sheet_to_put : {n words : ℕ} {R K : List ℕ} → Picture n R × Noted R (2 ^ n) K (n - 3) n 0 0 × Ready (tree_of (picture_of n R) n 0 0) 0 words → SheetToPut n R K words
+sheet_to_put h = record { picture = h.0; noted = h.1; ready = h.2 }
 
 module _ {n : ℕ} {R K : List ℕ} {l x y slot slots p words : ℕ} (b : ForkToPut n R K l x y slot slots p words) where
   pub its_fork : Forked (tree_of (picture_of n R) l x y)

@@ -1,11 +1,15 @@
 // Building: a raster's table, its nodes counted first and then written in preorder (`sheet_build`).
 #![tactic(auto)]
 
-ghost use Rattle.std.specs.Prelude.{length};
-ghost use Rattle.quad.specs.Numbers.{none};
+ghost use Rattle.std.specs.Prelude.{length, ◌≡◌, ◌-◌, ◌^◌, ◌≤◌};
+ghost use Rattle.quad.specs.Numbers.{fork_type, none};
+ghost use Rattle.quad.specs.Tree.{colour, tree_of};
+ghost use Rattle.table.specs.Writing.{Ready, Put};
+ghost use Rattle.raster.specs.Raster.{picture_of};
+ghost use Rattle.raster.specs.Blocks.{Picture, OnSheet};
 ghost use Rattle.raster.specs.Calls.{Building};
-ghost use Rattle.raster_put.specs.Putting.{BlockPut};
-ghost use Rattle.raster_build.specs.NotedBlocks.{ForkToPut, SheetToPut};
+ghost use Rattle.raster_notes.specs.Notes.{Noted};
+ghost use Rattle.raster_count.specs.Kinds.{Known};
 
 use answer::Outcome;
 use raster_check::readable;
@@ -28,8 +32,11 @@ fn put_fork(
     p: u32,
     father: u32,
 ) -> u32
-    requires { ForkToPut n raster.now kinds.now level x y slot slots p (length table.old) }
-    ensures { BlockPut n raster.now level x y father p table.old table.new result }
+    requires { Picture n raster.now × OnSheet n level x y × (3 ≤ level)
+        × (colour (tree_of (picture_of n raster.now) level x y) ≡ fork_type)
+        × Ready (tree_of (picture_of n raster.now) level x y) p (length table.old)
+        × Known n raster.now kinds.now level x y slot slots }
+    ensures { Put (tree_of (picture_of n raster.now) level x y) father p table.old table.new result }
 {
     let half = level - 1;
     let apart = slots / 4;
@@ -61,8 +68,9 @@ fn put_fork(
 
 // Writes a sheet whose types are noted, and gives its node count.
 fn put(raster: &[u8], n: u32, kinds: &[u32; 341], table: &mut [u32]) -> u32
-    requires { SheetToPut n raster.now kinds.now (length table.old) }
-    ensures { BlockPut n raster.now n 0 0 none 0 table.old table.new result }
+    requires { Picture n raster.now × Noted raster.now (2 ^ n) kinds.now (n - 3) n 0 0
+        × Ready (tree_of (picture_of n raster.now) n 0 0) 0 (length table.old) }
+    ensures { Put (tree_of (picture_of n raster.now) n 0 0) none 0 table.old table.new result }
 {
     let nobody = quad::NONE as u32;
     let kind = kinds[0];

@@ -7,7 +7,7 @@ ghost use Rattle.raster.specs.Raster.{picture_of};
 ghost use Rattle.raster.specs.Sums.{four_sum, sixteen_sum, mixed_of};
 ghost use Rattle.raster_notes.specs.Notes.{NotedSize};
 ghost use Rattle.raster.specs.Blocks.{Picture, OnSheet};
-ghost use Rattle.raster_count.specs.Kinds.{four_pixels, TwoSums};
+ghost use Rattle.raster_count.specs.Kinds.{four_pixels};
 
 // The pixel in column x and row y.
 pub fn pixel_at(raster: &[u8], n: u32, x: usize, y: usize) -> u32
@@ -55,7 +55,8 @@ fn four_pixels(raster: &[u8], n: u32, x: usize, y: usize) -> u32
 // The sums of the blocks (2x, y) and (2x + 1, y) of level 1 in one number.
 fn two_sums(raster: &[u8], n: u32, x: usize, y: usize) -> u32
     requires { Picture n raster.now × OnSheet n 1 (2 * x + 1) y }
-    ensures { TwoSums (picture_of n raster.now) x y result }
+    ensures { (result % 8 ≡ four_sum (picture_of n raster.now) (2 * x) y)
+        × (result / 65536 % 8 ≡ four_sum (picture_of n raster.now) (2 * x + 1) y) }
 {
     let north = four_pixels(raster, n, x, 2 * y);
     let south = four_pixels(raster, n, x, 2 * y + 1);

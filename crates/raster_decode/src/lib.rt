@@ -4,7 +4,7 @@
 ghost use Rattle.std.specs.Prelude.{true, ◌≡◌, length};
 ghost use Rattle.table.specs.Table.{is_fork};
 ghost use Rattle.raster.specs.Calls.{Decoding};
-ghost use Rattle.raster_fill.specs.Painting.{Paintable, BlockPainted};
+ghost use Rattle.raster_fill.specs.Painting.{Paintable, Painted, in_block, colours_at};
 
 use answer::Outcome;
 use raster_check::raster_length;
@@ -13,7 +13,7 @@ use raster_fill::{fill_leaf, fill_pixel};
 // Paints the pixel of node p, a leaf since it is at level 0.
 fn paint_pixel(table: &[u32], p: usize, n: u32, x: usize, y: usize, raster: &mut [u8])
     requires { Paintable n table.now p 0 x y (length raster.old) }
-    ensures { BlockPainted n table.now p 0 x y raster.old raster.new }
+    ensures { Painted n (in_block 0 x y) (colours_at table.now 0 p) raster.old raster.new }
 {
     let kind = table_node::word_at(table, p, 5);
     fill_pixel(raster, n, x, y, kind as u8);
@@ -22,7 +22,7 @@ fn paint_pixel(table: &[u32], p: usize, n: u32, x: usize, y: usize, raster: &mut
 // Paints the block of fork p at level 1, whose sons are pixels.
 fn paint_four(table: &[u32], p: usize, n: u32, x: usize, y: usize, raster: &mut [u8])
     requires { Paintable n table.now p 1 x y (length raster.old) × (is_fork table.now p ≡ true) }
-    ensures { BlockPainted n table.now p 1 x y raster.old raster.new }
+    ensures { Painted n (in_block 1 x y) (colours_at table.now 1 p) raster.old raster.new }
 {
     let mut q = 0;
     while q < 4 {
@@ -38,7 +38,7 @@ fn paint_four(table: &[u32], p: usize, n: u32, x: usize, y: usize, raster: &mut 
 // call.
 fn paint_fork(table: &[u32], p: usize, n: u32, level: u32, x: usize, y: usize, raster: &mut [u8])
     requires { Paintable n table.now p level x y (length raster.old) × (is_fork table.now p ≡ true) }
-    ensures { BlockPainted n table.now p level x y raster.old raster.new }
+    ensures { Painted n (in_block level x y) (colours_at table.now level p) raster.old raster.new }
 {
     if level == 1 {
         paint_four(table, p, n, x, y, raster);
@@ -63,7 +63,7 @@ fn paint_fork(table: &[u32], p: usize, n: u32, level: u32, x: usize, y: usize, r
 // Paints the block of node p.
 fn paint(table: &[u32], p: usize, n: u32, level: u32, x: usize, y: usize, raster: &mut [u8])
     requires { Paintable n table.now p level x y (length raster.old) }
-    ensures { BlockPainted n table.now p level x y raster.old raster.new }
+    ensures { Painted n (in_block level x y) (colours_at table.now level p) raster.old raster.new }
 {
     let kind = table_node::word_at(table, p, 5);
     if kind == quad::FORK {

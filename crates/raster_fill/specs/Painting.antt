@@ -42,7 +42,3 @@ pub record Paintable (n : ℕ) (T : List ℕ) (p l x y bytes : ℕ) : Type 0 whe
   pub place : AtLevel n T p l
   pub block : OnSheet n l x y
   pub whole : bytes ≡ 4 ^ n
-
--- the block (x, y) of level l was painted with the colours under node p of the table T
-abbrev pub BlockPainted : ℕ → List ℕ → ℕ → ℕ → ℕ → ℕ → List ℕ → List ℕ → Type 0
-BlockPainted n T p l x y before after = Painted n (in_block l x y) (colours_at T l p) before after

@@ -2,7 +2,7 @@
 -- it opens on.
 use mathlib.Core.List.{List}
 use mathlib.Core.Path.{◌≡◌, refl, ap, sym, ◌∙◌}
-use Prim.Native.Nat.{ℕ, zero, suc, ◌+◌, ◌-◌, ◌*◌, ◌/◌, ◌^◌, ◌≤◌}
+use Prim.Native.Nat.{ℕ, zero, suc, ◌+◌, ◌*◌, ◌/◌, ◌^◌, ◌≤◌}
 use native.Mathlib.Nat.{add-zero, add-mul, mul_assoc, mul_left_comm, pow-succ'}
 use native.Mathlib.Omega.{arith}
 use lib.ListN.{get_or}

@@ -2,7 +2,6 @@
 -- bits, each the sum of a block of level 1.
 use Rattle.std.specs.Prelude.{cond, List, ◌≡◌, ℕ, ◌+◌, ◌-◌, ◌*◌, ◌/◌, ◌%◌, ◌≤◌, eqb, get_or}
 use Rattle.quad.specs.Numbers.{fork_type}
-use Rattle.quad.specs.Tree.{size_of, tree_of}
 use Rattle.raster.specs.Sums.{four_sum}
 
 -- the raster R, w bytes wide, as it is seen from place a on
@@ -78,7 +77,3 @@ mixed_two v = (v % 65536 + 15) / 16 + (v / 65536 / 65536 % 65536 + 15) / 16 - (v
 -- lower half
 unfoldable pub forks_of : ℕ → ℕ → ℕ
 forks_of a b = lane_sum (mixed_lanes a + mixed_lanes b) + mixed_two (a + b + (a + b) / 65536)
-
--- the nodes of the two blocks of level 2 side by side that are seen from place a on
-abbrev pub two_sizes : List ℕ → ℕ → ℕ → ℕ
-two_sizes R w a = size_of (tree_of (window R w a) 2 0 0) + size_of (tree_of (window R w a) 2 1 0)

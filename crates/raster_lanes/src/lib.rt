@@ -7,7 +7,7 @@ ghost use Rattle.quad.specs.Tree.{colour, size_of, tree_of};
 ghost use Rattle.raster.specs.Sums.{Colours};
 ghost use Rattle.raster_lanes.specs.Lanes.{window, two_from, four_from, eight_from, black_row, two_rows, four_rows};
 ghost use Rattle.raster_lanes.specs.Lanes.{eight_rows, kind_of, packed, last_bits, fourths_of, mixed_lanes, lane_sum};
-ghost use Rattle.raster_lanes.specs.Lanes.{mixed_two, forks_of, FourSums, sums_from, two_sizes};
+ghost use Rattle.raster_lanes.specs.Lanes.{mixed_two, forks_of, FourSums, sums_from};
 
 // A pixel.
 fn byte_at(raster: &[u8], at: usize) -> u64
@@ -149,7 +149,8 @@ fn forks(north: u64, south: u64) -> u64
 // The forks of two blocks of level 2 side by side, from their pixels.
 fn half_forks(raster: &[u8], across: usize, at: usize) -> u64
     requires { (at + 3 * across + 8 ≤ length raster.now) × Colours raster.now }
-    ensures { (2 + 4 * result ≡ two_sizes raster.now across at) × (result ≤ 262142) }
+    ensures { (2 + 4 * result ≡ size_of (tree_of (window raster.now across at) 2 0 0)
+        + size_of (tree_of (window raster.now across at) 2 1 0)) × (result ≤ 262142) }
 {
     let north = four_sums(raster, across, at);
     let south = four_sums(raster, across, at + 2 * across);

@@ -1,10 +1,9 @@
 // The types of blocks above level 4 noted, quarter by quarter, and so those of a whole sheet from level 3 up.
 #![tactic(auto)]
 
-ghost use Rattle.std.specs.Prelude.{◌≡◌, ◌-◌, ◌≤◌, ◌<◌, ◌^◌};
+ghost use Rattle.std.specs.Prelude.{◌≡◌, ◌+◌, ◌-◌, ◌≤◌, ◌<◌, ◌^◌, length};
 ghost use Rattle.quad.specs.Numbers.{top_level};
-ghost use Rattle.raster_notes.specs.Notes.{slots_of, part_at, NotedSize, joined_of};
-ghost use Rattle.raster_notes.specs.Notes.{BlockToNote};
+ghost use Rattle.raster_notes.specs.Notes.{slots_of, part_at, NotedSize, joined_of, Lies};
 
 use raster_notes::{eight, sixteen};
 
@@ -43,7 +42,8 @@ fn large(
     slots: usize,
     kinds: &mut [u32; 341],
 ) -> u32
-    requires { BlockToNote 5 raster.now across at level slot slots kinds.old }
+    requires { Lies raster.now across at level × (5 ≤ level) × (level ≤ top_level) × (slots ≡ slots_of (level - 3))
+        × (slot + slots ≤ 341) × (length kinds.old ≡ 341) }
     ensures { NotedSize raster.now across at level slot kinds.old kinds.new result }
 {
     let half = level - 1;
@@ -103,7 +103,8 @@ pub fn block(
     slots: usize,
     kinds: &mut [u32; 341],
 ) -> u32
-    requires { BlockToNote 3 raster.now across at level slot slots kinds.old }
+    requires { Lies raster.now across at level × (3 ≤ level) × (level ≤ top_level) × (slots ≡ slots_of (level - 3))
+        × (slot + slots ≤ 341) × (length kinds.old ≡ 341) }
     ensures { NotedSize raster.now across at level slot kinds.old kinds.new result }
 {
     if level == 3 {

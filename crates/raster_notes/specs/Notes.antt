@@ -1,6 +1,6 @@
 -- Where the types of the largest blocks are noted, so that each is told once: a block's in its slot, and behind it
 -- those of its four quarters, each with what is noted below it. Blocks are named by the place where they begin.
-use Rattle.std.specs.Prelude.{cond, List, ◌≡◌, ℕ, zero, suc, ◌+◌, ◌-◌, ◌*◌, ◌/◌, ◌%◌, ◌^◌, ◌≤◌, ◌<◌, eqb, length, get_or, set}
+use Rattle.std.specs.Prelude.{cond, List, ◌≡◌, ℕ, zero, suc, ◌+◌, ◌-◌, ◌*◌, ◌/◌, ◌%◌, ◌^◌, ◌≤◌, ◌<◌, eqb, length, get_or}
 use Rattle.base.specs.Tab.{sum}
 use Rattle.quad.specs.Numbers.{top_level, fork_type}
 use Rattle.quad.specs.Tree.{colour, size_of, tree_of}
@@ -58,19 +58,3 @@ pub record Parts (R : List ℕ) (w a l s q : ℕ) (before after : List ℕ) (nod
   pub noted : (p : ℕ) → p < q → Noted R w after (l - 1 - 3) (l - 1) (s + 1 + p * slots_of (l - 1 - 3)) (part_at w a (2 ^ (l - 1)) p)
   pub kept : Kept before after s (slots_of (l - 3))
   pub long : length after ≡ length before
-
--- What noting asks, of 341 slots. Of a block of level 3 at place a, whose rows add up to v: its slot is s
-abbrev pub EightToNote : List ℕ → ℕ → ℕ → ℕ → ℕ → Type 0
-EightToNote R w a v s = (a + 7 * w + 8 ≤ length R) × Colours R × (v ≡ eight_rows R w a) × (s < 341)
-
--- and then its type is in that slot, and r is the number of its nodes
-abbrev pub EightNoted : List ℕ → ℕ → ℕ → ℕ → List ℕ → List ℕ → ℕ → Type 0
-EightNoted R w a s before after r = (r ≡ size_of (tree_of (window R w a) 3 0 0)) × (after ≡ set before s (colour (tree_of (window R w a) 3 0 0)))
-
--- of the four quarters of a block of level 4, by their sums: their slots are behind slot s
-abbrev pub QuartersToNote : List ℕ → ℕ → ℕ → ℕ → ℕ → ℕ → ℕ → ℕ → List ℕ → Type 0
-QuartersToNote R w a nw ne sw se s K = (a + 15 * w + 16 ≤ length R) × Colours R × (s + 5 ≤ 341) × (length K ≡ 341) × QuarterSums R w a nw ne sw se
-
--- of a block of level l, which is m or more: its slots are t from slot s on
-abbrev pub BlockToNote : ℕ → List ℕ → ℕ → ℕ → ℕ → ℕ → ℕ → List ℕ → Type 0
-BlockToNote m R w a l s t K = Lies R w a l × (m ≤ l) × (l ≤ top_level) × (t ≡ slots_of (l - 3)) × (s + t ≤ 341) × (length K ≡ 341)

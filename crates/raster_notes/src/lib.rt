@@ -1,9 +1,11 @@
 // The types of a sheet's largest blocks, told once and noted.
 #![tactic(auto)]
 
-ghost use Rattle.std.specs.Prelude.{◌≡◌, ◌+◌, ◌≤◌, length};
-ghost use Rattle.raster_notes.specs.Notes.{NotedSize, Lies, Parts};
-ghost use Rattle.raster_notes.specs.Notes.{EightToNote, EightNoted, QuartersToNote};
+ghost use Rattle.std.specs.Prelude.{◌≡◌, ◌+◌, ◌*◌, ◌≤◌, ◌<◌, length, set};
+ghost use Rattle.quad.specs.Tree.{colour, size_of, tree_of};
+ghost use Rattle.raster.specs.Sums.{Colours};
+ghost use Rattle.raster_lanes.specs.Lanes.{window, eight_rows};
+ghost use Rattle.raster_notes.specs.Notes.{NotedSize, Lies, Parts, QuarterSums};
 
 // A row of eight black pixels as one number.
 const BLACK_ROW: u64 = 72340172838076673;
@@ -17,8 +19,10 @@ pub fn eight(
     slot: usize,
     kinds: &mut [u32; 341],
 ) -> u32
-    requires { EightToNote raster.now across at all slot }
-    ensures { EightNoted raster.now across at slot kinds.old kinds.new result }
+    requires { (at + 7 * across + 8 ≤ length raster.now) × Colours raster.now × (all ≡ eight_rows raster.now across at)
+        × (slot < 341) }
+    ensures { (result ≡ size_of (tree_of (window raster.now across at) 3 0 0))
+        × (kinds.new ≡ set kinds.old slot (colour (tree_of (window raster.now across at) 3 0 0))) }
 {
     let kind = raster_lanes::kind(all, 8 * BLACK_ROW);
     kinds[slot] = kind;
@@ -40,7 +44,8 @@ fn quarters(
     slot: usize,
     kinds: &mut [u32; 341],
 ) -> u32
-    requires { QuartersToNote raster.now across at nw ne sw se slot kinds.old }
+    requires { (at + 15 * across + 16 ≤ length raster.now) × Colours raster.now × (slot + 5 ≤ 341)
+        × (length kinds.old ≡ 341) × QuarterSums raster.now across at nw ne sw se }
     ensures { Parts raster.now across at 4 slot 4 kinds.old kinds.new result }
 {
     let under = at + 8 * across;

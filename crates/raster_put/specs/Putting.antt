@@ -1,6 +1,5 @@
 -- What the second pass of building asks and gives, for a block of any level.
-use Rattle.std.specs.Prelude.{List, ℕ, ◌+◌, ◌*◌, ◌≤◌}
-use Rattle.quad.specs.Numbers.{max_words}
+use Rattle.std.specs.Prelude.{List, ℕ}
 use Rattle.quad.specs.Tree.{tree_of}
 use Rattle.table.specs.Writing.{Ready, Put}
 use Rattle.raster.specs.Raster.{picture_of}
@@ -12,13 +11,6 @@ pub record BlockToPut (n : ℕ) (R : List ℕ) (l x y p words : ℕ) : Type 0 wh
   pub picture : Picture n R
   pub on : OnSheet n l x y
   pub ready : Ready (tree_of (picture_of n R) l x y) p words
-
--- a fork over the four pixels of the block (x, y) of level 1 may be written: it has five nodes
-pub record PixelsToPut (n : ℕ) (R : List ℕ) (x y p words : ℕ) : Type 0 where
-  pub picture : Picture n R
-  pub on : OnSheet n 1 x y
-  pub room : 6 * (p + 5) ≤ words
-  pub few : p + 5 ≤ max_words
 
 -- the block's tree was written, its root node p with father f, and r is the next node
 abbrev pub BlockPut : ℕ → List ℕ → ℕ → ℕ → ℕ → ℕ → ℕ → List ℕ → List ℕ → ℕ → Type 0

@@ -1,11 +1,13 @@
 // The second pass of building, for the smallest blocks.
 #![tactic(auto)]
 
-ghost use Rattle.std.specs.Prelude.{length};
-ghost use Rattle.table.specs.Writing.{Put};
+ghost use Rattle.std.specs.Prelude.{length, ◌+◌, ◌*◌, ◌≤◌};
+ghost use Rattle.quad.specs.Numbers.{max_words};
+ghost use Rattle.quad.specs.Tree.{tree_of};
+ghost use Rattle.table.specs.Writing.{Ready, Put};
 ghost use Rattle.raster.specs.Raster.{picture_of};
 ghost use Rattle.raster.specs.Sums.{four_over};
-ghost use Rattle.raster_put.specs.Putting.{BlockToPut, PixelsToPut, BlockPut};
+ghost use Rattle.raster.specs.Blocks.{Picture, OnSheet};
 
 use raster_count::{pixel_at, sum_four, sum_sixteen};
 use table_node::{put_leaf, put_node};
@@ -20,7 +22,7 @@ fn put_pixels(
     p: u32,
     father: u32,
 ) -> u32
-    requires { PixelsToPut n raster.now x y p (length table.old) }
+    requires { Picture n raster.now × OnSheet n 1 x y × (6 * (p + 5) ≤ length table.old) × (p + 5 ≤ max_words) }
     ensures { Put (four_over (picture_of n raster.now) 0 x y) father p table.old table.new result }
 {
     let west = 2 * x;
@@ -57,8 +59,9 @@ pub fn put_four(
     p: u32,
     father: u32,
 ) -> u32
-    requires { BlockToPut n raster.now 1 x y p (length table.old) }
-    ensures { BlockPut n raster.now 1 x y father p table.old table.new result }
+    requires { Picture n raster.now × OnSheet n 1 x y
+        × Ready (tree_of (picture_of n raster.now) 1 x y) p (length table.old) }
+    ensures { Put (tree_of (picture_of n raster.now) 1 x y) father p table.old table.new result }
 {
     let sum = sum_four(raster, n, x, y);
     if sum % 4 == 0 {
@@ -78,8 +81,9 @@ pub fn put_sixteen(
     p: u32,
     father: u32,
 ) -> u32
-    requires { BlockToPut n raster.now 2 x y p (length table.old) }
-    ensures { BlockPut n raster.now 2 x y father p table.old table.new result }
+    requires { Picture n raster.now × OnSheet n 2 x y
+        × Ready (tree_of (picture_of n raster.now) 2 x y) p (length table.old) }
+    ensures { Put (tree_of (picture_of n raster.now) 2 x y) father p table.old table.new result }
 {
     let sum = sum_sixteen(&*raster, n, x, y);
     if sum % 16 == 0 {

@@ -1,14 +1,14 @@
 // A node's words, read and written; its block, and its level.
 #![tactic(auto)]
 
-ghost use Rattle.std.specs.Prelude.{◌≡◌, ◌+◌, ◌*◌, ◌<◌, ◌≤◌, length};
+ghost use Rattle.std.specs.Prelude.{◌≡◌, ◌+◌, ◌*◌, ◌<◌, ◌≤◌, length, [], ◌∷◌};
+ghost use Rattle.quad.specs.Numbers.{none};
 ghost use Rattle.table.specs.Rules.{Asked, depth_to};
 ghost use Rattle.table.specs.Nodes.{level_of, son_type};
 ghost use Rattle.table.specs.Blocks.{block_of};
 ghost use Rattle.std.proofs.lemmas.List.Edits.{sets};
 ghost use Rattle.table.specs.Table.{word, nodes, father, son, node_type};
 ghost use Rattle.table.specs.Links.{Rising, SonsIn, four_sons, four_types};
-ghost use Rattle.table.specs.Writing.{node_words, leaf_words};
 
 use table::Block;
 
@@ -131,7 +131,7 @@ pub fn put_node(
     kind: u32,
 )
     requires { 6 * p + 6 ≤ length table.old }
-    ensures { table.new ≡ sets table.old (6 * p) (node_words father nw ne sw se kind) }
+    ensures { table.new ≡ sets table.old (6 * p) (father ∷ nw ∷ ne ∷ sw ∷ se ∷ kind ∷ []) }
 {
     let i = 6 * p;
     table[i] = father;
@@ -145,7 +145,7 @@ pub fn put_node(
 // Writes the six words of node p, a leaf.
 pub fn put_leaf(table: &mut [u32], p: usize, father: u32, kind: u32)
     requires { 6 * p + 6 ≤ length table.old }
-    ensures { table.new ≡ sets table.old (6 * p) (leaf_words father kind) }
+    ensures { table.new ≡ sets table.old (6 * p) (father ∷ none ∷ none ∷ none ∷ none ∷ kind ∷ []) }
 {
     let nobody = quad::NONE as u32;
     put_node(table, p, father, nobody, nobody, nobody, nobody, kind);

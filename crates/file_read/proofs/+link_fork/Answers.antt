@@ -1,39 +1,39 @@
 use mathlib.Core.Path.{refl}
-use Prim.Native.Nat.{ℕ, ◌-◌}
 use native.Mathlib.Omega.{arith}
-use Rattle.table.proofs.WritingLaws.{node_room, node_fits, put_length, none_put, number_room, type_room, sons_put}
-use Rattle.file_read.proofs.LinkLaws.{type_asks, kind_le, links_leaf, its_fork, deeper, son_to_link, son_forked, son_linked}
+use Rattle.table.proofs.WritingLaws.{node_room, node_fits, none_put, number_room, type_room, sons_put}
+use Rattle.file_read.specs.Linking.{tree_on}
+use Rattle.file_read.proofs.LinkLaws.{fork_to_link, fork_ready, linked, type_asks, kind_le, links_leaf, its_fork, deeper, son_to_link, son_forked, son_linked}
 use Rattle.file_read.proofs.+link_fork.Goals as goal
 
 pub overflow_mul-own : goal.overflow_mul-own
-overflow_mul-own t c = omega (arith, node_room c.requires.block.ready)
+overflow_mul-own t c = omega (arith, node_room (fork_to_link c.requires).block.ready)
 
 pub offset_bounds-table-own : goal.offset_bounds-table-own
-offset_bounds-table-own t c = omega (arith, node_room c.requires.block.ready, c.well_formed)
+offset_bounds-table-own t c = omega (arith, node_room (fork_to_link c.requires).block.ready, c.well_formed)
 
 pub bounds-table-own : goal.bounds-table-own
-bounds-table-own t c = omega (arith, node_room c.requires.block.ready)
+bounds-table-own t c = omega (arith, node_room (fork_to_link c.requires).block.ready)
 
 pub overflow_add-next : goal.overflow_add-next
-overflow_add-next t c = omega (arith, node_fits c.requires.block.ready)
+overflow_add-next t c = omega (arith, node_fits (fork_to_link c.requires).block.ready)
 
 pub loop-q-init : goal.loop-q-init
 loop-q-init t c = none_put _ _ _
 
 pub overflow_add-table : goal.overflow_add-table
-overflow_add-table t c = omega (arith, node_room c.requires.block.ready)
+overflow_add-table t c = omega (arith, node_room (fork_to_link c.requires).block.ready)
 
 pub overflow_add-table-in-loop-q : goal.overflow_add-table-in-loop-q
-overflow_add-table-in-loop-q t c = omega (arith, node_room c.requires.block.ready)
+overflow_add-table-in-loop-q t c = omega (arith, node_room (fork_to_link c.requires).block.ready)
 
 pub offset_bounds-table-own-in-loop-q : goal.offset_bounds-table-own-in-loop-q
-offset_bounds-table-own-in-loop-q t c = omega (arith, node_room c.requires.block.ready, c.well_formed)
+offset_bounds-table-own-in-loop-q t c = omega (arith, node_room (fork_to_link c.requires).block.ready, c.well_formed)
 
 pub bounds-table-own-in-loop-q : goal.bounds-table-own-in-loop-q
 bounds-table-own-in-loop-q t c =
     let l = c in
     let s = l in
-    omega (arith, number_room (its_fork s.requires) s.args.table.now s.requires.block.ready s.args.father l.loop-q.invariant (omega arith))
+    omega (arith, number_room (its_fork (fork_to_link s.requires)) s.args.table.now (fork_to_link s.requires).block.ready s.args.father l.loop-q.invariant (omega arith))
 
 pub overflow_add-q : goal.overflow_add-q
 overflow_add-q t c = omega arith
@@ -42,15 +42,14 @@ pub type_of-kind-requires : goal.type_of-kind-requires
 type_of-kind-requires t c =
     let l = c in
     let s = l in
-    type_asks (son_to_link s.args.table.now s.requires s.args.father l.loop-q.invariant (omega arith)
+    type_asks (son_to_link s.args.table.now (fork_to_link s.requires) s.args.father l.loop-q.invariant (omega arith)
     _ refl)
 
 pub link_pixels-next-requires : goal.link_pixels-next-requires
 link_pixels-next-requires t c =
     let l = c in
     let s = l in
-    son_forked s.args.table.now s.requires s.args.father l.loop-q.invariant (omega arith) 1
-    (omega (arith, c.if-level-eq2.true)) c.type_of-kind.ensures c.if-kind-eq-FORK.true
+    fork_ready (son_forked s.args.table.now (fork_to_link s.requires) s.args.father l.loop-q.invariant (omega arith) 1 (omega (arith, c.if-level-eq2.true)) c.type_of-kind.ensures c.if-kind-eq-FORK.true)
 
 pub loop-q-smaller-then-level-eq2 : goal.loop-q-smaller-then-level-eq2
 loop-q-smaller-then-level-eq2 t c = omega arith
@@ -59,19 +58,18 @@ pub loop-q-preserved-then-level-eq2 : goal.loop-q-preserved-then-level-eq2
 loop-q-preserved-then-level-eq2 t c =
     let l = c in
     let s = l in
-    son_linked s.args.table.now s.requires s.args.father l.loop-q.invariant (omega arith) 1
+    son_linked s.args.table.now (fork_to_link s.requires) s.args.father l.loop-q.invariant (omega arith) 1
     (omega (arith, c.if-level-eq2.true)) c.link_pixels-next.ensures
 
 pub overflow_sub-level : goal.overflow_sub-level
-overflow_sub-level t c = omega (arith, deeper c.requires)
+overflow_sub-level t c = omega (arith, deeper (fork_to_link c.requires))
 
 pub link_fork-next-requires : goal.link_fork-next-requires
 link_fork-next-requires t c =
     let l = c in
     let s = l in (
-      omega (arith, s.decreases, deeper s.requires),
-      son_forked s.args.table.now s.requires s.args.father l.loop-q.invariant (omega arith) _ refl
-          c.type_of-kind.ensures c.if-kind-eq-FORK.true,
+      omega (arith, s.decreases, deeper (fork_to_link s.requires)),
+      fork_ready (son_forked s.args.table.now (fork_to_link s.requires) s.args.father l.loop-q.invariant (omega arith) _ refl c.type_of-kind.ensures c.if-kind-eq-FORK.true),
     )
 
 pub loop-q-smaller-else-level-eq2 : goal.loop-q-smaller-else-level-eq2
@@ -81,35 +79,35 @@ pub loop-q-preserved-else-level-eq2 : goal.loop-q-preserved-else-level-eq2
 loop-q-preserved-else-level-eq2 t c =
     let l = c in
     let s = l in
-    son_linked s.args.table.now s.requires s.args.father l.loop-q.invariant (omega arith) _ refl
+    son_linked s.args.table.now (fork_to_link s.requires) s.args.father l.loop-q.invariant (omega arith) _ refl
     c.link_fork-next.ensures
 
 pub overflow_cast-next : goal.overflow_cast-next
 overflow_cast-next t c =
     let l = c in
     let s = l in
-    let b = son_to_link s.args.table.now s.requires s.args.father l.loop-q.invariant (omega arith) _ refl in
+    let b = son_to_link s.args.table.now (fork_to_link s.requires) s.args.father l.loop-q.invariant (omega arith) _ refl in
     omega (arith, node_fits b.ready)
 
 pub overflow_cast-kind : goal.overflow_cast-kind
 overflow_cast-kind t c =
     let l = c in
     let s = l in
-    let b = son_to_link s.args.table.now s.requires s.args.father l.loop-q.invariant (omega arith) _ refl in
+    let b = son_to_link s.args.table.now (fork_to_link s.requires) s.args.father l.loop-q.invariant (omega arith) _ refl in
     omega (arith, kind_le b c.type_of-kind.ensures)
 
 pub put_leaf-requires : goal.put_leaf-requires
 put_leaf-requires t c =
     let l = c in
     let s = l in
-    let b = son_to_link s.args.table.now s.requires s.args.father l.loop-q.invariant (omega arith) _ refl in
+    let b = son_to_link s.args.table.now (fork_to_link s.requires) s.args.father l.loop-q.invariant (omega arith) _ refl in
     node_room b.ready
 
 pub overflow_add-next-else-kind-eq-FORK : goal.overflow_add-next-else-kind-eq-FORK
 overflow_add-next-else-kind-eq-FORK t c =
     let l = c in
     let s = l in
-    let b = son_to_link s.args.table.now s.requires s.args.father l.loop-q.invariant (omega arith) _ refl in
+    let b = son_to_link s.args.table.now (fork_to_link s.requires) s.args.father l.loop-q.invariant (omega arith) _ refl in
     omega (arith, node_fits b.ready)
 
 pub loop-q-smaller : goal.loop-q-smaller
@@ -119,27 +117,28 @@ pub loop-q-preserved : goal.loop-q-preserved
 loop-q-preserved t c =
     let l = c in
     let s = l in
-    let b = son_to_link s.args.table.now s.requires s.args.father l.loop-q.invariant (omega arith) _ refl in
-    son_linked s.args.table.now s.requires s.args.father l.loop-q.invariant (omega arith) _ refl
+    let b = son_to_link s.args.table.now (fork_to_link s.requires) s.args.father l.loop-q.invariant (omega arith) _ refl in
+    son_linked s.args.table.now (fork_to_link s.requires) s.args.father l.loop-q.invariant (omega arith) _ refl
     (links_leaf b c.type_of-kind.ensures c.if-kind-eq-FORK.false c.put_leaf.ensures)
 
 pub overflow_cast-table : goal.overflow_cast-table
 overflow_cast-table t c = omega arith
 
 pub overflow_add-table-2 : goal.overflow_add-table-2
-overflow_add-table-2 t c = omega (arith, node_room c.requires.block.ready)
+overflow_add-table-2 t c = omega (arith, node_room (fork_to_link c.requires).block.ready)
 
 pub offset_bounds-table-own-2 : goal.offset_bounds-table-own-2
-offset_bounds-table-own-2 t c = omega (arith, node_room c.requires.block.ready, c.well_formed)
+offset_bounds-table-own-2 t c = omega (arith, node_room (fork_to_link c.requires).block.ready, c.well_formed)
 
 pub bounds-table-own-2 : goal.bounds-table-own-2
 bounds-table-own-2 t c =
     let l = c in
     let s = l in
-    type_room (its_fork s.requires) s.args.table.now s.requires.block.ready s.args.father l.loop-q.invariant
+    type_room (its_fork (fork_to_link s.requires)) s.args.table.now (fork_to_link s.requires).block.ready s.args.father l.loop-q.invariant
 
 pub returns : goal.returns
 returns t c =
     let l = c in
     let s = l in
-    sons_put (its_fork s.requires) s.args.table.now s.requires.block.ready s.args.father l.loop-q.invariant (omega arith)
+    linked (tree_on s.args.file.now.now s.args.level s.args.p)
+    (sons_put (its_fork (fork_to_link s.requires)) s.args.table.now (fork_to_link s.requires).block.ready s.args.father l.loop-q.invariant (omega arith))

@@ -2,7 +2,6 @@
 use mathlib.Core.Path.{refl}
 use native.Mathlib.Omega.{arith}
 use Rattle.ponds_sides.proofs.LeafLaws.{leaf_bounds, leaf_touching}
-use borrow.Author.Rules.{rules}
 use Rattle.ponds_leaf.proofs.label_at.Goals as goal
 
 pub offset_bounds-lines-x : goal.offset_bounds-lines-x

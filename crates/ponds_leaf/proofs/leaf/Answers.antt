@@ -1,7 +1,6 @@
 -- `ponds_leaf::leaf`: its label, its sides, and the lines.
 use mathlib.Core.Path.{refl}
 use Rattle.ponds_sides.proofs.LeafLaws.{leaf_room, leaf_touched, leaf_shore, leaf_past}
-use borrow.Author.Rules.{rules}
 use Rattle.ponds_leaf.proofs.leaf.Goals as goal
 
 pub sides-requires : goal.sides-requires

@@ -1,5 +1,5 @@
 -- `ponds_leaf::pixels`: pixel by pixel, and then the lines.
-use mathlib.Core.Path.{refl, ◌∙◌}
+use mathlib.Core.Path.{refl}
 use native.Mathlib.Omega.{arith}
 use Rattle.ponds_leaf.proofs.ForkLaws.{room, node_of_son}
 use Rattle.ponds_leaf.proofs.FourLaws.{touching_first, touching_second, touching_third, touching_fourth, pixels_gone}

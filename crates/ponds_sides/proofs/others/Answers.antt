@@ -1,4 +1,3 @@
-use Prim.Native.Nat.{◌-◌}
 use native.Mathlib.Omega.{arith}
 use Rattle.ponds_sets.proofs.ShoreLaws.{quiet_none, quiet_more, quiet_all}
 use Rattle.ponds_sides.proofs.others.Goals as goal

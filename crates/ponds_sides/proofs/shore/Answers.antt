@@ -1,7 +1,5 @@
 use mathlib.Core.Path.{refl}
-use Prim.Native.Nat.{◌-◌}
 use native.Mathlib.Omega.{arith}
-use borrow.Author.Rules.{rules}
 use Rattle.ponds_sets.proofs.ShoreLaws.{shore_start, shore_bounds, side_some, north_facing, west_facing, shore_more, shore_all}
 use Rattle.ponds_sides.proofs.shore.Goals as goal
 

@@ -1,5 +1,4 @@
 -- `ponds_sides::sides`: a black leaf's sides, or nothing.
-use borrow.Author.Rules.{rules}
 use Rattle.ponds_sets.proofs.ShoreLaws.{quiet_shores}
 use Rattle.ponds_sides.proofs.LeafLaws.{sides_wet, sides_dry}
 use Rattle.ponds_sides.proofs.sides.Goals as goal

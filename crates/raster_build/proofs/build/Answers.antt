@@ -10,7 +10,6 @@ use Rattle.quad.proofs.PictureLaws.{tree_within}
 use Rattle.raster.specs.Raster.{picture_of}
 use Rattle.raster.proofs.BuildLaws.{builds_refused, passed_picture, builds_short, builds_done, sheet_ready}
 use Rattle.raster_count.proofs.NotedLaws.{sheet_window}
-use borrow.Author.Rules.{rules}
 use mathlib.Core.Bool.{not}
 use Rattle.raster_build.proofs.build.Goals as goal
 
@@ -56,12 +55,11 @@ put-value-requires c =
     let s = a in
     let counted = c.count-nodes.ensures in
     let pic = passed_picture s.args.n s.args.raster.now s.args.table.now
-    _ _ a.readable-read.ensures a.answered.ensures (ap not a.if-not-answered.false) in
-    record {
-      picture = pic;
-      noted = counted.noted;
-      ready = sheet_ready s.args.n s.args.raster.now s.args.table.now pic.top _ (counted.nodes ∙ ap size_of (sheet_window _ _)) c.if-table-needed.false;
-    }
+    _ _ a.readable-read.ensures a.answered.ensures (ap not a.if-not-answered.false) in (
+      pic,
+      counted.noted,
+      sheet_ready s.args.n s.args.raster.now s.args.table.now pic.top _ (counted.nodes ∙ ap size_of (sheet_window _ _)) c.if-table-needed.false,
+    )
 
 pub returns : goal.returns
 returns c =

@@ -1,5 +1,4 @@
 -- `raster_count::pixel_at`: the pixel's place lies in the raster.
-use Prim.Native.Nat.{◌+◌, ◌*◌}
 use native.Mathlib.Omega.{arith}
 use Rattle.raster.proofs.BlockLaws.{place_lt, place_fits}
 use Rattle.raster_count.proofs.pixel_at.Goals as goal

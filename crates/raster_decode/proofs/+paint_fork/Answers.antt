@@ -4,7 +4,7 @@ use Rattle.table.proofs.AcceptedLaws.{type_byte, fork_above}
 use Rattle.table.proofs.TypeLaws.{told_fork}
 use Rattle.raster.proofs.BlockLaws.{on_small, on_son}
 use Rattle.raster_fill.proofs.PaintingLaws.{painted_leaf, son_place, quarters_none, quarter_painted, fork_painted}
-use Prim.Native.Nat.{ℕ, ◌-◌}
+use Prim.Native.Nat.{◌-◌}
 use Rattle.raster_decode.proofs.+paint_fork.Goals as goal
 
 pub paint_four-requires : goal.paint_four-requires

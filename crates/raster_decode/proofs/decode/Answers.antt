@@ -1,7 +1,6 @@
 -- `raster_decode::decode`: refusals 1, 2, 2, then the six rules, then the sheet is painted.
 use Rattle.table.proofs.CheckLaws.{sized_call}
 use Rattle.raster_decode.proofs.DecodeLaws.{decodes_sizes, decodes_length, decodes_faults, sheet_paintable, decodes_done}
-use borrow.Author.Rules.{rules}
 use mathlib.Core.Path.{ap}
 use mathlib.Core.Bool.{not}
 use Rattle.raster_decode.proofs.decode.Goals as goal

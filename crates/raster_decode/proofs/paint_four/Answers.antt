@@ -1,5 +1,4 @@
 use mathlib.Core.Path.{◌∙◌}
-use Prim.Native.Nat.{◌-◌}
 use native.Mathlib.Omega.{arith}
 use Rattle.raster.proofs.BlockLaws.{on_small, on_son}
 use Rattle.raster_fill.proofs.PaintingLaws.{son_place, quarters_none, quarter_painted, fork_painted}

@@ -3,7 +3,6 @@ use native.Mathlib.Omega.{arith}
 use Rattle.table.proofs.AcceptedLaws.{type_byte, fork_above}
 use Rattle.table.proofs.TypeLaws.{told_fork}
 use Rattle.raster_fill.proofs.PaintingLaws.{painted_leaf}
-use borrow.Author.Rules.{rules}
 use Rattle.raster_decode.proofs.paint_pixel.Goals as goal
 
 pub overflow_cast-kind : goal.overflow_cast-kind

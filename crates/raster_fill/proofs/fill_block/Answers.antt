@@ -1,7 +1,6 @@
 use native.Mathlib.Omega.{arith}
 use Rattle.raster.proofs.BlockLaws.{block_fits, corner_small, row_place}
 use Rattle.raster_fill.proofs.PaintingLaws.{rows_none, rows_more, rows_all}
-use Prim.Native.Nat.{◌-◌}
 use Rattle.raster_fill.proofs.fill_block.Goals as goal
 
 pub side-across-requires : goal.side-across-requires

@@ -1,5 +1,4 @@
 -- `raster_fill::fill_leaf`: rows, of a width that is written out where blocks are small.
-use borrow.Author.Rules.{rules}
 use Rattle.raster_fill.proofs.fill_leaf.Goals as goal
 
 pub fill_block-requires : goal.fill_block-requires

@@ -2,7 +2,6 @@
 use native.Mathlib.Omega.{arith}
 use Rattle.raster.proofs.BlockLaws.{place_lt, place_fits}
 use Rattle.raster_fill.proofs.PaintingLaws.{painted_pixel}
-use borrow.Author.Rules.{rules}
 use Rattle.raster_fill.proofs.fill_pixel.Goals as goal
 
 pub overflow_mul-raster : goal.overflow_mul-raster

@@ -1,5 +1,4 @@
 use mathlib.Core.Path.{◌≡◌}
-use Prim.Native.Nat.{◌-◌}
 use native.Mathlib.Omega.{arith}
 use Rattle.raster_fill.proofs.PaintingLaws.{filled_none, filled_more}
 use Rattle.raster_fill.proofs.fill_row.Goals as goal
