@@ -144,11 +144,12 @@ def main():
     for path in texts():
         text = read(path)
         skip = imported(path, text)
-        if path.endswith(".rt"):
-            skip |= {n for n in OWN if n in functions}
         clash_here = [n for n in skip if n in table]
         if clash_here:
             print("look:", path, "takes from outside", clash_here)
+        # a function of src/ keeps its name
+        if path.endswith(".rt"):
+            skip |= {n for n in OWN if n in functions}
 
         def words(piece):
             parts = SPLIT.split(piece)
