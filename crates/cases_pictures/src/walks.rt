@@ -1,77 +1,77 @@
 // The row walk from the start place to the first Done: how many answers of each kind come before it.
 ghost use Rattle.std.specs.Prelude.{◌≤◌};
 
-use cases_shared::{pictures, sheet_a};
+use cases_shared::pictures::{self, Picture};
+use cases_shared::sheet_a;
+use cases_shared::sheets::Sheet;
+use std::fmt;
 use std::io::{self, Write};
 use walk::Answer;
 
 // More steps than any walk here takes.
-const STEPS: u64 = 10000;
+const STEPS: u32 = 10000;
 
-// The kinds of an answer, in document 01's order.
-#[derive(Clone, Copy, PartialEq, Eq)]
-enum Kind {
-    Moved,
-    Run,
-    EndRow,
-    Done,
-    Refused,
+// How many answers of each kind a walk gave.
+#[derive(Clone, Copy)]
+struct Counts {
+    moved: u32,
+    runs: u32,
+    rows: u32,
 }
 
-fn kind_of(answer: Answer) -> Kind {
-    match answer {
-        Answer::Moved => Kind::Moved,
-        Answer::Run { .. } => Kind::Run,
-        Answer::EndRow => Kind::EndRow,
-        Answer::Done => Kind::Done,
-        Answer::Refused { .. } => Kind::Refused,
+impl fmt::Display for Counts {
+    fn fmt<W: fmt::Write>(&self, f: &mut fmt::Formatter<W>) -> fmt::Result {
+        let Counts { moved, runs, rows } = *self;
+        write!(f, "{moved} Moved, {runs} Run, {rows} EndRow")
     }
 }
 
-fn one_if_same(a: Kind, b: Kind) -> u64
-    ensures { result ≤ 1 }
-{
-    if a == b { 1 } else { 0 }
-}
-
-// The answers of one kind before the first Done.
-fn count(kind: Kind, n: u32, table: &[u32]) -> u64 {
-    let mut place = walk::start(n);
-    let mut counted: u64 = 0;
+// The answers before the first Done, or before a refusal.
+fn count(sheet: Sheet) -> Counts {
+    let mut place = walk::start(sheet.n);
+    let mut counts = Counts {
+        moved: 0,
+        runs: 0,
+        rows: 0,
+    };
     for _step in 0..STEPS {
-        let s = place.step(table);
+        let s = place.step(sheet.table);
         place = s.place;
-        let answer = s.answer;
-        let given = kind_of(answer);
-        if given == Kind::Done {
-            return counted;
+        match s.answer {
+            Answer::Moved => counts.moved += 1,
+            Answer::Run { .. } => counts.runs += 1,
+            Answer::EndRow => counts.rows += 1,
+            Answer::Done | Answer::Refused { .. } => break,
         }
-        counted += one_if_same(given, kind);
     }
-    counted
+    counts
 }
 
-fn of_table(out: &mut impl Write, name: &str, n: u32, table: &[u32]) -> io::Result<()> {
-    let moved = count(Kind::Moved, n, table);
-    let runs = count(Kind::Run, n, table);
-    let rows = count(Kind::EndRow, n, table);
-    writeln!(out, "{name}: {moved} Moved, {runs} Run, {rows} EndRow")
+fn of_sheet(out: &mut impl Write, name: &str, sheet: Sheet) -> io::Result<()> {
+    writeln!(out, "{name}: {}", count(sheet))
 }
 
-fn of_picture(out: &mut impl Write, name: &str, n: u32, picture: u64) -> io::Result<()> {
-    let mut table = [0u32; pictures::WORDS];
-    let given = pictures::build(n, picture, &mut table);
-    of_table(out, name, n, pictures::filled(given, &table))
+fn of_picture(out: &mut impl Write, name: &str, picture: Picture) -> io::Result<()> {
+    let mut words = [0u32; pictures::WORDS];
+    of_sheet(out, name, picture.sheet(&mut words))
 }
 
 pub fn all(out: &mut impl Write) -> io::Result<()> {
     let first = sheet_a::preorder();
-    of_table(out, "walk, sheet A", 2, &first)?;
+    let sheet = Sheet {
+        n: 2,
+        table: &first,
+    };
+    of_sheet(out, "walk, sheet A", sheet)?;
     let other = sheet_a::renumbered();
-    of_table(out, "walk, sheet A in other numbers", 2, &other)?;
-    of_picture(out, "walk, (j)", 2, pictures::J)?;
-    of_picture(out, "walk, (k), one black pixel", 0, pictures::BLACK_PIXEL)?;
-    of_picture(out, "walk, all white", 2, pictures::WHITE)?;
-    of_picture(out, "walk, document 003's Figure 1", 3, pictures::FIGURE)?;
-    of_picture(out, "walk, two ponds", 3, pictures::PONDS)
+    let sheet = Sheet {
+        n: 2,
+        table: &other,
+    };
+    of_sheet(out, "walk, sheet A in other numbers", sheet)?;
+    of_picture(out, "walk, (j)", pictures::J)?;
+    of_picture(out, "walk, (k), one black pixel", pictures::BLACK_PIXEL)?;
+    of_picture(out, "walk, all white", pictures::WHITE)?;
+    of_picture(out, "walk, document 003's Figure 1", pictures::FIGURE)?;
+    of_picture(out, "walk, two ponds", pictures::PONDS)
 }

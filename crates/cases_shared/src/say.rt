@@ -1,21 +1,26 @@
 // The parts of a printed line.
 ghost use Rattle.std.specs.Prelude.{◌<◌};
 
+use std::fmt;
 use std::io::{self, Write};
 use std::num::{nearest_u64_to_f64, saturating_f64_to_u64};
 
 // A word that names no node.
-pub const NONE: u32 = 4294967295;
+pub const NONE: u32 = quad::NONE as u32;
 
-// `CODE VALUE` of the number that a call gave back.
-pub fn answer(out: &mut impl Write, given: u64) -> io::Result<()> {
-    write!(out, " {} {}", given % 256, given / 256)
+// The number that a call gave back, as `CODE VALUE`.
+#[derive(Clone, Copy)]
+pub struct Given(pub u64);
+
+impl fmt::Display for Given {
+    fn fmt<W: fmt::Write>(&self, f: &mut fmt::Formatter<W>) -> fmt::Result {
+        write!(f, "{} {}", self.0 % 256, self.0 / 256)
+    }
 }
 
 // `NAME: CODE VALUE`, the start of a case's line.
 pub fn case(out: &mut impl Write, name: &str, given: u64) -> io::Result<()> {
-    write!(out, "{name}:")?;
-    answer(out, given)
+    write!(out, "{name}: {}", Given(given))
 }
 
 // A case whose call lends no buffer.
@@ -39,12 +44,17 @@ pub fn words(out: &mut impl Write, held: &[u32]) -> io::Result<()> {
     writeln!(out)
 }
 
-// A table's word, or `-` for None.
-fn link(out: &mut impl Write, word: u32) -> io::Result<()> {
-    if word == NONE {
-        write!(out, " -")
-    } else {
-        write!(out, " {word}")
+// A table's word, as its number, or as `-` for None.
+#[derive(Clone, Copy)]
+struct Word(u32);
+
+impl fmt::Display for Word {
+    fn fmt<W: fmt::Write>(&self, f: &mut fmt::Formatter<W>) -> fmt::Result {
+        if self.0 == NONE {
+            write!(f, "-")
+        } else {
+            write!(f, "{}", self.0)
+        }
     }
 }
 
@@ -57,7 +67,7 @@ fn groups(out: &mut impl Write, held: &[u32], size: usize) -> io::Result<()>
         if i > 0 && i % size == 0 {
             write!(out, ",")?;
         }
-        link(out, *word)?;
+        write!(out, " {}", Word(*word))?;
     }
     writeln!(out)
 }
@@ -100,19 +110,25 @@ pub fn raster(out: &mut impl Write, held: &[u8], side: usize) -> io::Result<()> 
     Ok(())
 }
 
-// A real number's whole part, with `+` behind it where there is more; `?` where it is -1 or less, above every u64, or
-// no number.
-fn real(out: &mut impl Write, x: f64) -> io::Result<()> {
-    if x > -1.0 && x < 18446744073709551616.0 {
-        let whole = saturating_f64_to_u64(x);
-        let more = if nearest_u64_to_f64(whole) == x {
-            ""
+// A real number, as its whole part, with `+` behind it where there is more; as `?` where it is -1 or less, above every
+// u64, or no number.
+#[derive(Clone, Copy)]
+struct Real(f64);
+
+impl fmt::Display for Real {
+    fn fmt<W: fmt::Write>(&self, f: &mut fmt::Formatter<W>) -> fmt::Result {
+        let x = self.0;
+        if x > -1.0 && x < 18446744073709551616.0 {
+            let whole = saturating_f64_to_u64(x);
+            let more = if nearest_u64_to_f64(whole) == x {
+                ""
+            } else {
+                "+"
+            };
+            write!(f, "{whole}{more}")
         } else {
-            "+"
-        };
-        write!(out, " {whole}{more}")
-    } else {
-        write!(out, " ?")
+            write!(f, "?")
+        }
     }
 }
 
@@ -120,7 +136,7 @@ fn real(out: &mut impl Write, x: f64) -> io::Result<()> {
 pub fn reals(out: &mut impl Write, held: [f64; 3]) -> io::Result<()> {
     write!(out, " :")?;
     for x in held {
-        real(out, x)?;
+        write!(out, " {}", Real(x))?;
     }
     writeln!(out)
 }

@@ -33,9 +33,7 @@ fn words(nodes: [[u32; 6]; 9]) -> [u32; 54]
     ensures { 54 ≡ length result }
 {
     let mut table = [0u32; 54];
-    for i in 0..54usize {
-        table[i] = nodes[i / 6][i % 6];
-    }
+    table.copy_from_slice(nodes.as_flattened());
     table
 }
 

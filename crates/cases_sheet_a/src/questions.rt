@@ -1,105 +1,56 @@
 // Sheet A of document 01, in preorder numbers and in others: every question about a node, its file, and its blocks'
 // centres.
-use crate::small_tables;
-use cases_shared::{pictures, say, sheet_a};
+use crate::small_tables::Side;
+use cases_shared::say::{self, Given};
+use cases_shared::sheets::Sheet;
+use cases_shared::{pictures, sheet_a};
+use ground::Ground;
 use std::io::{self, Write};
 
-fn node_name(out: &mut impl Write, node: u32) -> io::Result<()> {
-    write!(out, "node {node}")
-}
+// As document 02 works it out for node 1.
+const GROUND: Ground = Ground {
+    east: 1000.0,
+    north: 2000.0,
+    step: 10.0,
+};
 
-fn side_name(out: &mut impl Write, side: u32) -> io::Result<()> {
-    write!(out, ", side {}", small_tables::side(side as usize))
-}
-
-// Stands between the answers of a line.
-fn comma(out: &mut impl Write, place: u32) -> io::Result<()> {
-    if place > 0 {
-        write!(out, ",")?;
-    }
-    Ok(())
-}
-
-fn neighbour(out: &mut impl Write, table: &[u32], node: u32, direction: u32) -> io::Result<()> {
-    say::answer(out, sheet::sheet_neighbour(2, table, node, direction))
-}
-
-fn neighbours(out: &mut impl Write, table: &[u32], node: u32) -> io::Result<()> {
-    node_name(out, node)?;
-    write!(out, ", neighbours N E S W NW NE SW SE:")?;
-    for direction in 0..8 {
-        comma(out, direction)?;
-        neighbour(out, table, node, direction)?;
+// The answers to a question that is asked with each of so many numbers, to the end of the line.
+fn answers<F: Fn(u32) -> u64>(out: &mut impl Write, count: u32, ask: F) -> io::Result<()>
+    requires { F.IsAlwaysCallable ask }
+{
+    for k in 0..count {
+        if k > 0 {
+            write!(out, ",")?;
+        }
+        write!(out, " {}", Given(ask(k)))?;
     }
     writeln!(out)
-}
-
-fn corner_leaf(
-    out: &mut impl Write,
-    table: &[u32],
-    node: u32,
-    side: u32,
-    corner: u32,
-) -> io::Result<()> {
-    say::answer(out, sheet::sheet_corner_leaf(2, table, node, side, corner))
-}
-
-fn corner_leaves(out: &mut impl Write, table: &[u32], node: u32, side: u32) -> io::Result<()> {
-    node_name(out, node)?;
-    side_name(out, side)?;
-    write!(out, ", leaves at NW NE SW SE:")?;
-    for corner in 0..4 {
-        comma(out, corner)?;
-        corner_leaf(out, table, node, side, corner)?;
-    }
-    writeln!(out)
-}
-
-fn diagonal_leaf(out: &mut impl Write, table: &[u32], node: u32, corner: u32) -> io::Result<()> {
-    say::answer(out, sheet::sheet_diagonal_leaf(2, table, node, corner))
-}
-
-fn diagonal_leaves(out: &mut impl Write, table: &[u32], node: u32) -> io::Result<()> {
-    node_name(out, node)?;
-    write!(out, ", leaves beyond NW NE SW SE:")?;
-    for corner in 0..4 {
-        comma(out, corner)?;
-        diagonal_leaf(out, table, node, corner)?;
-    }
-    writeln!(out)
-}
-
-// With east 1000, north 2000 and step 10, as document 02 works it out for node 1.
-fn centre(out: &mut impl Write, table: &[u32], node: u32) -> io::Result<()> {
-    let mut place = [7.0f64; 3];
-    let given = sheet::sheet_centre(2, table, node, 1000.0, 2000.0, 10.0, &mut place);
-    node_name(out, node)?;
-    write!(out, ", centre:")?;
-    say::answer(out, given)?;
-    say::reals(out, place)
 }
 
 // Every question about one node.
-fn about(out: &mut impl Write, table: &[u32], node: u32) -> io::Result<()> {
-    neighbours(out, table, node)?;
+fn about(out: &mut impl Write, sheet: Sheet, node: u32) -> io::Result<()> {
+    write!(out, "node {node}, neighbours N E S W NW NE SW SE:")?;
+    answers(out, 8, |direction| sheet.neighbour(node, direction))?;
     for side in 0..4 {
-        corner_leaves(out, table, node, side)?;
+        write!(
+            out,
+            "node {node}, side {}, leaves at NW NE SW SE:",
+            Side(side as usize)
+        )?;
+        answers(out, 4, |corner| sheet.corner_leaf(node, side, corner))?;
     }
-    diagonal_leaves(out, table, node)?;
-    centre(out, table, node)
-}
-
-fn about_all(out: &mut impl Write, table: &[u32]) -> io::Result<()> {
-    for node in 0..9 {
-        about(out, table, node)?;
-    }
-    Ok(())
+    write!(out, "node {node}, leaves beyond NW NE SW SE:")?;
+    answers(out, 4, |corner| sheet.diagonal_leaf(node, corner))?;
+    let mut place = [7.0f64; 3];
+    let given = sheet.centre(node, GROUND, &mut place);
+    write!(out, "node {node}, centre: {}", Given(given))?;
+    say::reals(out, place)
 }
 
 // Its file, with two bytes more than it needs.
-fn write(out: &mut impl Write, table: &[u32]) -> io::Result<()> {
+fn write(out: &mut impl Write, sheet: Sheet) -> io::Result<()> {
     let mut file = [7u8; 34];
-    say::case(out, "write", sheet::sheet_write(2, table, &mut file))?;
+    say::case(out, "write", sheet.write(&mut file))?;
     say::file(out, &file)
 }
 
@@ -116,10 +67,14 @@ fn read(out: &mut impl Write) -> io::Result<()> {
 }
 
 fn everything(out: &mut impl Write, table: &[u32]) -> io::Result<()> {
-    say::line(out, "check", sheet::sheet_check(2, table))?;
-    write(out, table)?;
-    pictures::decode(out, "decode", 2, table, 16, 4)?;
-    about_all(out, table)
+    let sheet = Sheet { n: 2, table };
+    say::line(out, "check", sheet.check())?;
+    write(out, sheet)?;
+    pictures::decode(out, "decode", sheet, 16, 4)?;
+    for node in 0..9 {
+        about(out, sheet, node)?;
+    }
+    Ok(())
 }
 
 pub fn all(out: &mut impl Write) -> io::Result<()> {

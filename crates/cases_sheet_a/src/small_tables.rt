@@ -2,80 +2,64 @@
 // it.
 ghost use Rattle.std.specs.Prelude.{◌<◌};
 
+use std::fmt::{self, Display};
 use std::io::{self, Write};
 
-fn flag(yes: bool) -> &'static str {
-    if yes { "T" } else { "F" }
-}
+// A quadrant, by its name.
+#[derive(Clone, Copy)]
+struct Quadrant(usize);
 
-fn quadrant(q: usize) -> &'static str {
-    match q {
-        0 => "NW",
-        1 => "NE",
-        2 => "SW",
-        _ => "SE",
+impl Display for Quadrant {
+    fn fmt<W: fmt::Write>(&self, f: &mut fmt::Formatter<W>) -> fmt::Result {
+        f.write_str(match self.0 {
+            0 => "NW",
+            1 => "NE",
+            2 => "SW",
+            _ => "SE",
+        })
     }
 }
 
-// A side, or `-` where there is none.
-pub fn side(d: usize) -> &'static str {
-    match d {
-        0 => "N",
-        1 => "E",
-        2 => "S",
-        3 => "W",
-        _ => "-",
+// A side, by its name; as `-` where there is none.
+#[derive(Clone, Copy)]
+pub struct Side(pub usize);
+
+impl Display for Side {
+    fn fmt<W: fmt::Write>(&self, f: &mut fmt::Formatter<W>) -> fmt::Result {
+        f.write_str(match self.0 {
+            0 => "N",
+            1 => "E",
+            2 => "S",
+            3 => "W",
+            _ => "-",
+        })
     }
 }
 
-fn adj(out: &mut impl Write, d: usize) -> io::Result<()>
-    requires { d < 4 }
+// The entries of a row, by quadrant.
+fn entries<D: Display + Drop, F: Fn(usize) -> D>(out: &mut impl Write, entry: F) -> io::Result<()>
+    requires { (q : _) → q < 4 → F.pre entry q }
 {
-    write!(out, "ADJ of {}:", side(d))?;
     for q in 0..4 {
-        write!(out, " {}", flag(quad::adj(d, q)))?;
-    }
-    writeln!(out)
-}
-
-fn reflect(out: &mut impl Write, d: usize) -> io::Result<()>
-    requires { d < 4 }
-{
-    write!(out, "REFLECT of {}:", side(d))?;
-    for q in 0..4 {
-        write!(out, " {}", quadrant(quad::reflect(d, q)))?;
-    }
-    writeln!(out)
-}
-
-fn opquad(out: &mut impl Write) -> io::Result<()> {
-    write!(out, "OPQUAD:")?;
-    for q in 0..4 {
-        write!(out, " {}", quadrant(quad::opquad(q)))?;
-    }
-    writeln!(out)
-}
-
-fn common_side(out: &mut impl Write, q: usize) -> io::Result<()>
-    requires { q < 4 }
-{
-    write!(out, "COMMONSIDE of {}:", quadrant(q))?;
-    for other in 0..4 {
-        write!(out, " {}", side(quad::common_side(q, other)))?;
+        write!(out, " {}", entry(q))?;
     }
     writeln!(out)
 }
 
 pub fn all(out: &mut impl Write) -> io::Result<()> {
     for d in 0..4 {
-        adj(out, d)?;
+        write!(out, "ADJ of {}:", Side(d))?;
+        entries(out, |q| if quad::adj(d, q) { 'T' } else { 'F' })?;
     }
     for d in 0..4 {
-        reflect(out, d)?;
+        write!(out, "REFLECT of {}:", Side(d))?;
+        entries(out, |q| Quadrant(quad::reflect(d, q)))?;
     }
-    opquad(out)?;
+    write!(out, "OPQUAD:")?;
+    entries(out, |q| Quadrant(quad::opquad(q)))?;
     for q in 0..4 {
-        common_side(out, q)?;
+        write!(out, "COMMONSIDE of {}:", Quadrant(q))?;
+        entries(out, |other| Side(quad::common_side(q, other)))?;
     }
     Ok(())
 }

@@ -1,0 +1,47 @@
+// A table with its sheet's level, and what C asks of the two.
+use ground::Ground;
+
+#[derive(Clone, Copy)]
+pub struct Sheet<'a> {
+    pub n: u32,
+    pub table: &'a [u32],
+}
+
+impl Sheet<'_> {
+    pub fn check(self) -> u64 {
+        sheet::sheet_check(self.n, self.table)
+    }
+
+    pub fn neighbour(self, node: u32, direction: u32) -> u64 {
+        sheet::sheet_neighbour(self.n, self.table, node, direction)
+    }
+
+    pub fn corner_leaf(self, node: u32, side: u32, corner: u32) -> u64 {
+        sheet::sheet_corner_leaf(self.n, self.table, node, side, corner)
+    }
+
+    pub fn diagonal_leaf(self, node: u32, corner: u32) -> u64 {
+        sheet::sheet_diagonal_leaf(self.n, self.table, node, corner)
+    }
+
+    pub fn distances(self, distances: &mut [u32]) -> u64 {
+        sheet::sheet_distance(self.n, self.table, distances)
+    }
+
+    pub fn ponds(self, numbers: &mut [u32], reg: &mut [u32]) -> u64 {
+        sheet::sheet_ponds(self.n, self.table, numbers, reg)
+    }
+
+    pub fn decode(self, raster: &mut [u8]) -> u64 {
+        sheet::sheet_decode(self.n, self.table, raster)
+    }
+
+    pub fn write(self, file: &mut [u8]) -> u64 {
+        sheet::sheet_write(self.n, self.table, file)
+    }
+
+    pub fn centre(self, node: u32, ground: Ground, place: &mut [f64]) -> u64 {
+        let Ground { east, north, step } = ground;
+        sheet::sheet_centre(self.n, self.table, node, east, north, step, place)
+    }
+}
