@@ -71,40 +71,21 @@ fn far_corner(out: &mut impl Write) -> io::Result<()> {
     )
 }
 
-fn refused(out: &mut impl Write, table: &[u32]) -> io::Result<()> {
+fn refused(out: &mut impl Write, sheet: Sheet) -> io::Result<()> {
     let mut held = [7u32; 8];
-    distances(
-        out,
-        "distances, 1, level 8",
-        Sheet { n: 8, table },
-        &mut held,
-    )?;
-    distances(
-        out,
-        "distances, 2, a word too few",
-        Sheet { n: 2, table },
-        &mut held,
-    )
-}
-
-fn sheet_a(out: &mut impl Write) -> io::Result<()> {
-    let first = sheet_a::preorder();
-    let sheet = Sheet {
-        n: 2,
-        table: &first,
-    };
-    of_sheet(out, "distances, sheet A", sheet)?;
-    let other = sheet_a::renumbered();
-    let sheet = Sheet {
-        n: 2,
-        table: &other,
-    };
-    of_sheet(out, "distances, sheet A in other numbers", sheet)?;
-    refused(out, &first)
+    let deeper = Sheet { n: 8, ..sheet };
+    distances(out, "distances, 1, level 8", deeper, &mut held)?;
+    distances(out, "distances, 2, a word too few", sheet, &mut held)
 }
 
 pub fn all(out: &mut impl Write) -> io::Result<()> {
-    sheet_a(out)?;
+    of_sheet(out, "distances, sheet A", sheet_a::preorder())?;
+    of_sheet(
+        out,
+        "distances, sheet A in other numbers",
+        sheet_a::renumbered(),
+    )?;
+    refused(out, sheet_a::preorder())?;
     of_picture(out, "distances, (j)", pictures::J)?;
     of_picture(
         out,

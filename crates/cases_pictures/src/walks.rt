@@ -57,18 +57,8 @@ fn of_picture(out: &mut impl Write, name: &str, picture: Picture) -> io::Result<
 }
 
 pub fn all(out: &mut impl Write) -> io::Result<()> {
-    let first = sheet_a::preorder();
-    let sheet = Sheet {
-        n: 2,
-        table: &first,
-    };
-    of_sheet(out, "walk, sheet A", sheet)?;
-    let other = sheet_a::renumbered();
-    let sheet = Sheet {
-        n: 2,
-        table: &other,
-    };
-    of_sheet(out, "walk, sheet A in other numbers", sheet)?;
+    of_sheet(out, "walk, sheet A", sheet_a::preorder())?;
+    of_sheet(out, "walk, sheet A in other numbers", sheet_a::renumbered())?;
     of_picture(out, "walk, (j)", pictures::J)?;
     of_picture(out, "walk, (k), one black pixel", pictures::BLACK_PIXEL)?;
     of_picture(out, "walk, all white", pictures::WHITE)?;

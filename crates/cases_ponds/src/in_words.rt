@@ -1,5 +1,7 @@
 // Ponds in a register of words; what a refused call was lent, 7 everywhere, it holds still.
-use cases_shared::{parts, pictures, say, sheet_a};
+use cases_shared::pictures::{self, Picture};
+use cases_shared::sheets::Sheet;
+use cases_shared::{parts, say, sheet_a};
 use std::io::{self, Write};
 
 // The most nodes of a sheet here, and the words of the longest register.
@@ -7,20 +9,19 @@ const NODES: usize = 9;
 
 const WORDS: usize = 15;
 
-// One table's ponds, where so many numbers are lent, and a register of so many words.
-fn of_table(
+// One sheet's ponds, where so many numbers are lent, and a register of so many words.
+fn of_sheet(
     out: &mut impl Write,
     name: &str,
-    n: u32,
-    table: &[u32],
+    sheet: Sheet,
     numbers: usize,
     words: usize,
 ) -> io::Result<()> {
     let mut held = [7u32; NODES];
     let mut reg = [7u32; WORDS];
-    let lent = parts::words_to_fill(&mut held, numbers);
-    let room = parts::words_to_fill(&mut reg, words);
-    say::case(out, name, sheet::sheet_ponds(n, table, lent, room))?;
+    let lent = parts::first_mut(&mut held, numbers);
+    let room = parts::first_mut(&mut reg, words);
+    say::case(out, name, sheet.ponds(lent, room))?;
     say::list(out, lent)?;
     say::ponds(out, room)
 }
@@ -28,49 +29,40 @@ fn of_table(
 fn of_picture(
     out: &mut impl Write,
     name: &str,
-    n: u32,
-    picture: u64,
+    picture: Picture,
     numbers: usize,
     words: usize,
 ) -> io::Result<()> {
     let mut table = [0u32; pictures::WORDS];
-    let given = pictures::build(n, picture, &mut table);
-    of_table(
-        out,
-        name,
-        n,
-        pictures::filled(given, &table),
-        numbers,
-        words,
-    )
+    of_sheet(out, name, picture.sheet(&mut table), numbers, words)
 }
 
-fn sheets(out: &mut impl Write, first: &[u32]) -> io::Result<()> {
-    of_table(out, "ponds, sheet A", 2, first, 9, 12)?;
-    let other = sheet_a::renumbered();
-    of_table(out, "ponds, sheet A in other numbers", 2, &other, 9, 10)?;
-    of_picture(out, "ponds, two ponds", 3, pictures::PONDS, 9, 15)?;
-    of_picture(out, "ponds, all white", 2, pictures::WHITE, 1, 5)?;
-    of_picture(out, "ponds, all black", 2, pictures::BLACK, 1, 5)
-}
-
-fn refused(out: &mut impl Write, table: &[u32]) -> io::Result<()> {
-    of_table(out, "ponds, 1, level 8", 8, table, 9, 10)?;
-    of_table(
+fn found(out: &mut impl Write) -> io::Result<()> {
+    of_sheet(out, "ponds, sheet A", sheet_a::preorder(), 9, 12)?;
+    of_sheet(
         out,
-        "ponds, 2, a table of 53 words",
-        2,
-        parts::words(table, 53),
+        "ponds, sheet A in other numbers",
+        sheet_a::renumbered(),
         9,
         10,
     )?;
-    of_table(out, "ponds, 2, a number too few", 2, table, 8, 10)?;
-    of_table(out, "ponds, 4, sheet A at level 1", 1, table, 9, 10)?;
-    of_table(out, "ponds, 9, a register of 9 words", 2, table, 9, 9)
+    of_picture(out, "ponds, two ponds", pictures::PONDS, 9, 15)?;
+    of_picture(out, "ponds, all white", pictures::WHITE, 1, 5)?;
+    of_picture(out, "ponds, all black", pictures::BLACK, 1, 5)
+}
+
+fn refused(out: &mut impl Write, sheet: Sheet) -> io::Result<()> {
+    of_sheet(out, "ponds, 1, level 8", Sheet { n: 8, ..sheet }, 9, 10)?;
+    let table = parts::first(sheet.table, 53);
+    let shorter = Sheet { table, ..sheet };
+    of_sheet(out, "ponds, 2, a table of 53 words", shorter, 9, 10)?;
+    of_sheet(out, "ponds, 2, a number too few", sheet, 8, 10)?;
+    let lower = Sheet { n: 1, ..sheet };
+    of_sheet(out, "ponds, 4, sheet A at level 1", lower, 9, 10)?;
+    of_sheet(out, "ponds, 9, a register of 9 words", sheet, 9, 9)
 }
 
 pub fn all(out: &mut impl Write) -> io::Result<()> {
-    let first = sheet_a::preorder();
-    sheets(out, &first)?;
-    refused(out, &first)
+    found(out)?;
+    refused(out, sheet_a::preorder())
 }

@@ -2,31 +2,28 @@
 // held, 7 everywhere, it holds still.
 #![tactic(auto)]
 
+use cases_shared::sheets::Sheet;
 use cases_shared::{parts, pictures, say, sheet_a};
+use ground::Ground;
 use std::io::{self, BufWriter, Write};
 use walk::{Answer, Place};
 
 // So many words of sheet A's table as a sheet of level n.
 fn check(out: &mut impl Write, name: &str, n: u32, words: usize) -> io::Result<()> {
-    let table = sheet_a::preorder();
-    say::line(
-        out,
-        name,
-        sheet::sheet_check(n, parts::words(&table, words)),
-    )
-}
-
-fn put(table: &mut [u32], place: usize, word: u32) {
-    if place < table.len() {
-        table[place] = word;
-    }
+    let table = parts::first(sheet_a::preorder().table, words);
+    say::line(out, name, Sheet { n, table }.check())
 }
 
 // Sheet A's table with another word in one place.
 fn changed(out: &mut impl Write, name: &str, place: usize, word: u32) -> io::Result<()> {
-    let mut table = sheet_a::preorder();
-    put(&mut table, place, word);
-    say::line(out, name, sheet::sheet_check(2, &table))
+    let sheet = sheet_a::preorder();
+    let mut table = [0u32; 54];
+    table.copy_from_slice(sheet.table);
+    if let Some(w) = table.get_mut(place) {
+        *w = word;
+    }
+    let table = &table;
+    say::line(out, name, Sheet { table, ..sheet }.check())
 }
 
 fn tables(out: &mut impl Write) -> io::Result<()> {
@@ -39,43 +36,18 @@ fn tables(out: &mut impl Write) -> io::Result<()> {
     changed(out, "5, four white sons", 41, 0)
 }
 
-fn neighbour(
-    out: &mut impl Write,
-    name: &str,
-    table: &[u32],
-    node: u32,
-    direction: u32,
-) -> io::Result<()> {
-    say::line(out, name, sheet::sheet_neighbour(2, table, node, direction))
-}
-
-fn corner_leaf(
-    out: &mut impl Write,
-    name: &str,
-    table: &[u32],
-    node: u32,
-    side: u32,
-    corner: u32,
-) -> io::Result<()> {
+fn questions(out: &mut impl Write, sheet: Sheet) -> io::Result<()> {
+    say::line(out, "6, node 9 of nine", sheet.neighbour(9, 8))?;
+    say::line(out, "7, direction 8", sheet.neighbour(1, 8))?;
+    say::line(out, "7, side 4", sheet.corner_leaf(1, 4, 5))?;
+    say::line(out, "7, corner 5", sheet.corner_leaf(1, 1, 5))?;
     say::line(
         out,
-        name,
-        sheet::sheet_corner_leaf(2, table, node, side, corner),
-    )
-}
-
-fn questions(out: &mut impl Write, table: &[u32]) -> io::Result<()> {
-    neighbour(out, "6, node 9 of nine", table, 9, 8)?;
-    neighbour(out, "7, direction 8", table, 1, 8)?;
-    corner_leaf(out, "7, side 4", table, 1, 4, 5)?;
-    corner_leaf(out, "7, corner 5", table, 1, 1, 5)?;
-    corner_leaf(out, "7, a corner not on its side", table, 1, 0, 3)?;
-    say::line(
-        out,
-        "7, corner 4 and no side",
-        sheet::sheet_diagonal_leaf(2, table, 1, 4),
+        "7, a corner not on its side",
+        sheet.corner_leaf(1, 0, 3),
     )?;
-    neighbour(out, "20, north-west of node 1", table, 1, 4)
+    say::line(out, "7, corner 4 and no side", sheet.diagonal_leaf(1, 4))?;
+    say::line(out, "20, north-west of node 1", sheet.neighbour(1, 4))
 }
 
 // So many pixels of a raster in which pixel 5 has this colour, as a sheet of level 2.
@@ -86,74 +58,48 @@ fn build(out: &mut impl Write, name: &str, count: usize, colour: u8) -> io::Resu
     say::case(
         out,
         name,
-        sheet::sheet_build(2, parts::bytes(&raster, count), &mut table),
+        sheet::sheet_build(2, parts::first(&raster, count), &mut table),
     )?;
     say::nodes(out, &table)
 }
 
-fn rasters(out: &mut impl Write, table: &[u32]) -> io::Result<()> {
-    pictures::decode(out, "2, a raster of 15 pixels to write", 2, table, 15, 15)?;
+fn rasters(out: &mut impl Write, sheet: Sheet) -> io::Result<()> {
+    pictures::decode(out, "2, a raster of 15 pixels to write", sheet, 15, 15)?;
     build(out, "2, a raster of 15 pixels to read", 15, 2)?;
     build(out, "8, pixel 5 is 2", 16, 2)?;
     build(out, "9, a table of 6 words", 16, 1)
 }
 
-// Node 1's centre, in a slice of so many numbers.
-fn centre(
-    out: &mut impl Write,
-    name: &str,
-    table: &[u32],
-    east: f64,
-    north: f64,
-    step: f64,
-    count: usize,
-) -> io::Result<()> {
+// Node 1's centre, in a slice of one number.
+fn centre(out: &mut impl Write, name: &str, sheet: Sheet, ground: Ground) -> io::Result<()> {
     let mut place = [7.0f64; 3];
-    say::case(
-        out,
-        name,
-        sheet::sheet_centre(
-            2,
-            table,
-            1,
-            east,
-            north,
-            step,
-            parts::reals_to_fill(&mut place, count),
-        ),
-    )?;
+    say::case(out, name, sheet.centre(1, ground, &mut place[..1]))?;
     say::reals(out, place)
 }
 
-fn ground(out: &mut impl Write, table: &[u32]) -> io::Result<()> {
-    centre(
-        out,
-        "11, too far east",
-        table,
-        16777217.0,
-        -16777217.0,
-        0.0,
-        1,
-    )?;
-    centre(
-        out,
-        "11, too far south",
-        table,
-        16777216.0,
-        -16777217.0,
-        0.0,
-        1,
-    )?;
-    centre(out, "11, step 0", table, 16777216.0, -16777216.0, 0.0, 1)?;
-    centre(
-        out,
-        "9, room for one number",
-        table,
-        16777216.0,
-        -16777216.0,
-        16384.0,
-        1,
-    )
+// One number after the other is brought into its range.
+fn grounds(out: &mut impl Write, sheet: Sheet) -> io::Result<()> {
+    let first = Ground {
+        east: 16777217.0,
+        north: -16777217.0,
+        step: 0.0,
+    };
+    centre(out, "11, too far east", sheet, first)?;
+    let second = Ground {
+        east: 16777216.0,
+        ..first
+    };
+    centre(out, "11, too far south", sheet, second)?;
+    let third = Ground {
+        north: -16777216.0,
+        ..second
+    };
+    centre(out, "11, step 0", sheet, third)?;
+    let last = Ground {
+        step: 16384.0,
+        ..third
+    };
+    centre(out, "9, room for one number", sheet, last)
 }
 
 // A file that is refused, and what was lent for its table.
@@ -185,27 +131,20 @@ fn files(out: &mut impl Write) -> io::Result<()> {
     )
 }
 
-fn writing(out: &mut impl Write, table: &[u32]) -> io::Result<()> {
+fn writing(out: &mut impl Write, sheet: Sheet) -> io::Result<()> {
     let mut bytes = [7u8; 31];
-    say::case(
-        out,
-        "9, a file in 31 bytes",
-        sheet::sheet_write(2, table, &mut bytes),
-    )?;
+    say::case(out, "9, a file in 31 bytes", sheet.write(&mut bytes))?;
     say::file(out, &bytes)
 }
 
 // The walk's and the programs' own.
-fn programs(out: &mut impl Write, table: &[u32]) -> io::Result<()> {
+fn programs(out: &mut impl Write, sheet: Sheet) -> io::Result<()> {
     let place = Place {
-        n: 2,
         node: 9,
         level: 0,
-        left: 0,
-        x: 0,
-        y: 0,
+        ..walk::start(sheet.n)
     };
-    let answer = place.step(table).answer;
+    let answer = place.step(sheet.table).answer;
     if let Answer::Refused { code, value } = answer {
         writeln!(out, "10, a walk at node 9 of nine: {code} {value}")?;
     }
@@ -220,13 +159,13 @@ fn programs(out: &mut impl Write, table: &[u32]) -> io::Result<()> {
 
 fn main(rt: HostRuntime) -> io::Result<()> {
     let mut out = BufWriter::new(rt.alloc(), io::writer(&rt))?;
-    let table = sheet_a::preorder();
+    let sheet = sheet_a::preorder();
     tables(&mut out)?;
-    questions(&mut out, &table)?;
-    rasters(&mut out, &table)?;
-    ground(&mut out, &table)?;
+    questions(&mut out, sheet)?;
+    rasters(&mut out, sheet)?;
+    grounds(&mut out, sheet)?;
     files(&mut out)?;
-    writing(&mut out, &table)?;
-    programs(&mut out, &table)?;
+    writing(&mut out, sheet)?;
+    programs(&mut out, sheet)?;
     out.flush()
 }

@@ -2,9 +2,10 @@
 ghost use Rattle.std.specs.Prelude.{◌≡◌, length};
 
 use crate::say::NONE;
+use crate::sheets::Sheet;
 
 // A node to a line: father, NW, NE, SW, SE, type.
-const PREORDER: [[u32; 6]; 9] = [
+static PREORDER: [[u32; 6]; 9] = [
     [NONE, 1, 2, 7, 8, 2],
     [0, NONE, NONE, NONE, NONE, 1],
     [0, 3, 4, 5, 6, 2],
@@ -16,7 +17,7 @@ const PREORDER: [[u32; 6]; 9] = [
     [0, NONE, NONE, NONE, NONE, 0],
 ];
 
-const RENUMBERED: [[u32; 6]; 9] = [
+static RENUMBERED: [[u32; 6]; 9] = [
     [NONE, 8, 1, 3, 2, 2],
     [0, 7, 4, 6, 5, 2],
     [0, NONE, NONE, NONE, NONE, 0],
@@ -28,24 +29,24 @@ const RENUMBERED: [[u32; 6]; 9] = [
     [0, NONE, NONE, NONE, NONE, 1],
 ];
 
-// The words of nine nodes.
-fn words(nodes: [[u32; 6]; 9]) -> [u32; 54]
-    ensures { 54 ≡ length result }
+// The sheet in preorder, and in other numbers.
+pub fn preorder() -> Sheet<'static>
+    ensures { 54 ≡ length result.table.now }
 {
-    let mut table = [0u32; 54];
-    table.copy_from_slice(nodes.as_flattened());
-    table
+    of_nodes(&PREORDER)
 }
 
-// Its table in preorder, and in other numbers.
-pub fn preorder() -> [u32; 54]
-    ensures { 54 ≡ length result }
+pub fn renumbered() -> Sheet<'static>
+    ensures { 54 ≡ length result.table.now }
 {
-    words(PREORDER)
+    of_nodes(&RENUMBERED)
 }
 
-pub fn renumbered() -> [u32; 54]
-    ensures { 54 ≡ length result }
+fn of_nodes(nodes: &[[u32; 6]; 9]) -> Sheet<'_>
+    ensures { 54 ≡ length result.table.now }
 {
-    words(RENUMBERED)
+    Sheet {
+        n: 2,
+        table: nodes.as_flattened(),
+    }
 }

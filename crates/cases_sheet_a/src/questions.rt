@@ -66,8 +66,7 @@ fn read(out: &mut impl Write) -> io::Result<()> {
     say::nodes(out, &table)
 }
 
-fn everything(out: &mut impl Write, table: &[u32]) -> io::Result<()> {
-    let sheet = Sheet { n: 2, table };
+fn everything(out: &mut impl Write, sheet: Sheet) -> io::Result<()> {
     say::line(out, "check", sheet.check())?;
     write(out, sheet)?;
     pictures::decode(out, "decode", sheet, 16, 4)?;
@@ -80,7 +79,7 @@ fn everything(out: &mut impl Write, table: &[u32]) -> io::Result<()> {
 pub fn all(out: &mut impl Write) -> io::Result<()> {
     read(out)?;
     writeln!(out, "sheet A in preorder numbers")?;
-    everything(out, &sheet_a::preorder())?;
+    everything(out, sheet_a::preorder())?;
     writeln!(out, "sheet A in other numbers")?;
-    everything(out, &sheet_a::renumbered())
+    everything(out, sheet_a::renumbered())
 }
