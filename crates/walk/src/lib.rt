@@ -75,25 +75,13 @@ fn bad_place(p: Place, count: usize) -> bool
     requires { p.n ≤ top_level }
     ensures { result ≡ bad_place count p }
 {
-    let level = p.level;
-    if p.n < level {
-        return true;
-    }
-    if count <= p.node as usize {
-        return true;
-    }
     let whole = quad::side(p.n);
-    if whole < p.x {
-        return true;
-    }
-    if whole < p.y {
-        return true;
-    }
-    let own = quad::side(level);
-    if p.left % own != 0 {
-        return true;
-    }
-    whole - own < p.left
+    p.n < p.level
+        || count <= p.node as usize
+        || whole < p.x
+        || whole < p.y
+        || p.left % quad::side(p.level) != 0
+        || whole - quad::side(p.level) < p.left
 }
 
 // Whether the columns of the place's block hold x.
@@ -101,10 +89,7 @@ fn spans_x(p: Place) -> bool
     requires { p.level ≤ top_level }
     ensures { result ≡ spans p }
 {
-    if p.x < p.left {
-        return false;
-    }
-    p.x - p.left < quad::side(p.level)
+    p.left <= p.x && p.x - p.left < quad::side(p.level)
 }
 
 // At a fork whose columns hold x: to the son whose quarter holds (x, y).
@@ -122,12 +107,10 @@ fn down(p: Place, table: &[u32]) -> Stepped
     }
     Stepped {
         place: Place {
-            n: p.n,
             node: son as u32,
             level,
             left: p.left + east * half,
-            x: p.x,
-            y: p.y,
+            ..p
         },
         answer: Answer::Moved,
     }
@@ -142,24 +125,14 @@ fn inside(p: Place, table: &[u32]) -> Stepped
     if kind <= quad::TOP_COLOUR {
         let end = p.left + quad::side(p.level);
         return Stepped {
-            place: Place {
-                n: p.n,
-                node: p.node,
-                level: p.level,
-                left: p.left,
-                x: end,
-                y: p.y,
-            },
+            place: Place { x: end, ..p },
             answer: Answer::Run {
                 colour: kind as u32,
                 width: end - p.x,
             },
         };
     }
-    if kind != quad::FORK {
-        return refused(p, Outcome::BadPlace);
-    }
-    if p.level == 0 {
+    if kind != quad::FORK || p.level == 0 {
         return refused(p, Outcome::BadPlace);
     }
     down(p, table)
@@ -174,12 +147,9 @@ fn outside(p: Place, table: &[u32]) -> Stepped
     if level == p.n {
         return Stepped {
             place: Place {
-                n: p.n,
-                node: p.node,
-                level,
-                left: p.left,
                 x: 0,
                 y: p.y + 1,
+                ..p
             },
             answer: Answer::EndRow,
         };
@@ -191,12 +161,10 @@ fn outside(p: Place, table: &[u32]) -> Stepped
     let above = quad::side(level + 1);
     Stepped {
         place: Place {
-            n: p.n,
             node: father as u32,
             level: level + 1,
             left: p.left - p.left % above,
-            x: p.x,
-            y: p.y,
+            ..p
         },
         answer: Answer::Moved,
     }

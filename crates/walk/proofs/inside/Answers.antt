@@ -1,7 +1,10 @@
 -- `walk::inside`: a leaf's run, or the refusals and the fork's `down`.
 use native.Mathlib.Nat.{le_refl}
+use Rattle.std.proofs.Common.{arith}
+use Rattle.std.proofs.lemmas.Bool.Decides.{nat_tests}
+use Rattle.walk.specs.Walk.{inside_of}
 use Rattle.walk.proofs.NumberLaws.{end_fits}
-use Rattle.walk.proofs.StepLaws.{before_end, inside_run, inside_no_type, inside_too_deep}
+use Rattle.walk.proofs.StepLaws.{before_end, inside_run}
 use borrow.Author.Rules.{rules}
 use Rattle.walk.proofs.inside.Goals as goal
 
@@ -15,7 +18,5 @@ pub returns-then-kind-le-TOP_COLOUR : goal.returns-then-kind-le-TOP_COLOUR
 returns-then-kind-le-TOP_COLOUR c = search (inside_run, rules)
 
 pub returns-then-kind-ne-FORK : goal.returns-then-kind-ne-FORK
-returns-then-kind-ne-FORK c = search (inside_no_type, rules)
-
-pub returns-then-p-eq0 : goal.returns-then-p-eq0
-returns-then-p-eq0 c = search (inside_too_deep, rules)
+unfolding inside_of
+returns-then-kind-ne-FORK c = grind (arith, nat_tests)
