@@ -16,40 +16,15 @@ const FILE_ROOM: u64 = 65536;
 // The words of the longest table that is printed, of 1,365 nodes.
 const TABLE_ROOM: usize = 8190;
 
-// `refused CODE VALUE`
-fn refusal(out: &mut impl Write, o: Outcome) -> io::Result<()> {
-    writeln!(out, "refused {} {}", answer::code(o), answer::value(o))
-}
-
-// `sheet LEVEL NODES`
-fn title(out: &mut impl Write, level: u32, nodes: u32) -> io::Result<()> {
-    writeln!(out, "sheet {level} {nodes}")
-}
-
-// The row's number and a colon.
-fn row_number(out: &mut impl Write, y: u32) -> io::Result<()> {
-    write!(out, "{y}:")
-}
-
-// A run: B or W for the colour, then the width.
-fn run(out: &mut impl Write, colour: u32, width: u32) -> io::Result<()> {
-    let letter = if colour == 0 { 'W' } else { 'B' };
-    write!(out, " {letter}{width}")
-}
-
-// `links COUNT`
-fn links_line(out: &mut impl Write, links: u32) -> io::Result<()> {
-    writeln!(out, "links {links}")
-}
-
-// Prints what one answer adds to the rows: a run, behind the row's number where it is the row's first, or the row's
-// end.
+// Prints what one answer adds to the rows: a run, B or W for its colour and then its width, behind the row's number
+// where it is the row's first; or the row's end.
 fn print_answer(out: &mut impl Write, answer: Answer, from: Place) -> io::Result<()> {
     if let Answer::Run { colour, width } = answer {
         if from.x == 0 {
-            row_number(out, from.y)?;
+            write!(out, "{}:", from.y)?;
         }
-        run(out, colour, width)?;
+        let letter = if colour == 0 { 'W' } else { 'B' };
+        write!(out, " {letter}{width}")?;
     }
     if let Answer::EndRow = answer {
         writeln!(out)?;
@@ -66,31 +41,34 @@ fn print_rows(out: &mut impl Write, level: u32, table: &[u32]) -> io::Result<u32
     let mut place = walk::start(level);
     let mut links: u32 = 0;
     loop {
-        let from = place;
-        let s = from.step(table);
-        place = s.place;
-        let answer = s.answer;
-        if let Answer::Done = answer {
+        let s = place.step(table);
+        if let Answer::Done = s.answer {
             return Ok(links);
         }
-        print_answer(out, answer, from)?;
-        links = walk_rows::with_link(links, answer);
+        print_answer(out, s.answer, place)?;
+        links = walk_rows::with_link(links, s.answer);
+        place = s.place;
     }
 }
 
-// Prints the sheet that a file holds, or why it is refused.
+// Prints the sheet that a file holds: its level and node count, its rows, and the links followed; or why it is refused.
 fn print_sheet(out: &mut impl Write, file: &[u8]) -> io::Result<()> {
     let mut table = [0u32; TABLE_ROOM];
     let loaded = file_load::load(file, &mut table);
     let Outcome::Answered { value } = loaded else {
-        return refusal(out, loaded);
+        return writeln!(
+            out,
+            "refused {} {}",
+            answer::code(loaded),
+            answer::value(loaded)
+        );
     };
     let level = value % answer::LEVEL_ROOM;
     let nodes = value / answer::LEVEL_ROOM;
-    title(out, level, nodes)?;
+    writeln!(out, "sheet {level} {nodes}")?;
     let words = 6 * nodes as usize;
     let links = print_rows(out, level, &table[..words])?;
-    links_line(out, links)
+    writeln!(out, "links {links}")
 }
 
 fn main(rt: HostRuntime) -> io::Result<()> {

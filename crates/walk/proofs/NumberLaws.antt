@@ -1,12 +1,9 @@
 -- Sides and columns: a side is a power of two, at most the sheet's, so that sums of a place's numbers fit.
-use mathlib.Core.Path.{◌≡◌, refl, ap, sym, ◌∙◌}
-use mathlib.Core.Bool.{Bool, true, false}
+use mathlib.Core.Path.{◌≡◌, ap, sym, ◌∙◌}
 use Prim.Native.Nat.{ℕ, suc, ◌+◌, ◌-◌, ◌*◌, ◌/◌, ◌%◌, ◌^◌, ◌≤◌, ◌<◌}
 use native.Mathlib.Nat.{pow-succ', mul_assoc, mul_comm, add-mul, mul-mod_left, mul-le-mul_right}
 use native.Mathlib.Omega.{arith}
-use lib.Dec.{ltb}
 use lib.Pow.{pow_pos, pow_mono, low}
-use borrow.Author.Tests.{lt-ltb, le-ltb, ltb-true, ltb-false}
 use mir.Syntax.{w32}
 use mir.Val.{Fits}
 use Rattle.quad.specs.Numbers.{top_level}
@@ -16,14 +13,6 @@ side_pos level side e = omega (arith, pow_pos level)
 
 pub side_le : (n level whole own : ℕ) → level ≤ n → whole ≡ 2 ^ n → own ≡ 2 ^ level → own ≤ whole
 side_le n level whole own h e f = omega (arith, pow_mono {i = level} {j = n} h)
-
--- two tests that say the same
-pub same_test : (a b c d : ℕ) → (a < b → c < d) → (b ≤ a → d ≤ c) → ltb a b ≡ ltb c d
-same_test a b c d up down = go (ltb a b) refl
-  where
-    go : (t : Bool) → ltb a b ≡ t → t ≡ ltb c d
-    go true e = sym (lt-ltb c d (up (ltb-true a b e)))
-    go false e = sym (le-ltb c d (down (ltb-false a b e)))
 
 -- sums that fit
 odd_le : (x half : ℕ) → x / half % 2 * half ≤ 1 * half

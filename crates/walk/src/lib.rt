@@ -1,5 +1,5 @@
 // The row walk: a place goes in by value, and the next place comes back beside the answer.
-#![tactic(auto)]
+#![tactic(auto, using(crate::proofs::StepLaws::tests), unfolding(crate::specs::Walk::bad_place, crate::specs::Walk::inside_of, crate::specs::Walk::outside_of, crate::specs::Walk::step_of))]
 
 ghost use Rattle.std.specs.Prelude.{◌≡◌, true, ◌<◌, ◌≤◌, ◌^◌};
 ghost use Rattle.quad.specs.Numbers.{top_level, fork_type};
@@ -71,7 +71,6 @@ fn refused(p: Place, o: Outcome) -> Stepped
 }
 
 // Whether the place is none, for a table of count nodes.
-#[tactic(auto, using(std::proofs::lemmas::Bool::Decides::nat_tests, crate::proofs::NumberLaws::side_le, crate::proofs::NumberLaws::side_pos), unfolding(crate::specs::Walk::bad_place))]
 fn bad_place(p: Place, count: usize) -> bool
     requires { p.n ≤ top_level }
     ensures { result ≡ bad_place count p }
@@ -94,7 +93,6 @@ fn spans_x(p: Place) -> bool
 }
 
 // At a fork whose columns hold x: to the son whose quarter holds (x, y).
-#[tactic(auto, using(std::proofs::lemmas::Bool::Decides::nat_tests, crate::proofs::NumberLaws::side_pos, crate::proofs::NumberLaws::half_fits, crate::proofs::NumberLaws::son_fits), unfolding(crate::specs::Walk::inside_of))]
 fn down(p: Place, table: &[u32]) -> Stepped
     requires { Good table.now p × (node_type table.now p.node ≡ fork_type) × (0 < p.level) }
     ensures { result ≡ inside_of table.now p }
@@ -119,7 +117,6 @@ fn down(p: Place, table: &[u32]) -> Stepped
 }
 
 // At a node whose columns hold x: a leaf's run, or down to a son.
-#[tactic(auto, using(std::proofs::lemmas::Bool::Decides::nat_tests, crate::proofs::NumberLaws::end_fits, crate::proofs::StepLaws::before_end), unfolding(crate::specs::Walk::inside_of))]
 fn inside(p: Place, table: &[u32]) -> Stepped
     requires { Good table.now p × (spans p ≡ true) }
     ensures { result ≡ inside_of table.now p }
@@ -142,7 +139,6 @@ fn inside(p: Place, table: &[u32]) -> Stepped
 }
 
 // Past its columns: the row's end at the root's level, else up to the father.
-#[tactic(auto, using(std::proofs::lemmas::Bool::Decides::nat_tests, crate::proofs::NumberLaws::side_pos, crate::proofs::NumberLaws::whole_small), unfolding(crate::specs::Walk::outside_of))]
 fn outside(p: Place, table: &[u32]) -> Stepped
     requires { Good table.now p × (p.y < 2 ^ p.n) }
     ensures { result ≡ outside_of table.now p }
@@ -175,7 +171,6 @@ fn outside(p: Place, table: &[u32]) -> Stepped
 }
 
 // A step in a table of good length.
-#[tactic(auto, using(std::proofs::lemmas::Bool::Decides::nat_tests, table::proofs::CheckLaws::sizes_good, crate::proofs::PlaceLaws::good, crate::proofs::PlaceLaws::level_small, crate::proofs::PlaceLaws::row_in), unfolding(crate::specs::Walk::step_of))]
 fn step_in(p: Place, table: &[u32]) -> Stepped
     requires { Sized p.n table.now }
     ensures { result ≡ step_of table.now p }

@@ -11,14 +11,5 @@ pub fn with_link(links: u32, answer: Answer) -> u32
     requires { links < 4294967295 }
     ensures { (result ≡ links + moves answer) × (result ≤ links + 1) }
 {
-    match answer {
-        Answer::Moved => links + 1,
-        Answer::Run {
-            colour: _,
-            width: _,
-        } => links,
-        Answer::EndRow => links,
-        Answer::Done => links,
-        Answer::Refused { code: _, value: _ } => links,
-    }
+    links + matches!(answer, Answer::Moved) as u32
 }
