@@ -1,21 +1,17 @@
 -- What a step's functions know of the numbers that they meet, and the lemmas that the check takes to their goals.
 use mathlib.Core.Path.{◌≡◌}
-use mathlib.Core.Bool.{Bool, true, not}
-use mathlib.Core.List.{List}
+use mathlib.Core.Bool.{true}
 use Prim.Native.Nat.{ℕ, ◌+◌, ◌^◌, ◌≤◌, ◌<◌}
 use native.Mathlib.Omega.{arith}
 use lib.Pow.{pow_mono}
 use lib.Dec.{ltb, leb}
 use borrow.Author.Tests.{ltb-true}
 use Rattle.std.proofs.lemmas.Bool.Decides.{nat_tests}
-use Rattle.base.proofs.BoolLaws.{and_right, off}
-use Rattle.answer.specs.declared.Outcome.{Outcome}
-use Rattle.answer.specs.Numbers.{answers}
-use Rattle.table.specs.Rules.{sizes_of}
-use Rattle.table.proofs.CheckLaws.{sizes_good}
+use Rattle.base.proofs.BoolLaws.{and_right}
+use Rattle.answer.proofs.OutcomeLaws.{refusal_refuses}
+use Rattle.table.proofs.CheckLaws.{sized_ok, sizes_good}
 use Rattle.walk.specs.declared.Place.{Place}
-use Rattle.walk.specs.declared.Stepped.{Stepped}
-use Rattle.walk.specs.Walk.{refuse, spans, step_of}
+use Rattle.walk.specs.Walk.{spans}
 use Rattle.walk.proofs.NumberLaws.{side_pos, side_le, whole_small, end_fits, half_fits, son_fits}
 use Rattle.walk.proofs.PlaceLaws.{good, level_small, row_in}
 
@@ -25,9 +21,4 @@ before_end p side k e d h =
     let l : p.x < p.left + 2 ^ p.level = ltb-true p.x (p.left + 2 ^ p.level) (and_right (leb p.left p.x) (ltb p.x (p.left + 2 ^ p.level)) h) in
     omega (arith, pow_mono {i = p.level} {j = k} d)
 
--- `step` where the sizes are refused
-pub step_sizes : (T : List ℕ) (p : Place) (o : Outcome) (u : Bool) (r : Stepped) → o ≡ sizes_of p.n T → u ≡ answers o → not u ≡ true → r ≡ refuse p o → r ≡ step_of T p
-unfolding step_of
-step_sizes T p o u r e a h f = rw (← e, off u (answers o) a h) f
-
-pub ruleset tests = (nat_tests, side_pos, side_le, whole_small, end_fits, half_fits, son_fits, before_end, good, level_small, row_in, sizes_good)
+pub ruleset tests = (nat_tests, side_pos, side_le, whole_small, end_fits, half_fits, son_fits, before_end, good, level_small, row_in, sized_ok, sizes_good, refusal_refuses)

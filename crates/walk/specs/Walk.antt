@@ -1,8 +1,7 @@
 -- One step of the row walk (document 01, 'The row walk'; document 003), for any place and any words.
-use Rattle.std.specs.Prelude.{Bool, not, cond, ◌&&◌, ◌||◌, List, ◌≡◌, ℕ, ◌+◌, ◌-◌, ◌*◌, ◌/◌, ◌%◌, ◌^◌, eqb, ltb, leb}
-use Rattle.answer.specs.declared.Outcome.{Outcome}
-use Rattle.answer.specs.declared.Outcome.TheVariants.{BadPlace}
-use Rattle.answer.specs.Numbers.{code_of, value_of, answers}
+use Rattle.std.specs.Prelude.{Err, Bool, not, cond, ◌&&◌, ◌||◌, List, ◌≡◌, ℕ, ◌+◌, ◌-◌, ◌*◌, ◌/◌, ◌%◌, ◌^◌, eqb, ltb, leb}
+use Rattle.answer.specs.declared.Refusal.TheVariants.{BadPlace}
+use Rattle.answer.specs.Numbers.{Outcome, code_of, value_of, answers}
 use Rattle.quad.specs.Numbers.{top_colour, fork_type}
 use Rattle.quad.specs.Block.{quadrant_of}
 use Rattle.table.specs.Table.{nodes, father, son, node_type}
@@ -50,7 +49,7 @@ inside_of T p =
       answer = Run (node_type T p.node) (p.left + 2 ^ p.level - p.x);
     })
     (cond (not (eqb (node_type T p.node) fork_type) || (eqb p.level 0 || leb (nodes T) (next_son T p)))
-    (refuse p BadPlace)
+    (refuse p (Err BadPlace))
     (record {
       place = record { n = p.n; node = next_son T p; level = p.level - 1; left = p.left + p.x / half p % 2 * half p; x = p.x; y = p.y };
       answer = Moved;
@@ -65,7 +64,7 @@ outside_of T p =
       answer = EndRow;
     })
     (cond (leb (nodes T) (father T p.node))
-    (refuse p BadPlace)
+    (refuse p (Err BadPlace))
     (record {
       place = record { n = p.n; node = father T p.node; level = p.level + 1; left = p.left - p.left % 2 ^ (p.level + 1); x = p.x; y = p.y };
       answer = Moved;
@@ -75,7 +74,7 @@ unfoldable pub step_of : List ℕ → Place → Stepped
 step_of T p =
     cond (answers (sizes_of p.n T))
     (cond (bad_place (nodes T) p)
-    (refuse p BadPlace)
+    (refuse p (Err BadPlace))
     (cond (eqb p.y (2 ^ p.n))
     (record { place = p; answer = Done })
     (cond (spans p) (inside_of T p) (outside_of T p))))

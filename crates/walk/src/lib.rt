@@ -8,7 +8,7 @@ ghost use Rattle.table.specs.Rules.{Sized};
 ghost use Rattle.walk.specs.Walk.{start, refuse, bad_place, spans, inside_of, outside_of, step_of, Steps};
 ghost use Rattle.walk.specs.Good.{Good};
 
-use answer::Outcome;
+use answer::Refusal;
 use table_check::sizes;
 use table_node::{node_count, word_at};
 
@@ -58,14 +58,14 @@ pub fn start(n: u32) -> Place
 }
 
 // A refused step hands back the place it was given.
-fn refused(p: Place, o: Outcome) -> Stepped
-    ensures { result ≡ refuse p o }
+fn refused(p: Place, refusal: Refusal) -> Stepped
+    ensures { result ≡ refuse p (Err refusal) }
 {
     Stepped {
         place: p,
         answer: Answer::Refused {
-            code: answer::code(o),
-            value: answer::value(o),
+            code: refusal.code(),
+            value: refusal.value(),
         },
     }
 }
@@ -103,7 +103,7 @@ fn down(p: Place, table: &[u32]) -> Stepped
     let south = p.y / half % 2;
     let son = word_at(table, p.node as usize, (1 + (east + 2 * south)) as usize);
     if node_count(table) <= son {
-        return refused(p, Outcome::BadPlace);
+        return refused(p, Refusal::BadPlace);
     }
     Stepped {
         place: Place {
@@ -133,7 +133,7 @@ fn inside(p: Place, table: &[u32]) -> Stepped
         };
     }
     if kind != quad::FORK || p.level == 0 {
-        return refused(p, Outcome::BadPlace);
+        return refused(p, Refusal::BadPlace);
     }
     down(p, table)
 }
@@ -156,7 +156,7 @@ fn outside(p: Place, table: &[u32]) -> Stepped
     }
     let father = word_at(table, p.node as usize, 0);
     if node_count(table) <= father {
-        return refused(p, Outcome::BadPlace);
+        return refused(p, Refusal::BadPlace);
     }
     let above = quad::side(level + 1);
     Stepped {
@@ -176,7 +176,7 @@ fn step_in(p: Place, table: &[u32]) -> Stepped
     ensures { result ≡ step_of table.now p }
 {
     if bad_place(p, node_count(table)) {
-        return refused(p, Outcome::BadPlace);
+        return refused(p, Refusal::BadPlace);
     }
     if p.y == quad::side(p.n) {
         return Stepped {
@@ -195,10 +195,9 @@ impl Place {
     pub fn step(self, table: &[u32]) -> Stepped
         ensures { Steps table.now self result }
     {
-        let sized = sizes(self.n, table);
-        if !answer::answered(sized) {
-            return refused(self, sized);
+        match sizes(self.n, table) {
+            Ok(_) => step_in(self, table),
+            Err(refusal) => refused(self, refusal),
         }
-        step_in(self, table)
     }
 }
