@@ -1,7 +1,7 @@
 // Distances under the BLACK outside of document 001, node by node: every distance case of this program goes through
 // `distances`.
 use cases_shared::pictures::{self, Picture};
-use cases_shared::sheets::Sheet;
+use cases_shared::tables::NodeTable;
 use cases_shared::{parts, say, sheet_a};
 use std::io::{self, Write};
 
@@ -9,12 +9,17 @@ use std::io::{self, Write};
 const NODES: usize = 341;
 
 // One table's distances in the buffer lent.
-fn distances(out: &mut impl Write, name: &str, sheet: Sheet, lent: &mut [u32]) -> io::Result<()> {
+fn distances(
+    out: &mut impl Write,
+    name: &str,
+    sheet: NodeTable,
+    lent: &mut [u32],
+) -> io::Result<()> {
     say::case(out, name, sheet.distances(lent))?;
     say::words(out, lent)
 }
 
-fn of_sheet(out: &mut impl Write, name: &str, sheet: Sheet) -> io::Result<()> {
+fn of_sheet(out: &mut impl Write, name: &str, sheet: NodeTable) -> io::Result<()> {
     let mut held = [7u32; NODES];
     let lent = parts::first_mut(&mut held, sheet.table.len() / 6);
     distances(out, name, sheet, lent)
@@ -22,7 +27,7 @@ fn of_sheet(out: &mut impl Write, name: &str, sheet: Sheet) -> io::Result<()> {
 
 fn of_picture(out: &mut impl Write, name: &str, picture: Picture) -> io::Result<()> {
     let mut words = [0u32; pictures::WORDS];
-    of_sheet(out, name, picture.sheet(&mut words))
+    of_sheet(out, name, picture.table(&mut words))
 }
 
 // One white pixel, as far from the black block of half the sheet's side as a nearest white can be: 3w - 2.
@@ -71,9 +76,9 @@ fn far_corner(out: &mut impl Write) -> io::Result<()> {
     )
 }
 
-fn refused(out: &mut impl Write, sheet: Sheet) -> io::Result<()> {
+fn refused(out: &mut impl Write, sheet: NodeTable) -> io::Result<()> {
     let mut held = [7u32; 8];
-    let deeper = Sheet { n: 8, ..sheet };
+    let deeper = NodeTable { n: 8, ..sheet };
     distances(out, "distances, 1, level 8", deeper, &mut held)?;
     distances(out, "distances, 2, a word too few", sheet, &mut held)
 }

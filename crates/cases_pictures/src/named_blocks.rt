@@ -1,7 +1,7 @@
 // The neighbours that documents 000 and 003 work out in their texts, by the names that their figures give to blocks.
 use cases_shared::pictures::{self, Picture};
 use cases_shared::say;
-use cases_shared::sheets::Sheet;
+use cases_shared::tables::NodeTable;
 use std::io::{self, Write};
 
 // Document 000's blocks A and G: A is its father's NE son, and he his father's, who is the root's NW son. In Fig. 3 G
@@ -11,7 +11,7 @@ const A_AND_G: Picture = Picture {
     bits: 0b00011000_00001000_00000000_00000000_00000000_00000000_00000000_00000000,
 };
 
-fn figures_3_and_4(out: &mut impl Write, sheet: Sheet) -> io::Result<()> {
+fn figures_3_and_4(out: &mut impl Write, sheet: NodeTable) -> io::Result<()> {
     say::line(
         out,
         "document 000, Fig. 3, east of A",
@@ -25,7 +25,7 @@ fn figures_3_and_4(out: &mut impl Write, sheet: Sheet) -> io::Result<()> {
 }
 
 // Document 003's blocks have letters in the order in which the rows first cross them: A is node 2, F 6, P 21, T 29.
-fn figure_1(out: &mut impl Write, sheet: Sheet) -> io::Result<()> {
+fn figure_1(out: &mut impl Write, sheet: NodeTable) -> io::Result<()> {
     say::line(
         out,
         "document 003, Figure 1, east of A, grey",
@@ -75,6 +75,6 @@ fn figure_1(out: &mut impl Write, sheet: Sheet) -> io::Result<()> {
 
 pub fn all(out: &mut impl Write) -> io::Result<()> {
     let mut words = [0u32; pictures::WORDS];
-    figures_3_and_4(out, A_AND_G.sheet(&mut words))?;
-    figure_1(out, pictures::FIGURE.sheet(&mut words))
+    figures_3_and_4(out, A_AND_G.table(&mut words))?;
+    figure_1(out, pictures::FIGURE.table(&mut words))
 }

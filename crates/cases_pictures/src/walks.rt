@@ -3,7 +3,7 @@ ghost use Rattle.std.specs.Prelude.{◌≤◌};
 
 use cases_shared::pictures::{self, Picture};
 use cases_shared::sheet_a;
-use cases_shared::sheets::Sheet;
+use cases_shared::tables::NodeTable;
 use std::fmt;
 use std::io::{self, Write};
 use walk::Answer;
@@ -27,7 +27,7 @@ impl fmt::Display for Counts {
 }
 
 // The answers before the first Done, or before a refusal.
-fn count(sheet: Sheet) -> Counts {
+fn count(sheet: NodeTable) -> Counts {
     let mut place = walk::start(sheet.n);
     let mut counts = Counts {
         moved: 0,
@@ -47,13 +47,13 @@ fn count(sheet: Sheet) -> Counts {
     counts
 }
 
-fn of_sheet(out: &mut impl Write, name: &str, sheet: Sheet) -> io::Result<()> {
+fn of_sheet(out: &mut impl Write, name: &str, sheet: NodeTable) -> io::Result<()> {
     writeln!(out, "{name}: {}", count(sheet))
 }
 
 fn of_picture(out: &mut impl Write, name: &str, picture: Picture) -> io::Result<()> {
     let mut words = [0u32; pictures::WORDS];
-    of_sheet(out, name, picture.sheet(&mut words))
+    of_sheet(out, name, picture.table(&mut words))
 }
 
 pub fn all(out: &mut impl Write) -> io::Result<()> {

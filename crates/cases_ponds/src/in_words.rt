@@ -1,6 +1,6 @@
 // Ponds in a register of words; what a refused call was lent, 7 everywhere, it holds still.
 use cases_shared::pictures::{self, Picture};
-use cases_shared::sheets::Sheet;
+use cases_shared::tables::NodeTable;
 use cases_shared::{parts, say, sheet_a};
 use std::io::{self, Write};
 
@@ -13,7 +13,7 @@ const WORDS: usize = 15;
 fn of_sheet(
     out: &mut impl Write,
     name: &str,
-    sheet: Sheet,
+    sheet: NodeTable,
     numbers: usize,
     words: usize,
 ) -> io::Result<()> {
@@ -34,7 +34,7 @@ fn of_picture(
     words: usize,
 ) -> io::Result<()> {
     let mut table = [0u32; pictures::WORDS];
-    of_sheet(out, name, picture.sheet(&mut table), numbers, words)
+    of_sheet(out, name, picture.table(&mut table), numbers, words)
 }
 
 fn found(out: &mut impl Write) -> io::Result<()> {
@@ -51,13 +51,13 @@ fn found(out: &mut impl Write) -> io::Result<()> {
     of_picture(out, "ponds, all black", pictures::BLACK, 1, 5)
 }
 
-fn refused(out: &mut impl Write, sheet: Sheet) -> io::Result<()> {
-    of_sheet(out, "ponds, 1, level 8", Sheet { n: 8, ..sheet }, 9, 10)?;
+fn refused(out: &mut impl Write, sheet: NodeTable) -> io::Result<()> {
+    of_sheet(out, "ponds, 1, level 8", NodeTable { n: 8, ..sheet }, 9, 10)?;
     let table = parts::first(sheet.table, 53);
-    let shorter = Sheet { table, ..sheet };
+    let shorter = NodeTable { table, ..sheet };
     of_sheet(out, "ponds, 2, a table of 53 words", shorter, 9, 10)?;
     of_sheet(out, "ponds, 2, a number too few", sheet, 8, 10)?;
-    let lower = Sheet { n: 1, ..sheet };
+    let lower = NodeTable { n: 1, ..sheet };
     of_sheet(out, "ponds, 4, sheet A at level 1", lower, 9, 10)?;
     of_sheet(out, "ponds, 9, a register of 9 words", sheet, 9, 9)
 }

@@ -1,5 +1,5 @@
 // Ponds in a register of structs, through the call that C does not have.
-use cases_shared::sheets::Sheet;
+use cases_shared::tables::NodeTable;
 use cases_shared::{pictures, say, sheet_a};
 use ponds::Pond;
 use std::io::{self, Write};
@@ -16,7 +16,7 @@ const SEVENS: Pond = Pond {
     right: 7,
 };
 
-fn of_sheet(out: &mut impl Write, name: &str, sheet: Sheet) -> io::Result<()> {
+fn of_sheet(out: &mut impl Write, name: &str, sheet: NodeTable) -> io::Result<()> {
     let mut numbers = [7u32; NODES];
     let mut reg = [SEVENS; 3];
     let given = ponds_find::in_entries(sheet.n, sheet.table, &mut numbers, &mut reg);
@@ -33,6 +33,6 @@ pub fn all(out: &mut impl Write) -> io::Result<()> {
     of_sheet(
         out,
         "structs, 9, (j) and three structs",
-        pictures::J.sheet(&mut words),
+        pictures::J.table(&mut words),
     )
 }

@@ -2,7 +2,7 @@
 // held, 7 everywhere, it holds still.
 #![tactic(auto)]
 
-use cases_shared::sheets::Sheet;
+use cases_shared::tables::NodeTable;
 use cases_shared::{parts, pictures, say, sheet_a};
 use ground::Ground;
 use std::io::{self, BufWriter, Write};
@@ -11,7 +11,7 @@ use walk::{Answer, Place};
 // So many words of sheet A's table as a sheet of level n.
 fn check(out: &mut impl Write, name: &str, n: u32, words: usize) -> io::Result<()> {
     let table = parts::first(sheet_a::preorder().table, words);
-    say::line(out, name, Sheet { n, table }.check())
+    say::line(out, name, NodeTable { n, table }.check())
 }
 
 // Sheet A's table with another word in one place.
@@ -23,7 +23,7 @@ fn changed(out: &mut impl Write, name: &str, place: usize, word: u32) -> io::Res
         *w = word;
     }
     let table = &table;
-    say::line(out, name, Sheet { table, ..sheet }.check())
+    say::line(out, name, NodeTable { table, ..sheet }.check())
 }
 
 fn tables(out: &mut impl Write) -> io::Result<()> {
@@ -36,7 +36,7 @@ fn tables(out: &mut impl Write) -> io::Result<()> {
     changed(out, "5, four white sons", 41, 0)
 }
 
-fn questions(out: &mut impl Write, sheet: Sheet) -> io::Result<()> {
+fn questions(out: &mut impl Write, sheet: NodeTable) -> io::Result<()> {
     say::line(out, "6, node 9 of nine", sheet.neighbour(9, 8))?;
     say::line(out, "7, direction 8", sheet.neighbour(1, 8))?;
     say::line(out, "7, side 4", sheet.corner_leaf(1, 4, 5))?;
@@ -63,7 +63,7 @@ fn build(out: &mut impl Write, name: &str, count: usize, colour: u8) -> io::Resu
     say::nodes(out, &table)
 }
 
-fn rasters(out: &mut impl Write, sheet: Sheet) -> io::Result<()> {
+fn rasters(out: &mut impl Write, sheet: NodeTable) -> io::Result<()> {
     pictures::decode(out, "2, a raster of 15 pixels to write", sheet, 15, 15)?;
     build(out, "2, a raster of 15 pixels to read", 15, 2)?;
     build(out, "8, pixel 5 is 2", 16, 2)?;
@@ -71,14 +71,14 @@ fn rasters(out: &mut impl Write, sheet: Sheet) -> io::Result<()> {
 }
 
 // Node 1's centre, in a slice of one number.
-fn centre(out: &mut impl Write, name: &str, sheet: Sheet, ground: Ground) -> io::Result<()> {
+fn centre(out: &mut impl Write, name: &str, sheet: NodeTable, ground: Ground) -> io::Result<()> {
     let mut place = [7.0f64; 3];
     say::case(out, name, sheet.centre(1, ground, &mut place[..1]))?;
     say::reals(out, place)
 }
 
 // One number after the other is brought into its range.
-fn grounds(out: &mut impl Write, sheet: Sheet) -> io::Result<()> {
+fn grounds(out: &mut impl Write, sheet: NodeTable) -> io::Result<()> {
     let first = Ground {
         east: 16777217.0,
         north: -16777217.0,
@@ -131,14 +131,14 @@ fn files(out: &mut impl Write) -> io::Result<()> {
     )
 }
 
-fn writing(out: &mut impl Write, sheet: Sheet) -> io::Result<()> {
+fn writing(out: &mut impl Write, sheet: NodeTable) -> io::Result<()> {
     let mut bytes = [7u8; 31];
     say::case(out, "9, a file in 31 bytes", sheet.write(&mut bytes))?;
     say::file(out, &bytes)
 }
 
 // The walk's and the programs' own.
-fn programs(out: &mut impl Write, sheet: Sheet) -> io::Result<()> {
+fn programs(out: &mut impl Write, sheet: NodeTable) -> io::Result<()> {
     let place = Place {
         node: 9,
         level: 0,

@@ -6,4 +6,4 @@ pub mod parts;
 pub mod pictures;
 pub mod say;
 pub mod sheet_a;
-pub mod sheets;
+pub mod tables;

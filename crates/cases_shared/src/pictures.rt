@@ -1,5 +1,5 @@
 // Pictures of up to 64 pixels, a pixel to a bit of a number, row by row, 1 for black; and building and decoding them.
-use crate::sheets::Sheet;
+use crate::tables::NodeTable;
 use crate::{parts, say};
 use std::io::{self, Write};
 
@@ -84,15 +84,15 @@ impl Picture {
     }
 
     // Its table, built in the words lent.
-    pub fn sheet(self, words: &mut [u32]) -> Sheet<'_> {
+    pub fn table(self, words: &mut [u32]) -> NodeTable<'_> {
         let given = self.build(words);
         filled(self.n, given, words)
     }
 }
 
 // The table that building filled, by what the call gave: six words for each node of its value.
-pub fn filled(n: u32, given: u64, words: &[u32]) -> Sheet<'_> {
-    Sheet {
+pub fn filled(n: u32, given: u64, words: &[u32]) -> NodeTable<'_> {
+    NodeTable {
         n,
         table: parts::first(words, 6 * (given / 256) as usize),
     }
@@ -102,7 +102,7 @@ pub fn filled(n: u32, given: u64, words: &[u32]) -> Sheet<'_> {
 pub fn decode(
     out: &mut impl Write,
     name: &str,
-    sheet: Sheet,
+    sheet: NodeTable,
     count: usize,
     side: usize,
 ) -> io::Result<()> {

@@ -2,7 +2,7 @@
 ghost use Rattle.std.specs.Prelude.{◌≡◌, length};
 
 use crate::say::NONE;
-use crate::sheets::Sheet;
+use crate::tables::NodeTable;
 
 // A node to a line: father, NW, NE, SW, SE, type.
 static PREORDER: [[u32; 6]; 9] = [
@@ -30,22 +30,22 @@ static RENUMBERED: [[u32; 6]; 9] = [
 ];
 
 // The sheet in preorder, and in other numbers.
-pub fn preorder() -> Sheet<'static>
+pub fn preorder() -> NodeTable<'static>
     ensures { 54 ≡ length result.table.now }
 {
     of_nodes(&PREORDER)
 }
 
-pub fn renumbered() -> Sheet<'static>
+pub fn renumbered() -> NodeTable<'static>
     ensures { 54 ≡ length result.table.now }
 {
     of_nodes(&RENUMBERED)
 }
 
-fn of_nodes(nodes: &[[u32; 6]; 9]) -> Sheet<'_>
+fn of_nodes(nodes: &[[u32; 6]; 9]) -> NodeTable<'_>
     ensures { 54 ≡ length result.table.now }
 {
-    Sheet {
+    NodeTable {
         n: 2,
         table: nodes.as_flattened(),
     }

@@ -2,7 +2,7 @@
 // centres.
 use crate::small_tables::Side;
 use cases_shared::say::{self, Given};
-use cases_shared::sheets::Sheet;
+use cases_shared::tables::NodeTable;
 use cases_shared::{pictures, sheet_a};
 use ground::Ground;
 use std::io::{self, Write};
@@ -28,7 +28,7 @@ fn answers<F: Fn(u32) -> u64>(out: &mut impl Write, count: u32, ask: F) -> io::R
 }
 
 // Every question about one node.
-fn about(out: &mut impl Write, sheet: Sheet, node: u32) -> io::Result<()> {
+fn about(out: &mut impl Write, sheet: NodeTable, node: u32) -> io::Result<()> {
     write!(out, "node {node}, neighbours N E S W NW NE SW SE:")?;
     answers(out, 8, |direction| sheet.neighbour(node, direction))?;
     for side in 0..4 {
@@ -48,7 +48,7 @@ fn about(out: &mut impl Write, sheet: Sheet, node: u32) -> io::Result<()> {
 }
 
 // Its file, with two bytes more than it needs.
-fn write(out: &mut impl Write, sheet: Sheet) -> io::Result<()> {
+fn write(out: &mut impl Write, sheet: NodeTable) -> io::Result<()> {
     let mut file = [7u8; 34];
     say::case(out, "write", sheet.write(&mut file))?;
     say::file(out, &file)
@@ -66,7 +66,7 @@ fn read(out: &mut impl Write) -> io::Result<()> {
     say::nodes(out, &table)
 }
 
-fn everything(out: &mut impl Write, sheet: Sheet) -> io::Result<()> {
+fn everything(out: &mut impl Write, sheet: NodeTable) -> io::Result<()> {
     say::line(out, "check", sheet.check())?;
     write(out, sheet)?;
     pictures::decode(out, "decode", sheet, 16, 4)?;

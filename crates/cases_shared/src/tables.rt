@@ -1,13 +1,13 @@
-// A table with its sheet's level, and what C asks of the two.
+// A node table with the level of the sheet that it is lent as, right or not, and what C asks of the two.
 use ground::Ground;
 
 #[derive(Clone, Copy)]
-pub struct Sheet<'a> {
+pub struct NodeTable<'a> {
     pub n: u32,
     pub table: &'a [u32],
 }
 
-impl Sheet<'_> {
+impl NodeTable<'_> {
     pub fn check(self) -> u64 {
         sheet::sheet_check(self.n, self.table)
     }
