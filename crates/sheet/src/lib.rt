@@ -1,6 +1,6 @@
 // The exported C calls, and nothing else: each calls one function of a floor below and packs code and value
 // (include/sheet.h is the manual).
-#![tactic(auto)]
+#![tactic(auto, unfolding(crate::specs::Calls::Gives))]
 
 ghost use Rattle.sheet.specs.Calls.{Checks, Builds, Decodes, FindsNeighbour, FindsCornerLeaf, FindsDiagonalLeaf};
 ghost use Rattle.sheet.specs.Calls.{FindsDistances, FindsPonds, ReadsFile, WritesFile, FindsCentre, ground_at};
