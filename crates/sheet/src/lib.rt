@@ -78,6 +78,7 @@ pub extern "C" fn sheet_write(n: u32, table: &[u32], file: &mut [u8]) -> u64
     answer::number(file_write::write(n, table, file))
 }
 
+// East, north and step go by themselves, not as a Ground: the C interface.
 #[unsafe(no_mangle)]
 pub extern "C" fn sheet_centre(
     n: u32,
