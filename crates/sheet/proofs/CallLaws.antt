@@ -1,5 +1,4 @@
--- What every outside call's statement settles: there is no second outcome. And how a call meets its own, by packing
--- what one below gave.
+-- What every outside call's statement settles: there is no second outcome.
 use mathlib.Core.List.{List}
 use mathlib.Core.Path.{◌≡◌, ap, sym, ◌∙◌}
 use Prim.Native.Nat.{ℕ}
@@ -24,10 +23,3 @@ pub one_pond_outcome : (n : ℕ) (T numbers reg a b a' b' : List ℕ) (r s : ℕ
 one_pond_outcome n T numbers reg a b a' b' r s f g =
     let same = one_finding n T words_of 5 numbers reg f.outcome g.outcome a a' b b' f.slices g.slices in
     (f.number ∙ ap number_of same.0 ∙ sym g.number, same.1, same.2)
-
-pub packed : (o s : Outcome) (r : ℕ) → r ≡ number_of s → s ≡ o → Gives o r
-unfolding Gives
-packed o s r e h = e ∙ ap number_of h
-
-pub packed_with : {A : Type 0} (o s : Outcome) (left after : List A) (r : ℕ) → r ≡ number_of s → s ≡ o → after ≡ left → Leaves o left r after
-packed_with o s left after r e h b = record { number = e ∙ ap number_of h; buffer = b }

@@ -1,6 +1,6 @@
 // The exported C calls, and nothing else: each calls one function of a floor below and packs code and value
 // (include/sheet.h is the manual).
-#![tactic(auto)]
+#![tactic(auto, unfolding(crate::specs::Calls::Gives))]
 
 ghost use Rattle.sheet.specs.Calls.{Checks, Builds, Decodes, FindsNeighbour, FindsCornerLeaf, FindsDiagonalLeaf};
 ghost use Rattle.sheet.specs.Calls.{FindsDistances, FindsPonds, ReadsFile, WritesFile, FindsCentre, ground_at};
@@ -78,6 +78,7 @@ pub extern "C" fn sheet_write(n: u32, table: &[u32], file: &mut [u8]) -> u64
     answer::number(file_write::write(n, table, file))
 }
 
+// East, north and step go by themselves, not as a Ground: the C interface.
 #[unsafe(no_mangle)]
 pub extern "C" fn sheet_centre(
     n: u32,

@@ -1,5 +1,6 @@
 // The library as C links it: each function of `sheet` under its C name, with its clauses, and nothing else
 // (include/sheet.h is the manual).
+// Kept for the C interface: a crate is a library for other crates or a static library, so each call stands here again.
 #![tactic(auto)]
 
 ghost use Rattle.sheet.specs.Calls.{Checks, Builds, Decodes, FindsNeighbour, FindsCornerLeaf, FindsDiagonalLeaf};
