@@ -1,6 +1,7 @@
 -- The story on sheet A: node 1 is water, its eastern neighbour is grey, and the water under it does not touch: a dry
 -- bank, column 2, runs between. There are two ponds, and no call that meets the statement gives another number, another
 -- word or another entry.
+use Rattle.std.specs.Prelude.{Ok}
 use mathlib.Core.Bool.{Bool, true, cond, ◌&&◌}
 use mathlib.Core.List.{List, [], ◌∷◌}
 use mathlib.Core.Logic.{⊎_elim}
@@ -15,9 +16,7 @@ use Rattle.base.specs.All.{all, all2}
 use Rattle.base.specs.Tab.{tab_from, sum, least, greatest, overlay}
 use Rattle.base.proofs.AllLaws.{all_at, all2_at}
 use Rattle.base.proofs.BoolLaws.{and_left, and_right, lt_or_ge}
-use Rattle.answer.specs.Numbers.{answers, number_of}
-use Rattle.answer.specs.declared.Outcome.{Outcome}
-use Rattle.answer.specs.declared.Outcome.TheVariants.{Answered}
+use Rattle.answer.specs.Numbers.{Outcome, answers, number_of}
 use Rattle.quad.specs.Numbers.{black}
 use Rattle.quad.specs.Block.{path_of}
 use Rattle.quad.specs.Direction.{east_step, south_step}
@@ -145,12 +144,12 @@ numbered = record {
 -- what any library that meets the statement gives there, however an entry is written
 on-A : {A : Type 0} (written : List Pond → List A) (wide : ℕ) (reg reg' : List A) (o : Outcome) (numbers : List ℕ)
     → answers (ponds_test 2 table_a 9 (wide * black_leaves table_a) (length reg)) ≡ true → Finds 2 table_a written wide (blank 9) reg o numbers reg'
-    → (o ≡ Answered 2) × (numbers ≡ numbers_a) × (reg' ≡ overlay (written (entries 2 table_a numbers_a 2)) reg)
+    → (o ≡ Ok 2) × (numbers ≡ numbers_a) × (reg' ≡ overlay (written (entries 2 table_a numbers_a 2)) reg)
 unfolding tab_from
 on-A written wide reg reg' o numbers good f =
     let a = f.answered good in
     let same = one_numbering 2 table_a accepted numbers numbers_a a.0 2 a.2.numbered numbered in (
-      a.1 ∙ ap Answered same.1,
+      a.1 ∙ ap Ok same.1,
       same.0,
       a.2.register ∙ ap (λ (m : List ℕ). overlay (written (entries 2 table_a m a.0)) reg) same.0
           ∙ ap (λ (c : ℕ). overlay (written (entries 2 table_a numbers_a c)) reg) same.1,
@@ -179,6 +178,6 @@ entries_a =
     ∷ []
 
 pub entries_on-A : (o : Outcome) (numbers : List ℕ) (reg : List Pond) → FindsInEntries 2 table_a (blank 9) three o numbers reg
-    → (o ≡ Answered 2) × (numbers ≡ numbers_a) × (reg ≡ entries_a)
+    → (o ≡ Ok 2) × (numbers ≡ numbers_a) × (reg ≡ entries_a)
 unfolding ponds_test black_leaves each_node_of depth_to all_of type_ok father_ok once_ok son_ok word_ok sons_ok depth_ok son_alike mixed_ok fault_at fault_from faults_of length_ok sizes_of entry_of entries_from leaf_at path_of holder sum least greatest
 entries_on-A o numbers reg f = on-A (λ es. es) 1 three reg o numbers refl f

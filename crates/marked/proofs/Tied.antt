@@ -6,8 +6,7 @@ use Prim.Native.Nat.{ℕ, ◌+◌, ◌*◌}
 use lib.ListN.{get_or}
 use lib.Ieee.{Float}
 use Rattle.base.specs.Tab.{tab, tab_from, least}
-use Rattle.answer.specs.declared.Outcome.{Outcome}
-use Rattle.answer.specs.Numbers.{number_of}
+use Rattle.answer.specs.Numbers.{Outcome, number_of}
 use Rattle.quad.specs.Numbers.{black, none}
 use Rattle.quad.specs.Block.{path_of, column, row}
 use Rattle.quad.specs.Direction.{east_step, south_step}

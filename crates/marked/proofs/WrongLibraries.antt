@@ -1,6 +1,7 @@
 -- Wrong libraries, as a C caller would meet them, and the statements of the calls that each breaks (demand 2): one that
 -- refuses everything, one that names the same node, distance or place always, one that gives the asked node's level
 -- beside the answer's node, one that writes nothing, one that lies half a pixel off. Sheet A is enough to tell.
+use Rattle.std.specs.Prelude.{Ok}
 use mathlib.Core.List.{List, [], ◌∷◌}
 use mathlib.Core.Bool.{true}
 use mathlib.Core.Logic.{◌⊎◌, inl, inr}
@@ -10,9 +11,7 @@ use native.Mathlib.Omega.{arith}
 use lib.ListN.{get_or}
 use lib.Ieee.{Float, nan}
 use Rattle.base.specs.Tab.{tab_from}
-use Rattle.answer.specs.declared.Outcome.{Outcome}
-use Rattle.answer.specs.declared.Outcome.TheVariants.{Answered}
-use Rattle.answer.specs.Numbers.{answers, number_of, node_in, level_in}
+use Rattle.answer.specs.Numbers.{Outcome, answers, number_of, node_in, level_in}
 use Rattle.quad.specs.Numbers.{black}
 use Rattle.table.specs.Table.{nodes, node_type}
 use Rattle.table.specs.Rules.{depth_to}
@@ -188,7 +187,7 @@ module _ (number : ℕ → List ℕ → List ℕ → List ℕ → ℕ) (numbers'
 -- the same call on structs, for callers in Rattle
 module _ (outcome : ℕ → List ℕ → List ℕ → List Pond → Outcome) (numbers' : ℕ → List ℕ → List ℕ → List Pond → List ℕ) (reg' : ℕ → List ℕ → List ℕ → List Pond → List Pond)
     (meets : (n : ℕ) (T numbers : List ℕ) (reg : List Pond) → FindsInEntries n T numbers reg (outcome n T numbers reg) (numbers' n T numbers reg) (reg' n T numbers reg)) where
-  found : (outcome 2 table_a (blank 9) three ≡ Answered 2) × (numbers' 2 table_a (blank 9) three ≡ numbers_a) × (reg' 2 table_a (blank 9) three ≡ entries_a)
+  found : (outcome 2 table_a (blank 9) three ≡ Ok 2) × (numbers' 2 table_a (blank 9) three ≡ numbers_a) × (reg' 2 table_a (blank 9) three ≡ entries_a)
   found = entries_on-A _ _ _ (meets 2 table_a (blank 9) three)
 
   pub entries_answers : ((n : ℕ) (T numbers : List ℕ) (reg : List Pond) → answers (outcome n T numbers reg) ≡ true → ⊥) → ⊥

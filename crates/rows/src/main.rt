@@ -6,7 +6,6 @@ ghost use Rattle.std.specs.Prelude.{IfOk};
 ghost use Rattle.table.specs.Rules.{Accepted};
 ghost use Rattle.walk_rows.specs.Whole.{Tallied};
 
-use answer::Outcome;
 use std::io::{self, BufWriter, Read, Write};
 use walk::{Answer, Place};
 
@@ -55,13 +54,8 @@ fn print_rows(out: &mut impl Write, level: u32, table: &[u32]) -> io::Result<u32
 fn print_sheet(out: &mut impl Write, file: &[u8]) -> io::Result<()> {
     let mut table = [0u32; TABLE_ROOM];
     let loaded = file_load::load(file, &mut table);
-    let Outcome::Answered { value } = loaded else {
-        return writeln!(
-            out,
-            "refused {} {}",
-            answer::code(loaded),
-            answer::value(loaded)
-        );
+    let Ok(value) = loaded else {
+        return writeln!(out, "refused {}", loaded.unwrap_err());
     };
     let level = value % answer::LEVEL_ROOM;
     let nodes = value / answer::LEVEL_ROOM;

@@ -2,8 +2,7 @@
 use mathlib.Core.List.{List}
 use mathlib.Core.Path.{◌≡◌, ap, sym, ◌∙◌}
 use Prim.Native.Nat.{ℕ}
-use Rattle.answer.specs.declared.Outcome.{Outcome}
-use Rattle.answer.specs.Numbers.{number_of}
+use Rattle.answer.specs.Numbers.{Outcome, number_of}
 use Rattle.ponds.specs.Entries.{words_of}
 use Rattle.ponds_find.proofs.CallLaws.{one_finding}
 use Rattle.sheet.specs.Calls.{Gives, Leaves, FindsPonds}

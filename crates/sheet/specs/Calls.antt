@@ -1,8 +1,7 @@
 -- The statement of each outside call, which its contract cites: the number given back, and what is then in the lent
 -- buffer. They hold for any numbers and any contents of the slices.
 use Rattle.std.specs.Prelude.{List, ◌≡◌, ℕ, length, Float}
-use Rattle.answer.specs.declared.Outcome.{Outcome}
-use Rattle.answer.specs.Numbers.{number_of}
+use Rattle.answer.specs.Numbers.{Outcome, number_of}
 use Rattle.table.specs.Rules.{check_of}
 use Rattle.raster.specs.Raster.{build_of, built_table, decode_of, decoded_raster}
 use Rattle.neighbour.specs.Neighbour.{neighbour_of, corner_leaf_of, diagonal_leaf_of}
