@@ -103,6 +103,7 @@ pub fn opquad(quadrant: usize) -> usize
 }
 
 // The side of their father's block that two quadrants share; 4 where they share none.
+#[tactic(auto, using(crate::proofs::TableLaws::common_side_rule))]
 pub fn common_side(first: usize, second: usize) -> usize
     requires { (first < 4) × (second < 4) }
     ensures { result ≡ common_side_of first second }

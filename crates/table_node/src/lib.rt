@@ -1,4 +1,5 @@
-// A node's words, read and written; its block, and its level.
+// A node's words, read and written; its block, and its level. A node stays a number beside its table, as both come from C
+// and every word read is such a number: so each function asks anew that it is one of the table's.
 #![tactic(auto)]
 
 ghost use Rattle.std.specs.Prelude.{◌≡◌, ◌+◌, ◌*◌, ◌<◌, ◌≤◌, length, [], ◌∷◌};

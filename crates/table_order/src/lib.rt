@@ -9,7 +9,8 @@ ghost use Rattle.table_order.specs.Order.{two_are, leaf_from, pixels_from, ForkO
 use table_node::{four_sons, word_at};
 use table_sound::are_like;
 
-// Two words as one number, the first below what the second counts.
+// Two words as one number, the first below what the second counts: one load and one comparison, where two words compared
+// as an array or a slice are two, or a call.
 fn joined(first: u32, second: u32) -> u64
     ensures { (result ≡ first + 4294967296 * second) × (first < 4294967296) }
 {
@@ -98,11 +99,10 @@ pub fn in_order(table: &[u32], count: u32, level: u32, p: u32) -> Option<u32>
             if count + (q as u32) < next + 3 {
                 return None;
             }
-        } else {
-            if !is_leaf_of(table, 6 * son, p) {
-                return None;
-            }
+        } else if is_leaf_of(table, 6 * son, p) {
             next += 1;
+        } else {
+            return None;
         }
     }
     if needless(table, p, next) {

@@ -62,7 +62,7 @@ fn leaf_ok(table: &[u32], p: usize) -> bool
 }
 
 // The nodes seen from a fork downwards, itself among them, where nothing is wrong.
-#[tactic(auto, using(table_sound::proofs::SeenLaws::none_seen, table_sound::proofs::SeenLaws::seen_low, table_sound::proofs::SeenLaws::seen_unfit))]
+#[tactic(auto, using(table_sound::proofs::SeenLaws::nothing_seen))]
 fn seen(table: &[u32], count: usize, level: u32, p: usize) -> Option<usize>
     requires { (p < nodes table.now) × (is_fork table.now p ≡ true) × (count ≡ nodes table.now)
         × (level ≤ top_level) }
@@ -76,11 +76,10 @@ fn seen(table: &[u32], count: usize, level: u32, p: usize) -> Option<usize>
         let son = word_at(table, p, 1 + q);
         if word_at(table, son, 5) == quad::FORK {
             all += seen(&*table, count, level - 1, son)?;
-        } else {
-            if !leaf_ok(table, son) {
-                return None;
-            }
+        } else if leaf_ok(table, son) {
             all += 1;
+        } else {
+            return None;
         }
     }
     Some(all)
@@ -95,17 +94,14 @@ fn all_seen(n: u32, table: &[u32]) -> bool
 {
     let count = node_count(table);
     let all = count as u32;
-    if 2 <= n
+    let in_order = 2 <= n
         && word_at(table, 0, 1) == 1
-        && table_order::in_order(&*table, all, n, 0) == Some(all)
-    {
-        return true;
-    }
-    seen(&*table, count, n, 0) == Some(count)
+        && table_order::in_order(&*table, all, n, 0) == Some(all);
+    in_order || seen(&*table, count, n, 0) == Some(count)
 }
 
 // Whether the table is sound: the root has no father, and all nodes are seen from it.
-#[tactic(auto, using(table_sound::proofs::SeenLaws::sound_father, table_sound::proofs::SeenLaws::sound_seen, table_sound::proofs::SeenLaws::sound_leaf, table_sound::proofs::SeenLaws::sound_no_leaf))]
+#[tactic(auto, using(table_sound::proofs::SeenLaws::sound_told))]
 pub fn sound(n: u32, table: &[u32]) -> bool
     requires { Sized n table.now }
     ensures { result ≡ sound_of n table.now }
@@ -114,7 +110,8 @@ pub fn sound(n: u32, table: &[u32]) -> bool
         return false;
     }
     if word_at(table, 0, 5) == quad::FORK {
-        return all_seen(n, table);
+        all_seen(n, table)
+    } else {
+        leaf_ok(table, 0) && node_count(table) == 1
     }
-    leaf_ok(table, 0) && node_count(table) == 1
 }

@@ -265,3 +265,8 @@ module _ (n : ℕ) (T : List ℕ) (f : ℕ) (e : f ≡ father T 0) where
   pub sound_no_leaf : (k : ℕ) → f ≡ none → 0 < nodes T → k ≡ node_type T 0 → (k ≡ fork_type → ⊥) → leaf_ok T 0 ≡ false → false ≡ sound_of n T
   sound_no_leaf k h some t z v =
       sym (ne_eqb (nodes T) 0 (λ x. omega arith)) ∙ sound_count (nodes T) 0 h refl (sym (seen_no_leaf T n 0 (told_leaf T 0 k t z) v))
+
+-- what `table_seen` gives back at its early returns
+pub ruleset nothing_seen = (none_seen, seen_low, seen_unfit)
+
+pub ruleset sound_told = (sound_father, sound_seen, sound_leaf, sound_no_leaf)

@@ -3,7 +3,7 @@ use native.Mathlib.Omega.{arith}
 use Rattle.table.proofs.TypeLaws.{told_leaf}
 use Rattle.table_sound.proofs.SeenLaws.{none_seen, some_is, none_told, some_told, seen_most, node_of_son, son_seen, added_none, added_stop, added_more, seen_leaf, seen_no_leaf, seen_fork}
 use Prim.Native.Nat.{◌-◌}
-use Rattle.table_seen.proofs.+seen.Goals.{then-word_at-eq-FORK+in_ok-all, else-word_at-eq-FORK+else-not-leaf_ok}
+use Rattle.table_seen.proofs.+seen.Goals.{then-word_at-eq-FORK+in_ok-all, else-word_at-eq-FORK+then-leaf_ok}
 use Rattle.table_seen.proofs.+seen.Goals as goal
 
 pub loop-q-init : goal.loop-q-init
@@ -30,10 +30,10 @@ overflow_add-all t c =
 pub leaf_ok-requires : goal.leaf_ok-requires
 leaf_ok-requires t c = rw c.word_at-son.ensures (node_of_son _ _ _ (sym c.if-not-fork_ok.ensures) (omega arith))
 
-pub returns-then-not-leaf_ok : goal.returns-then-not-leaf_ok
-returns-then-not-leaf_ok t c =
+pub returns-else-leaf_ok : goal.returns-else-leaf_ok
+returns-else-leaf_ok t c =
     let l = c.loop-q in
-    let z = seen_no_leaf _ _ _ (told_leaf c.args.table.now c.word_at-son.result _ c.word_at.ensures c.if-word_at-eq-FORK.false) (sym c.if-not-leaf_ok.ensures) in
+    let z = seen_no_leaf _ _ _ (told_leaf c.args.table.now c.word_at-son.result _ c.word_at.ensures c.if-word_at-eq-FORK.false) (sym c.if-leaf_ok.ensures) in
     let x = son_seen _ _ _ _ _ _ c.word_at-son.ensures (sym z) in
     none_seen _ (sym (added_stop _ l.q l.all (omega arith) (sym x) ∙ l.invariant.sons))
 
@@ -50,8 +50,8 @@ loop-q-preserved t c =
             some = omega arith;
             few = omega (arith, m);
           })
-      | else-word_at-eq-FORK+else-not-leaf_ok w ↦
-          let z = seen_leaf _ _ _ (told_leaf c.args.table.now c.word_at-son.result _ c.word_at.ensures w.if-word_at-eq-FORK.false) (sym w.if-not-leaf_ok.ensures) in
+      | else-word_at-eq-FORK+then-leaf_ok w ↦
+          let z = seen_leaf _ _ _ (told_leaf c.args.table.now c.word_at-son.result _ c.word_at.ensures w.if-word_at-eq-FORK.false) (sym w.if-leaf_ok.ensures) in
           let x = son_seen _ _ _ _ _ _ c.word_at-son.ensures (sym z) in
           rw w.all-is (record {
             sons = added_more _ l.q l.all 1 (omega arith) x (λ e. omega arith) ∙ l.invariant.sons;
