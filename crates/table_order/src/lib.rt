@@ -74,7 +74,7 @@ pub fn in_order(table: &[u32], count: u32, level: u32, p: u32) -> Option<u32>
     requires { ForkOf table.now count p × (2 ≤ level) }
     ensures { IfSome result (Ordered table.now level p) }
 {
-    if count < p + 5 {
+    if count - p < 5 {
         return None;
     }
     let fork = p as usize;
