@@ -1,4 +1,5 @@
 -- The first pass over a whole file: header, block, count, and the bytes left over, by what each function gave.
+use Rattle.std.specs.Prelude.{Some}
 use mathlib.Core.Bool.{Bool, true, false, not, cond, false≢true}
 use mathlib.Core.List.{List}
 use mathlib.Core.Path.{◌≡◌, refl, ap, sym, ◌∙◌}
@@ -20,10 +21,10 @@ use Rattle.file.specs.declared.Block.TheVariants.{Read, Bad}
 use Rattle.file.specs.declared.Contents.{Contents}
 use Rattle.file.specs.declared.Contents.TheVariants.{Faulty}
 use Rattle.file.specs.File.{got, Opened, faulty, mark, sheet_mark, closed, block_at, open_of}
-use Rattle.file.specs.Reading.{marks_of, told, end_of, Reaches, header_of, count_of, records_to, closing_of, contents_of}
+use Rattle.file.specs.Reading.{marks_of, told, place_after, Reaches, header_of, count_of, records_to, closing_of, contents_of}
 use Rattle.file.proofs.BlockLaws.{Spells, block_spells}
 use Rattle.file.proofs.ReadLaws.{marks_by, found, told_bad}
-use Rattle.file.proofs.ScanLaws.{end_got}
+use Rattle.file.proofs.ScanLaws.{got_after}
 
 -- a header that answers
 pub record Header (s : List ℕ) : Type 0 where
@@ -128,9 +129,9 @@ module _ (s : List ℕ) (h : Outcome) (u : Bool) (e : h ≡ header_of s) (a : u 
           (sym (cond_map contents_of (eqb (count_of s) (size_of t)) _ _ _ _ (cond_map contents_of (ltb i (length s)) _ _ _ _ refl refl) refl))
 
     -- as the fast way read it
-    module _ (i : ℕ) (sc : i ≡ end_of (block_at s level 5)) (nz : i ≡ 0 → ⊥) where
+    module _ (i : ℕ) (sc : Some i ≡ place_after (block_at s level 5)) where
       scanned : (t : Tree) × (block_at s level 5 ≡ got i t)
-      scanned = end_got (block_at s level 5) i sc nz
+      scanned = got_after (block_at s level 5) i sc
 
       pub scan_late : 5 ≤ i
       scan_late = ends_late i scanned.0 scanned.1

@@ -1,10 +1,10 @@
 -- Reading, one function at a time: what the first pass tells of a record, of a block, of four and of the whole file,
 -- and how far a block reaches.
-use Rattle.std.specs.Prelude.{Bool, true, false, cond, ◌≡◌, List, ℕ, zero, suc, ◌+◌, ◌-◌, ◌*◌, ◌/◌, ◌^◌, ◌<◌, eqb, ltb, length, get_or}
+use Rattle.std.specs.Prelude.{Bool, true, false, cond, ◌≡◌, List, ℕ, zero, suc, ◌+◌, ◌-◌, ◌*◌, ◌/◌, ◌^◌, ◌<◌, eqb, ltb, length, get_or, slice_set, Option, Some, None}
 use Rattle.answer.specs.declared.Outcome.{Outcome}
 use Rattle.answer.specs.declared.Outcome.TheVariants.{Answered, BadLevel, BadByte, BadCount}
 use Rattle.answer.specs.Numbers.{answers, and_then}
-use Rattle.quad.specs.Numbers.{top_level, top_colour, fork_type, is_type}
+use Rattle.quad.specs.Numbers.{top_level, top_colour, is_type}
 use Rattle.quad.specs.Tree.{Tree, colour, like_types, size_of}
 use Rattle.file.specs.declared.Block.{Block}
 use Rattle.file.specs.declared.Block.TheVariants.{Read, Bad}
@@ -68,24 +68,30 @@ stands_at s at =
     cond (ltb (length s - at) 3) false
     (cond (eqb (get_or s at 0) mark) (cond (eqb (get_or s (at + 1) 0) node_mark) (is_type (get_or s (at + 2) 0)) false) false)
 
-abbrev pub same_type : ℕ → ℕ → ℕ
-same_type a b = cond (eqb a b) 1 0
+-- the type of the whole node record that stands at a place
+abbrev pub record_type : List ℕ → ℕ → Option ℕ
+record_type s at = cond (stands_at s at) (Some (get_or s (at + 2) 0)) None
 
--- the place after what was read, or 0 where it is refused
+-- the place after what was read, or none where it is refused
+abbrev pub place_after : Got → Option ℕ
+place_after (got at t) = Some at
+place_after (bad o) = None
+
+-- the same as a number, which is 0 where it is refused: what is read ends later
 abbrev pub end_of : Got → ℕ
 end_of (got at t) = at
 end_of (bad o) = 0
 
--- and what comes after a block, or 0
-abbrev pub end_then : Got → (ℕ → Tree → ℕ) → ℕ
-end_then (got at t) next = next at t
-end_then (bad o) next = 0
+-- and what comes after a block, or none
+abbrev pub then_after : Got → (ℕ → Tree → Option ℕ) → Option ℕ
+then_after (got at t) next = next at t
+then_after (bad o) next = None
 
--- the place after the last so many of four blocks, or 0: `last` is the type of the block before them, and `same` of
--- those before have the type of the one before
-unfoldable pub rest_end : (ℕ → Got) → ℕ → ℕ → ℕ → ℕ → ℕ
-rest_end block zero at last same = cond (eqb last fork_type) at (cond (eqb same 3) 0 at)
-rest_end block (suc left) at last same = end_then (block at) (λ i t. rest_end block left i (colour t) (same + same_type (colour t) last))
+-- the place after the last so many of four blocks, from block q on, or none: `kinds` has the types of those before
+unfoldable pub rest_after : (ℕ → Got) → ℕ → ℕ → ℕ → List ℕ → Option ℕ
+rest_after block zero q at kinds =
+    cond (like_types (get_or kinds 0 0) (get_or kinds 1 0) (get_or kinds 2 0) (get_or kinds 3 0)) None (Some at)
+rest_after block (suc left) q at kinds = then_after (block at) (λ i t. rest_after block left (q + 1) i (slice_set kinds q (colour t)))
 
 -- r is the number of the four bytes at a place, the low byte first
 pub record FourBytes (s : List ℕ) (at r : ℕ) : Type 0 where

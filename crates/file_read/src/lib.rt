@@ -24,8 +24,7 @@ fn survey(file: &[u8]) -> Contents
         return Contents::Faulty { outcome: header };
     }
     let level = answer::value(header);
-    let end = scan_root(file, level);
-    if end != 0 {
+    if let Some(end) = scan_root(file, level) {
         return close(file, level, end as u32);
     }
     let root = read_block(file, level, 5);

@@ -10,17 +10,17 @@ use Rattle.file_read.proofs.survey.Goals as goal
 pub returns-then-not-answered : goal.returns-then-not-answered
 returns-then-not-answered c = search (survey_stop, rules)
 
-pub scan_root-end-requires : goal.scan_root-end-requires
-scan_root-end-requires c = search (close_long, rules)
+pub scan_root-requires : goal.scan_root-requires
+scan_root-requires c = search (close_long, rules)
 
 pub overflow_cast-end : goal.overflow_cast-end
-overflow_cast-end c = omega (arith, scan_near _ _ _ c.read_header-header.ensures c.answered.ensures (ap not c.if-not-answered.false) _ c.value-level.ensures _ c.scan_root-end.ensures c.if-end-ne0.true)
+overflow_cast-end c = omega (arith, scan_near _ _ _ c.read_header-header.ensures c.answered.ensures (ap not c.if-not-answered.false) _ c.value-level.ensures _ c.in-Some.ensures)
 
 pub close-requires : goal.close-requires
 close-requires c = (search (scan_late, rules), search (close_long, rules))
 
-pub returns-then-end-ne0 : goal.returns-then-end-ne0
-returns-then-end-ne0 c = search (survey_scanned, rules)
+pub returns-in-Some : goal.returns-in-Some
+returns-in-Some c = search (survey_scanned, rules)
 
 pub read_block-root-requires : goal.read_block-root-requires
 read_block-root-requires c = search (block_asks, rules)
