@@ -74,10 +74,8 @@ fn link_fork(file: &&[u8], level: u32, table: &mut [u32], p: u32, father: u32) -
     let own = 6 * (p as usize);
     table[own] = father;
     let mut next = p + 1;
-    let mut q = 0;
-    while q < 4 {
+    for q in 0..4 {
         table[own + 1 + q] = next;
-        q += 1;
         let kind = type_of(*file, next);
         if kind == quad::FORK {
             if level == 2 {
