@@ -18,11 +18,8 @@ fn put_header(file: &mut [u8], level: u32, count: u32)
     ensures { file.new ≡ sets file.old 0
         (mark ∷ sheet_mark ∷ level ∷ count % 256 ∷ count / 256 ∷ []) }
 {
-    file[0] = MARK;
-    file[1] = SHEET;
-    file[2] = level as u8;
-    file[3] = (count % 256) as u8;
-    file[4] = (count / 256) as u8;
+    let [low, high] = (count as u16).to_le_bytes();
+    file[..5].copy_from_slice(&[MARK, SHEET, level as u8, low, high]);
 }
 
 // Writes a node record.
@@ -35,30 +32,18 @@ fn put_record(file: &mut [u8], at: usize, kind: u8)
     file[at + 2] = kind;
 }
 
-// The type of son q of a fork p over four pixels.
-fn pixel_type(table: &[u32], p: usize, q: usize) -> u8
-    requires { OverPixels table.now p × (q < 4) }
-    ensures { result ≡ node_type table.now (son table.now p q) }
-{
-    let pixel = table_node::word_at(table, p, 1 + q);
-    table_node::word_at(table, pixel, 5) as u8
-}
-
 // Writes the block of a fork p over four pixels and gives the place after it. All five types are known before the first
 // byte is written.
 fn write_pixels(table: &[u32], p: usize, file: &mut [u8], at: usize) -> usize
     requires { OverPixels table.now p × (at + 15 ≤ length file.old) }
     ensures { Wrote (tree_at table.now 1 p) at file.old file.new result }
 {
-    let nw = pixel_type(table, p, 0);
-    let ne = pixel_type(table, p, 1);
-    let sw = pixel_type(table, p, 2);
-    let se = pixel_type(table, p, 3);
+    let [nw, ne, sw, se] = table_node::four_types(table, p);
     put_record(file, at, quad::FORK as u8);
-    put_record(file, at + 3, nw);
-    put_record(file, at + 6, ne);
-    put_record(file, at + 9, sw);
-    put_record(file, at + 12, se);
+    put_record(file, at + 3, nw as u8);
+    put_record(file, at + 6, ne as u8);
+    put_record(file, at + 9, sw as u8);
+    put_record(file, at + 12, se as u8);
     at + 15
 }
 
@@ -70,10 +55,8 @@ fn write_fork(table: &&[u32], level: u32, p: usize, file: &mut [u8], at: usize) 
 {
     put_record(file, at, quad::FORK as u8);
     let mut next = at + 3;
-    let mut q = 0;
-    while q < 4 {
+    for q in 0..4 {
         let son = table_node::word_at(*table, p, 1 + q);
-        q += 1;
         let kind = table_node::word_at(*table, son, 5);
         if kind == quad::FORK {
             if level == 2 {
