@@ -27,9 +27,7 @@ fn put_record(file: &mut [u8], at: usize, kind: u8)
     requires { at + 3 ≤ length file.old }
     ensures { file.new ≡ sets file.old at (mark ∷ node_mark ∷ kind ∷ []) }
 {
-    file[at] = MARK;
-    file[at + 1] = NODE;
-    file[at + 2] = kind;
+    file[at..at + 3].copy_from_slice(&[MARK, NODE, kind]);
 }
 
 // Writes the block of a fork p over four pixels and gives the place after it. All five types are known before the first
