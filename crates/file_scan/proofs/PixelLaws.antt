@@ -1,6 +1,7 @@
 -- Four pixels by their twelve bytes, which are taken as three numbers: they are what the definition reads, both ways
 -- round.
 use Rattle.std.specs.Prelude.{Some, None}
+use Rattle.std.specs.Bool.{then_some}
 use Rattle.std.specs.Int.{from_le_bytes, w32}
 use mathlib.Core.Bool.{Bool, true, false, false≢true}
 use mathlib.Core.List.{List, [], ◌∷◌}
@@ -186,7 +187,7 @@ module _ (s : List ℕ) (at : ℕ) where
     type_se : get_or s (at + 3 + 3 + 3 + 2) 0 ≡ d
     type_se = byte (at + 3 + 3 + 3 + 2) (at + 11) (omega arith) ∙ sym ed
 
-    pub types_none : (t : Bool) → t ≡ pixel_types a b c d → t ≡ false → None ≡ place_after (four_at (block_at s 0) at)
+    types_none : (t : Bool) → t ≡ pixel_types a b c d → t ≡ false → None ≡ place_after (four_at (block_at s 0) at)
     types_none t e f =
         pixels_none s at (λ x y z w h.
         let p : a ≡ x = ea ∙ h.nw.kind in
@@ -198,12 +199,13 @@ module _ (s : List ℕ) (at : ℕ) where
     pub pixels_there : (u v w x y z : ℕ) → FourBytes s at u → x ≡ from_le_bytes w32 (mark ∷ node_mark ∷ get_or s (at + 2) 0 ∷ mark ∷ []) → u ≡ x
         → FourBytes s (at + 4) v → y ≡ from_le_bytes w32 (node_mark ∷ get_or s (at + 5) 0 ∷ mark ∷ node_mark ∷ []) → v ≡ y
         → FourBytes s (at + 8) w → z ≡ from_le_bytes w32 (get_or s (at + 8) 0 ∷ mark ∷ node_mark ∷ get_or s (at + 11) 0 ∷ []) → w ≡ z
-        → at + 12 ≤ length s → (t : Bool) → t ≡ pixel_types a b c d → t ≡ true → Some (at + 12) ≡ place_after (four_at (block_at s 0) at)
-    pixels_there u v w x y z fu ex gu fv ey gv fw ez gw le t e ok =
+        → at + 12 ≤ length s → (t : Bool) → t ≡ pixel_types a b c d → place_after (four_at (block_at s 0) at) ≡ then_some t (at + 12)
+    pixels_there u v w x y z fu ex gu fv ey gv fw ez gw le false e = sym (types_none false e refl)
+    pixels_there u v w x y z fu ex gu fv ey gv fw ez gw le true e =
         let mu = first_marks u x fu ex gu in
         let mv = second_marks v y fv ey gv in
         let mw = third_marks w z fw ez gw in
-        pixels_end s at a b c d (record {
+        sym (pixels_end s at a b c d (record {
           nw = record { fits = omega arith; first = mu.0; second = mu.1; kind = sym ea };
           ne = record { fits = omega arith; first = mu.2; second = byte (at + 3 + 1) (at + 4) (omega arith) ∙ mv.0; kind = type_ne };
           sw = record {
@@ -218,5 +220,5 @@ module _ (s : List ℕ) (at : ℕ) where
             second = byte (at + 3 + 3 + 3 + 1) (at + 8 + 2) (omega arith) ∙ mw.1;
             kind = type_se;
           };
-          types = types_are a b c d (sym e ∙ ok);
-        })
+          types = types_are a b c d (sym e);
+        }))

@@ -1,8 +1,8 @@
-use Rattle.std.proofs.Common.{arith, ap, ◌∙◌, ◌≡◌, Some}
+use Rattle.std.proofs.Common.{arith, ap, sym, ◌∙◌, ◌≡◌, Some}
 use Rattle.file.specs.File.{block_at}
 use Rattle.file.specs.Reading.{place_after}
 use Rattle.file.proofs.ScanLaws.{four_left, block_refused, scan_refused, scan_on, leaf_ends, fork_ends, pixels_end, ends_within, ends_alike, ends_unlike}
-use Rattle.file_scan.proofs.+scan.Goals.{then-kind-ne-FORK, else-kind-ne-FORK+then-level-eq1+in_ok-next, else-kind-ne-FORK+else-level-eq1+in_ok-next-2}
+use Rattle.file_scan.proofs.+scan.Goals.{then-kind-eq-FORK+then-level-gt1+in_ok-next, then-kind-eq-FORK+else-level-gt1+then-pixels_stand, else-kind-eq-FORK}
 use Rattle.file_scan.proofs.+scan.Goals as goal
 
 pub loop-q-init : goal.loop-q-init
@@ -13,24 +13,26 @@ returns-in_err-kind t c = c.from_residual.ensures ∙ scan_refused _ _ _ _ _ _ c
 
 pub returns-in_err-next : goal.returns-in_err-next
 returns-in_err-next t c =
-    let ends = pixels_end _ c.args.level _ c.loop-q.invariant.0 _ c.in_ok-kind.ensures _ c.if-kind-ne-FORK.false c.if-level-eq1.true c.in_err-next.ensures in
+    let ends = fork_ends _ c.args.level _ c.loop-q.invariant.0 _ c.in_ok-kind.ensures _ c.if-kind-eq-FORK.true (λ z. omega (arith, c.requires.0, z)) c.in_err-next.ensures in
     c.from_residual-in_err-next.ensures ∙ scan_refused _ _ _ _ _ _ c.loop-q.invariant.1 (omega arith) ends
 
-pub returns-in_err-next-2 : goal.returns-in_err-next-2
-returns-in_err-next-2 t c =
-    let ends = fork_ends _ c.args.level _ c.loop-q.invariant.0 _ c.in_ok-kind.ensures _ c.if-kind-ne-FORK.false (λ z. omega (arith, c.requires.0, z)) c.in_err-next-2.ensures in
-    c.from_residual-in_err-next-2.ensures ∙ scan_refused _ _ _ _ _ _ c.loop-q.invariant.1 (omega arith) ends
+pub returns-else-pixels_stand : goal.returns-else-pixels_stand
+returns-else-pixels_stand t c =
+    let one : c.args.level ≡ 1 = omega (arith, c.requires.0, c.if-level-gt1.false) in
+    let ends = pixels_end _ c.args.level _ c.loop-q.invariant.0 _ c.in_ok-kind.ensures _ c.if-kind-eq-FORK.true one (sym (rw c.if-pixels_stand.false at c.pixels_stand.ensures)) in
+    scan_refused _ _ _ _ _ _ c.loop-q.invariant.1 (omega arith) ends
 
 pub loop-q-preserved : goal.loop-q-preserved
 loop-q-preserved t c =
     let le = c.loop-q.invariant.0 in
-    let ends : Some c.if-kind-ne-FORK.next ≡ place_after (block_at c.args.file.now.now c.args.level c.loop-q.next) =
-    elim c.if-kind-ne-FORK.branch [
-      | then-kind-ne-FORK w ↦ ap Some w.next-is ∙ leaf_ends _ c.args.level _ le _ c.in_ok-kind.ensures w.if-kind-ne-FORK.true
-      | else-kind-ne-FORK+then-level-eq1+in_ok-next w ↦
-          ap Some w.next-is ∙ pixels_end _ c.args.level _ le _ c.in_ok-kind.ensures _ w.if-kind-ne-FORK.false w.if-level-eq1.true w.in_ok-next.ensures
-      | else-kind-ne-FORK+else-level-eq1+in_ok-next-2 w ↦
-          ap Some w.next-is ∙ fork_ends _ c.args.level _ le _ c.in_ok-kind.ensures _ w.if-kind-ne-FORK.false (λ z. omega (arith, c.requires.0, z)) w.in_ok-next-2.ensures
+    let ends : Some c.if-kind-eq-FORK.next ≡ place_after (block_at c.args.file.now.now c.args.level c.loop-q.next) =
+    elim c.if-kind-eq-FORK.branch [
+      | then-kind-eq-FORK+then-level-gt1+in_ok-next w ↦
+          ap Some w.next-is ∙ fork_ends _ c.args.level _ le _ c.in_ok-kind.ensures _ w.if-kind-eq-FORK.true (λ z. omega (arith, c.requires.0, z)) w.in_ok-next.ensures
+      | then-kind-eq-FORK+else-level-gt1+then-pixels_stand w ↦
+          let one : c.args.level ≡ 1 = omega (arith, c.requires.0, w.if-level-gt1.false) in
+          ap Some w.next-is ∙ pixels_end _ c.args.level _ le _ c.in_ok-kind.ensures _ w.if-kind-eq-FORK.true one (sym (rw w.if-pixels_stand.true at w.pixels_stand.ensures))
+      | else-kind-eq-FORK w ↦ ap Some w.next-is ∙ leaf_ends _ c.args.level _ le _ c.in_ok-kind.ensures w.if-kind-eq-FORK.false
     ] in
     (ends_within _ c.args.level _ _ le ends, scan_on _ _ _ _ _ _ c.loop-q.invariant.1 (omega arith) _ _ ends c.in_ok-kind.ensures)
 
