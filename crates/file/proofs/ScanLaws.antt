@@ -16,7 +16,7 @@ use Rattle.quad.specs.Numbers.{top_colour, fork_type, is_type}
 use Rattle.quad.specs.Tree.{Tree, leaf, fork, colour, alike, like_types, types_of}
 use Rattle.quad.proofs.TreeLaws.{alike_types, size_pos, types_length}
 use Rattle.file.specs.File.{Got, got, bad, mark, node_mark, record_at, onward, four_at, block_at}
-use Rattle.file.specs.Reading.{stands_at, record_type, place_after, end_of, then_after, rest_after}
+use Rattle.file.specs.Reading.{stands_at, place_after, end_of, then_after, rest_after}
 use Rattle.file.proofs.SpeltLaws.{Stands, spelt_fits}
 use Rattle.file.proofs.BlockLaws.{record_case, record_stands, block_spells, root_kind}
 
@@ -110,33 +110,10 @@ record_refused s at e forked =
     record_case s at forked (λ (g : Got). None ≡ place_after g) (λ o. refl) (λ h. absurd (false≢true (sym e ∙ stands_told s at fork_type h refl)))
     (λ k h le. absurd (false≢true (sym e ∙ stands_told s at k h (rw (le-leb k top_colour le)))))
 
--- the type of the record at a place, by what was told of it, and the other way round
-pub none_told : (s : List ℕ) (at : ℕ) (u : Bool) → u ≡ stands_at s at → u ≡ false → None ≡ record_type s at
-none_told s at u e h = rw (← e, h)
-
-pub some_told : (s : List ℕ) (at k : ℕ) (u : Bool) → u ≡ stands_at s at → u ≡ true → k ≡ get_or s (at + 2) 0 → Some k ≡ record_type s at
-some_told s at k u e h f = rw (← e, h, f)
-
-pub no_record : (s : List ℕ) (at : ℕ) → None ≡ record_type s at → stands_at s at ≡ false
-no_record s at e = go (stands_at s at) refl
-  where
-    go : (t : Bool) → stands_at s at ≡ t → stands_at s at ≡ false
-    go true f = absurd (let z : ◌≡◌ {A = ℕ} 0 1 = (let h : None ≡ Some (get_or s (at + 2) 0) = rw f at e in cc) in omega arith)
-    go false f = f
-
-pub some_record : (s : List ℕ) (at k : ℕ) → Some k ≡ record_type s at → (stands_at s at ≡ true) × (k ≡ get_or s (at + 2) 0)
-some_record s at k e = go (stands_at s at) refl
-  where
-    go : (t : Bool) → stands_at s at ≡ t → (stands_at s at ≡ true) × (k ≡ get_or s (at + 2) 0)
-    go true f =
-        let h : Some k ≡ Some (get_or s (at + 2) 0) = rw f at e in
-        (f, cc)
-    go false f = absurd (let z : ◌≡◌ {A = ℕ} 0 1 = (let h : Some k ≡ None = rw f at e in cc) in omega arith)
-
-pub block_refused : (s : List ℕ) (l at : ℕ) → None ≡ record_type s at → None ≡ place_after (block_at s l at)
+pub block_refused : (s : List ℕ) (l at : ℕ) → false ≡ stands_at s at → None ≡ place_after (block_at s l at)
 unfolding block_at
-block_refused s zero at e = record_refused s at (no_record s at e) _
-block_refused s (suc l) at e = record_refused s at (no_record s at e) _
+block_refused s zero at e = record_refused s at (sym e) _
+block_refused s (suc l) at e = record_refused s at (sym e) _
 
 -- a block that was read ends within the file
 pub ends_within : (s : List ℕ) (l at i : ℕ) → at ≤ length s → Some i ≡ place_after (block_at s l at) → i ≤ length s
@@ -157,10 +134,10 @@ module _ (s : List ℕ) (l q at : ℕ) (kinds : List ℕ) (R : Option ℕ) (inv 
     pub scan_refused : None ≡ place_after (block_at s l at) → None ≡ R
     scan_refused z = rw (bad_after (block_at s l at) z).1 at turn
 
-    pub scan_on : (i k : ℕ) → Some i ≡ place_after (block_at s l at) → Some k ≡ record_type s at → rest_after (block_at s l) (4 - (q + 1)) (q + 1) i (slice_set kinds q k) ≡ R
+    pub scan_on : (i k : ℕ) → Some i ≡ place_after (block_at s l at) → k ≡ get_or s (at + 2) 0 → rest_after (block_at s l) (4 - (q + 1)) (q + 1) i (slice_set kinds q k) ≡ R
     scan_on i k ends e =
         let g = got_after (block_at s l at) i ends in
-        let c : k ≡ colour g.0 = (some_record s at k e).1 ∙ (root_kind s at g.0 (block_spells s l at i g.0 g.1).spelt).kind in
+        let c : k ≡ colour g.0 = e ∙ (root_kind s at g.0 (block_spells s l at i g.0 g.1).spelt).kind in
         rw c (rw g.1 at turn)
 
   -- none is left
@@ -196,30 +173,25 @@ four_left s l at =
     ap (λ (t : Bool). cond t None (Some i₄)) (sym (alike_types a b c d co)) ∙ after_cond (alike a b c d) _ i₄ (fork a b c d)))))
 
 -- the block that a record begins: a fork's four blocks, and four pixels where they are of level 0
-module _ (s : List ℕ) (l at : ℕ) (le : at ≤ length s) (k : ℕ) (r : Some k ≡ record_type s at) where
-  ok : stands_at s at ≡ true
-  ok = (some_record s at k r).0
-
-  e : k ≡ get_or s (at + 2) 0
-  e = (some_record s at k r).1
-
+module _ (s : List ℕ) (l at : ℕ) (le : at ≤ length s) (there : true ≡ stands_at s at) where
   pub fits_three : at + 3 ≤ length s
-  fits_three = (stands s at le ok).0.fits
+  fits_three = (stands s at le (sym there)).0.fits
 
-  pub leaf_ends : (k ≡ fork_type → ⊥) → Some (at + 3) ≡ place_after (block_at s l at)
-  leaf_ends ne = ap place_after (sym (block_leaf s l at le ok k e ne))
+  module _ (k : ℕ) (e : k ≡ get_or s (at + 2) 0) where
+    pub leaf_ends : (k ≡ fork_type → ⊥) → Some (at + 3) ≡ place_after (block_at s l at)
+    leaf_ends ne = ap place_after (sym (block_leaf s l at le (sym there) k e ne))
 
-  pub fork_deep : k ≡ fork_type → l ≡ 0 → None ≡ place_after (block_at s l at)
-  unfolding block_at
-  fork_deep fk z =
-      let h = stands s at le ok in
-      sym (ap (λ (j : ℕ). place_after (block_at s j at)) z ∙ ap place_after (record_stands s at (bad (TooDeep (at + 2))) (get_or s (at + 2) 0) h.0 h.1) ∙ rw (← e, fk))
+    pub fork_deep : k ≡ fork_type → l ≡ 0 → None ≡ place_after (block_at s l at)
+    unfolding block_at
+    fork_deep fk z =
+        let h = stands s at le (sym there) in
+        sym (ap (λ (j : ℕ). place_after (block_at s j at)) z ∙ ap place_after (record_stands s at (bad (TooDeep (at + 2))) (get_or s (at + 2) 0) h.0 h.1) ∙ rw (← e, fk))
 
-  pub fork_ends : (o : Option ℕ) → k ≡ fork_type → (l ≡ 0 → ⊥) → o ≡ place_after (four_at (block_at s (l - 1)) (at + 3)) → o ≡ place_after (block_at s l at)
-  fork_ends o fk nz h = h ∙ ap place_after (sym (block_fork s l at le ok k e fk nz))
+    pub fork_ends : (o : Option ℕ) → k ≡ fork_type → (l ≡ 0 → ⊥) → o ≡ place_after (four_at (block_at s (l - 1)) (at + 3)) → o ≡ place_after (block_at s l at)
+    fork_ends o fk nz h = h ∙ ap place_after (sym (block_fork s l at le (sym there) k e fk nz))
 
-  pub pixels_end : (o : Option ℕ) → k ≡ fork_type → l ≡ 1 → o ≡ place_after (four_at (block_at s 0) (at + 3)) → o ≡ place_after (block_at s l at)
-  pixels_end o fk one h =
-      let z : l - 1 ≡ 0 = omega arith in
-      let h' : o ≡ place_after (four_at (block_at s (l - 1)) (at + 3)) = rw z h in
-      fork_ends o fk (λ n. omega arith) h'
+    pub pixels_end : (o : Option ℕ) → k ≡ fork_type → l ≡ 1 → o ≡ place_after (four_at (block_at s 0) (at + 3)) → o ≡ place_after (block_at s l at)
+    pixels_end o fk one h =
+        let z : l - 1 ≡ 0 = omega arith in
+        let h' : o ≡ place_after (four_at (block_at s (l - 1)) (at + 3)) = rw z h in
+        fork_ends o fk (λ n. omega arith) h'

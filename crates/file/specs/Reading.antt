@@ -68,10 +68,6 @@ stands_at s at =
     cond (ltb (length s - at) 3) false
     (cond (eqb (get_or s at 0) mark) (cond (eqb (get_or s (at + 1) 0) node_mark) (is_type (get_or s (at + 2) 0)) false) false)
 
--- the type of the whole node record that stands at a place
-abbrev pub record_type : List ℕ → ℕ → Option ℕ
-record_type s at = cond (stands_at s at) (Some (get_or s (at + 2) 0)) None
-
 -- the place after what was read, or none where it is refused
 abbrev pub place_after : Got → Option ℕ
 place_after (got at t) = Some at
