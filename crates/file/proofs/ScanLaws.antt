@@ -10,8 +10,8 @@ use lib.Dec.{ltb, eqb}
 use lib.ListN.{length, get_or}
 use borrow.Author.Tests.{ne_eqb, eqb-true, ltb-false, lt-ltb, le-ltb, le-leb}
 use Rattle.base.proofs.CaseLaws.{past, through}
-use Rattle.answer.specs.declared.Outcome.{Outcome}
-use Rattle.answer.specs.declared.Outcome.TheVariants.{TooDeep}
+use Rattle.answer.specs.declared.Refusal.{Refusal}
+use Rattle.answer.specs.declared.Refusal.TheVariants.{TooDeep}
 use Rattle.quad.specs.Numbers.{top_colour, fork_type, is_type}
 use Rattle.quad.specs.Tree.{Tree, leaf, fork, colour, alike, like_types, types_of}
 use Rattle.quad.proofs.TreeLaws.{alike_types, size_pos, types_length}
@@ -88,16 +88,16 @@ got_after (got i t) r e =
 got_after (bad o) r e = absurd (let z : ◌≡◌ {A = ℕ} 0 1 = cc in omega arith)
 
 -- and what has none was refused
-pub bad_after : (g : Got) → None ≡ place_after g → (o : Outcome) × (g ≡ bad o)
+pub bad_after : (g : Got) → None ≡ place_after g → (o : Refusal) × (g ≡ bad o)
 bad_after (got i t) e = absurd (let z : ◌≡◌ {A = ℕ} 0 1 = cc in omega arith)
 bad_after (bad o) e = (o, refl)
 
 -- and a block that ends at 0 was refused: what is read ends later
-end_bad : (g : Got) → ((i : ℕ) (t : Tree) → g ≡ got i t → 0 < i) → end_of g ≡ 0 → (o : Outcome) × (g ≡ bad o)
+end_bad : (g : Got) → ((i : ℕ) (t : Tree) → g ≡ got i t → 0 < i) → end_of g ≡ 0 → (o : Refusal) × (g ≡ bad o)
 end_bad (got i t) late e = absurd (omega (arith, late i t refl, e))
 end_bad (bad o) late e = (o, refl)
 
-pub refused_exactly : (s : List ℕ) (l at : ℕ) → end_of (block_at s l at) ≡ 0 → (o : Outcome) × (block_at s l at ≡ bad o)
+pub refused_exactly : (s : List ℕ) (l at : ℕ) → end_of (block_at s l at) ≡ 0 → (o : Refusal) × (block_at s l at ≡ bad o)
 refused_exactly s l at = end_bad (block_at s l at) (λ i t e. omega (arith, (block_spells s l at i t e).next, size_pos t))
 
 -- where no record stands no block is read
@@ -156,7 +156,7 @@ module _ (s : List ℕ) (l q at : ℕ) (kinds : List ℕ) (R : Option ℕ) (inv 
     ends_unlike h = rw (sym e ∙ h) at ended
 
 -- at first all four are left
-after_cond : (t : Bool) (o : Outcome) (i : ℕ) (u : Tree) → cond t None (Some i) ≡ place_after (cond t (bad o) (got i u))
+after_cond : (t : Bool) (o : Refusal) (i : ℕ) (u : Tree) → cond t None (Some i) ≡ place_after (cond t (bad o) (got i u))
 after_cond true o i u = refl
 after_cond false o i u = refl
 

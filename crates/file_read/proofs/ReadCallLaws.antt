@@ -1,4 +1,5 @@
 -- The read call: what it answers and leaves in the table, by what the first pass told.
+use Rattle.std.specs.Prelude.{Ok, Err}
 use mathlib.Core.List.{List}
 use mathlib.Core.Path.{◌≡◌, refl, sym, ◌∙◌}
 use Prim.Native.Nat.{ℕ, ◌*◌, ◌≤◌, ◌<◌}
@@ -7,9 +8,8 @@ use native.Mathlib.Omega.{arith}
 use lib.ListN.{length}
 use borrow.Author.Tests.{lt-ltb, le-ltb}
 use Rattle.base.proofs.CaseLaws.{cond_same}
-use Rattle.answer.specs.declared.Outcome.{Outcome}
-use Rattle.answer.specs.declared.Outcome.TheVariants.{Answered, NoRoom}
-use Rattle.answer.specs.Numbers.{with_level, answers}
+use Rattle.answer.specs.declared.Refusal.TheVariants.{NoRoom}
+use Rattle.answer.specs.Numbers.{Outcome, with_level, answers}
 use Rattle.quad.specs.Numbers.{top_level, none, max_words}
 use Rattle.quad.specs.Tree.{Tree, size_of}
 use Rattle.quad.proofs.TreeLaws.{size_fits}
@@ -62,7 +62,7 @@ module _ (s old : List ℕ) (c : Contents) (e : c ≡ contents_of (open_of s)) w
     pub sheet_fits : (n ≤ top_level) × (6 * count ≤ max_words)
     sheet_fits = (level, rw its.size at (size_fits n its.tree level whole.spells.sound.within))
 
-    pub reads_full : length old < 6 * count → Reads s old (NoRoom (6 * count)) old
+    pub reads_full : length old < 6 * count → Reads s old (Err (NoRoom (6 * count))) old
     unfolding read_of read_table
     reads_full lt = record {
       answer = rw (its.is, its.size, lt-ltb (length old) (6 * count) lt);
@@ -73,7 +73,7 @@ module _ (s old : List ℕ) (c : Contents) (e : c ≡ contents_of (open_of s)) w
     link_asks le = record { tree = its.tree; is = rw zero-add whole.block; room = omega (arith, its.size); few = omega (arith, its.size, sheet_fits.1) }
 
     pub reads_sheet : 6 * count ≤ length old → (after : List ℕ) (r : ℕ) → Linked (tree_in (block_at s n (record_place 0))) none 0 old after r
-        → (v : ℕ) → v ≡ with_level count n → Reads s old (Answered v) after
+        → (v : ℕ) → v ≡ with_level count n → Reads s old (Ok v) after
     unfolding read_of read_table
     reads_sheet le after r h v is =
         let t : Tree = its.tree in

@@ -12,7 +12,7 @@ use lib.Dec.{ltb}
 use lib.ListN.{length, get_or}
 use borrow.Author.Tests.{le-ltb, ltb-false}
 use Rattle.base.proofs.CaseLaws.{past, cond_case}
-use Rattle.answer.specs.declared.Outcome.TheVariants.{NeedlessFork}
+use Rattle.answer.specs.declared.Refusal.TheVariants.{NeedlessFork}
 use Rattle.quad.specs.Numbers.{top_colour}
 use Rattle.quad.specs.Tree.{Tree, leaf, fork, colour, alike, like_types, Coloured, size_of}
 use Rattle.quad.proofs.TreeLaws.{alike_types, within_zero}

@@ -3,8 +3,7 @@ use mathlib.Core.Path.{◌≡◌}
 use mathlib.Core.Bool.{Bool, true, false, not, cond}
 use Prim.Native.Nat.{ℕ}
 use Rattle.base.proofs.BoolLaws.{on, off}
-use Rattle.answer.specs.declared.Outcome.{Outcome}
-use Rattle.answer.specs.Numbers.{answers}
+use Rattle.answer.specs.Numbers.{Outcome, answers}
 use Rattle.file.specs.declared.Block.{Block}
 use Rattle.file.specs.declared.Block.TheVariants.{Read, Bad}
 use Rattle.quad.specs.Numbers.{is_type}

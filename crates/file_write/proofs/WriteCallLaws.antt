@@ -1,4 +1,5 @@
 -- The write call: what it answers and leaves in the file, by what the check gave.
+use Rattle.std.specs.Prelude.{Ok, Err}
 use mathlib.Core.Bool.{Bool, true, false, not}
 use mathlib.Core.List.{List, [], ◌∷◌, ◌++◌}
 use mathlib.Core.Path.{◌≡◌, refl, ap, sym, ◌∙◌}
@@ -9,9 +10,8 @@ use lib.Seq.{sets, length-sets}
 use borrow.Author.Tests.{lt-ltb, le-ltb}
 use Rattle.base.proofs.BoolLaws.{off}
 use Rattle.base.proofs.SetsLaws.{sets_after, sets_overlay}
-use Rattle.answer.specs.declared.Outcome.{Outcome}
-use Rattle.answer.specs.declared.Outcome.TheVariants.{Answered, NoRoom}
-use Rattle.answer.specs.Numbers.{value_of, answers}
+use Rattle.answer.specs.declared.Refusal.TheVariants.{NoRoom}
+use Rattle.answer.specs.Numbers.{Outcome, value_of, answers}
 use Rattle.quad.specs.Numbers.{top_level, max_words}
 use Rattle.quad.specs.Tree.{Tree, size_of, types_of}
 use Rattle.table.specs.Table.{nodes}
@@ -36,7 +36,7 @@ module _ (n : ℕ) (T old : List ℕ) (s : Outcome) (u : Bool) (e : s ≡ check_
     acc : Accepted n T
     acc = accepted_call n T s u e a go
 
-    passes : check_of n T ≡ Answered (nodes T)
+    passes : check_of n T ≡ Ok (nodes T)
     passes = check_accepted n T acc
 
     count_is : nodes T ≡ count
@@ -45,7 +45,7 @@ module _ (n : ℕ) (T old : List ℕ) (s : Outcome) (u : Bool) (e : s ≡ check_
     pub count_fits : (n ≤ top_level) × (6 * count ≤ max_words)
     count_fits = (acc.sized.level, omega (arith, acc.sized.few, acc.sized.whole, count_is))
 
-    pub writes_full : length old < 5 + 3 * count → Writes n T old (NoRoom (5 + 3 * count)) old
+    pub writes_full : length old < 5 + 3 * count → Writes n T old (Err (NoRoom (5 + 3 * count))) old
     unfolding write_of written_file
     writes_full lt = record {
       answer = rw (passes, count_is, lt-ltb (length old) (5 + 3 * count) lt);
@@ -70,7 +70,7 @@ module _ (n : ℕ) (T old : List ℕ) (s : Outcome) (u : Bool) (e : s ≡ check_
           room = omega (arith, same, size);
         }
 
-        pub writes_sheet : (after : List ℕ) (r : ℕ) → Wrote (tree_at T n 0) 5 w₀ after r → Writes n T old (Answered (5 + 3 * count)) after
+        pub writes_sheet : (after : List ℕ) (r : ℕ) → Wrote (tree_at T n 0) 5 w₀ after r → Writes n T old (Ok (5 + 3 * count)) after
         unfolding write_of written_file file_of
         writes_sheet after r h =
             let t : Tree = tree_at T n 0 in
