@@ -8,30 +8,23 @@ ghost use Rattle.file.specs.Calls.{Reads};
 ghost use Rattle.file.specs.Reading.{contents_of};
 ghost use Rattle.file.specs.Linking.{record_place, tree_in, Ready, Linked};
 
-use answer::Outcome;
-use file::{Block, Contents};
+use answer::{Outcome, Refusal};
+use file::Contents;
 use file_scan::{scan_root, type_at};
 use file_tell::{close, read_block, read_header};
 use table_node::{put_leaf, put_node};
 
 // The first pass: level and node count, or the first fault. It writes nothing. A sound file is read by a faster way,
 // and only one that is not is read again for its fault.
-fn survey(file: &[u8]) -> Contents
+fn survey(file: &[u8]) -> Result<Contents, Refusal>
     ensures { result ≡ contents_of (open_of file.now) }
 {
-    let header = read_header(file);
-    if !answer::answered(header) {
-        return Contents::Faulty { outcome: header };
-    }
-    let level = answer::value(header);
+    let level = read_header(file)?;
     if let Some(end) = scan_root(file, level) {
         return close(file, level, end as u32);
     }
-    let root = read_block(file, level, 5);
-    match root {
-        Block::Bad(outcome) => Contents::Faulty { outcome },
-        Block::Read(next, _) => close(file, level, next),
-    }
+    let block = read_block(file, level, 5)?;
+    close(file, level, block.next)
 }
 
 // The type of node p, which is record p of the file.
@@ -109,18 +102,11 @@ fn link_block(file: &[u8], level: u32, table: &mut [u32], p: u32, father: u32) -
 pub fn read(file: &[u8], table: &mut [u32]) -> Outcome
     ensures { Reads file.now table.old result table.new }
 {
-    let contents = survey(file);
-    match contents {
-        Contents::Faulty { outcome } => outcome,
-        Contents::Sheet { level, count } => {
-            let words = 6 * count;
-            if table.len() < words as usize {
-                return Outcome::NoRoom { needed: words };
-            }
-            link_block(file, level, table, 0, quad::NONE as u32);
-            Outcome::Answered {
-                value: answer::with_level(count, level),
-            }
-        }
+    let Contents { level, count } = survey(file)?;
+    let words = 6 * count;
+    if table.len() < words as usize {
+        return Err(Refusal::NoRoom { needed: words });
     }
+    link_block(file, level, table, 0, quad::NONE as u32);
+    Ok(answer::with_level(count, level))
 }
