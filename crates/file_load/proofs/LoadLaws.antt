@@ -4,15 +4,13 @@ use Rattle.std.specs.Prelude.{Ok, Err}
 use mathlib.Core.Bool.{Bool, true, false, true≢false}
 use mathlib.Core.List.{List}
 use mathlib.Core.Path.{◌≡◌, refl, ap, sym, ◌∙◌}
-use Prim.Native.Nat.{ℕ, ◌*◌, ◌≤◌, ◌<◌}
+use Prim.Native.Nat.{ℕ, ◌*◌, ◌≤◌}
 use native.Mathlib.Omega.{arith}
-use lib.Dec.{leb}
 use lib.ListN.{length, get_or, take, replicate}
 use lib.Seq.{take-append_seam}
-use borrow.Author.Tests.{le-leb, lt-leb, eq-eqb}
 use Rattle.answer.specs.declared.Refusal.TheVariants.{TooLarge}
 use Rattle.answer.specs.Numbers.{Outcome, node_in, level_in, answers}
-use Rattle.quad.specs.Numbers.{top_level, none}
+use Rattle.quad.specs.Numbers.{none}
 use Rattle.quad.specs.Tree.{size_of, same_leaf}
 use Rattle.base.specs.Tab.{overlay}
 use Rattle.base.proofs.CaseLaws.{cond_case}
@@ -21,25 +19,12 @@ use Rattle.table.specs.Preorder.{preorder, preorder_table}
 use Rattle.table.specs.SheetA.{table_a, file_a}
 use Rattle.table.proofs.PreorderAccepted.{preorder_accepted}
 use Rattle.table.proofs.PreorderLaws.{preorder_length}
-use Rattle.file.specs.File.{mark, sheet_mark, block_at, open_of, read_of, read_table}
+use Rattle.file.specs.File.{block_at, open_of, read_of, read_table}
 use Rattle.file.specs.Calls.{Reads}
 use Rattle.file.proofs.FaultLaws.{Answers, read_answered, read_length}
 use Rattle.file.proofs.OneFile.{opens}
 use Rattle.file.proofs.RoundTrip.{read_leaves}
-use Rattle.file_load.specs.Load.{too_large, load_of, loaded_table, printed_level, Loads}
-
--- the last test, with the level as the call gave it
-pub last_test : (s : List ℕ) (level : ℕ) → 2 < length s → get_or s 0 0 ≡ mark → get_or s 1 0 ≡ sheet_mark → level ≡ get_or s 2 0 → printed_level < level
-    → leb level top_level ≡ too_large s
-unfolding too_large
-last_test s level h m k e p =
-    rw (too_large, lt-leb (length s) 2 h, eq-eqb (get_or s 0 0) mark m, eq-eqb (get_or s 1 0) sheet_mark k, ← e, lt-leb level printed_level p)
-
-pub too_small : (s : List ℕ) (level : ℕ) → 2 < length s → get_or s 0 0 ≡ mark → get_or s 1 0 ≡ sheet_mark → level ≡ get_or s 2 0 → level ≤ printed_level
-    → false ≡ too_large s
-unfolding too_large
-too_small s level h m k e p =
-    rw (too_large, lt-leb (length s) 2 h, eq-eqb (get_or s 0 0) mark m, eq-eqb (get_or s 1 0) sheet_mark k, ← e, le-leb level printed_level p)
+use Rattle.file_load.specs.Load.{too_large, load_of, loaded_table, Loads}
 
 module _ (s before : List ℕ) (u : Bool) (e : u ≡ too_large s) where
   pub load_large : u ≡ true → Loads s before (Err (TooLarge 2)) before

@@ -9,7 +9,7 @@ ghost use Rattle.file.specs.File.{mark, sheet_mark, node_mark};
 ghost use Rattle.file.specs.Calls.{Writes};
 ghost use Rattle.file.specs.Writing.{Writable, OverPixels, Wrote};
 
-use answer::Outcome;
+use answer::{Outcome, Refusal};
 use file::{MARK, NODE, SHEET};
 
 // Writes the header: the level, and the node count in two bytes, low byte first.
@@ -87,16 +87,12 @@ fn write_block(table: &[u32], level: u32, p: usize, file: &mut [u8], at: usize) 
 pub fn write(n: u32, table: &[u32], file: &mut [u8]) -> Outcome
     ensures { Writes n table.now file.old result file.new }
 {
-    let checked = table_check::check(n, table);
-    if !answer::answered(checked) {
-        return checked;
-    }
-    let count = answer::value(checked);
+    let count = table_check::check(n, table)?;
     let bytes = 5 + 3 * count;
     if file.len() < bytes as usize {
-        return Outcome::NoRoom { needed: bytes };
+        return Err(Refusal::NoRoom { needed: bytes });
     }
     put_header(file, n, count);
     write_block(table, n, 0, file, 5);
-    Outcome::Answered { value: bytes }
+    Ok(bytes)
 }
