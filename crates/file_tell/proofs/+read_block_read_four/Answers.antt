@@ -31,7 +31,8 @@ pub read_four-read_block-requires-4 : goal.read_four-read_block-requires-4
 read_four-read_block-requires-4 t c = (omega (arith, c.decreases), reach_4 _ _ _ _ c.in_ok-nw.ensures _ c.in_ok-ne.ensures _ c.in_ok-sw.ensures c.requires)
 
 pub read_four-overflow_add-result : goal.read_four-overflow_add-result
-read_four-overflow_add-result t c = omega (arith, some_block c.args.level, reach_4 _ _ _ _ c.in_ok-nw.ensures _ c.in_ok-ne.ensures _ c.in_ok-sw.ensures c.requires)
+read_four-overflow_add-result t c =
+    omega (arith, some_block c.args.level, reach_3 _ _ _ _ c.in_ok-nw.ensures _ c.in_ok-ne.ensures c.requires, reach_4 _ _ _ _ c.in_ok-nw.ensures _ c.in_ok-ne.ensures _ c.in_ok-sw.ensures c.requires)
 
 pub read_four-returns-then-like_leaves : goal.read_four-returns-then-like_leaves
 read_four-returns-then-like_leaves t c = four_like _ _ _ _ c.in_ok-nw.ensures _ c.in_ok-ne.ensures _ c.in_ok-sw.ensures _ c.in_ok-se.ensures _ c.like_leaves.ensures c.if-like_leaves.true
