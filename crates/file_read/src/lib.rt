@@ -40,20 +40,20 @@ fn link_pixels(file: &[u8], table: &mut [u32], p: u32, father: u32) -> u32
     requires { Ready file.now 1 p (length table.old) × (get_or file.now (record_place p + 2) 0 ≡ fork_type) }
     ensures { Linked (tree_in (block_at file.now 1 (record_place p))) father p table.old table.new result }
 {
-    let nw = p + 1;
-    let ne = nw + 1;
-    let sw = ne + 1;
-    let se = sw + 1;
-    let kind_nw = type_of(file, nw);
-    let kind_ne = type_of(file, ne);
-    let kind_sw = type_of(file, sw);
-    let kind_se = type_of(file, se);
-    put_node(table, p as usize, father, nw, ne, sw, se, quad::FORK as u32);
-    put_leaf(table, nw as usize, p, kind_nw as u32);
-    put_leaf(table, ne as usize, p, kind_ne as u32);
-    put_leaf(table, sw as usize, p, kind_sw as u32);
-    put_leaf(table, se as usize, p, kind_se as u32);
-    se + 1
+    put_node(
+        table,
+        p as usize,
+        father,
+        p + 1,
+        p + 2,
+        p + 3,
+        p + 4,
+        quad::FORK as u32,
+    );
+    for son in p + 1..p + 5 {
+        put_leaf(table, son as usize, p, type_of(file, son) as u32);
+    }
+    p + 5
 }
 
 // The second pass, for a fork: its nodes from p on, in preorder, and the next node. Each son's number is written before
