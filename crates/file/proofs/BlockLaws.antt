@@ -10,8 +10,8 @@ use lib.ListN.{length, get_or}
 use borrow.Author.Tests.{ne_eqb, le-leb, lt-leb, eqb-true, leb-true, leb-false}
 use Rattle.base.proofs.BoolLaws.{or_first}
 use Rattle.base.proofs.CaseLaws.{cond_case}
-use Rattle.answer.specs.declared.Outcome.{Outcome}
-use Rattle.answer.specs.declared.Outcome.TheVariants.{NeedlessFork}
+use Rattle.answer.specs.declared.Refusal.{Refusal}
+use Rattle.answer.specs.declared.Refusal.TheVariants.{NeedlessFork}
 use Rattle.quad.specs.Numbers.{top_colour, fork_type, is_type}
 use Rattle.quad.specs.Tree.{Tree, leaf, fork, colour, Within, alike, Reduced, Coloured, size_of, types_of}
 use Rattle.quad.proofs.TreeLaws.{types_length}
@@ -21,7 +21,7 @@ use Rattle.file.proofs.SpeltLaws.{Stands, Spelt, spelt_append, spelt_parts}
 
 -- a record: what holds of every fault, of what a fork gives and of each leaf
 module _ (s : List ℕ) (at : ℕ) (forked : Got) where
-  pub record_case : (P : Got → Type 0) → ((o : Outcome) → P (bad o)) → (Stands s at fork_type → P forked)
+  pub record_case : (P : Got → Type 0) → ((o : Refusal) → P (bad o)) → (Stands s at fork_type → P forked)
       → ((k : ℕ) → Stands s at k → k ≤ top_colour → P (got (at + 3) (leaf k))) → P (record_at s at forked)
   record_case P faults forks leaves =
       let k : ℕ = get_or s (at + 2) 0 in

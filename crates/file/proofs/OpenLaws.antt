@@ -1,5 +1,5 @@
 -- A file that is accepted, taken apart: its header, its one block, its count, and no byte left over.
-use mathlib.Core.Bool.{Bool, true, false, cond}
+use Rattle.std.specs.Prelude.{Ok, Err}
 use mathlib.Core.List.{List}
 use mathlib.Core.Path.{◌≡◌, refl, ap, sym, ◌∙◌}
 use Prim.Native.Nat.{ℕ, ◌+◌, ◌*◌}
@@ -8,16 +8,16 @@ use lib.Dec.{ltb, eqb}
 use lib.ListN.{length, get_or}
 use borrow.Author.Tests.{eqb-true, ltb-false}
 use Rattle.base.proofs.CaseLaws.{cond_case}
-use Rattle.answer.specs.declared.Outcome.{Outcome}
-use Rattle.answer.specs.declared.Outcome.TheVariants.{BadCount}
-use Rattle.answer.specs.Numbers.{answers}
+use Rattle.answer.specs.declared.Refusal.TheVariants.{BadCount}
+use Rattle.answer.specs.declared.Refusal.{Refusal}
+use Rattle.answer.specs.Numbers.{Outcome}
 use Rattle.quad.specs.Tree.{Tree, size_of, types_of}
 use Rattle.quad.proofs.TreeLaws.{types_length}
 use Rattle.file.specs.File.{Got, got, bad, Opened, opened, faulty, closed, block_at, open_of}
 use Rattle.file.specs.Reading.{header_of, count_of}
 use Rattle.file.proofs.SpeltLaws.{spelt_fits}
 use Rattle.file.proofs.BlockLaws.{Spells, block_spells}
-use Rattle.file.proofs.SurveyLaws.{Header, header_good, open_by}
+use Rattle.file.proofs.SurveyLaws.{Header, by_header, header_good, open_by}
 
 pub record Whole (s : List ℕ) (n : ℕ) (t : Tree) : Type 0 where
   pub header : Header s
@@ -27,7 +27,7 @@ pub record Whole (s : List ℕ) (n : ℕ) (t : Tree) : Type 0 where
   pub spells : Spells s n 5 (5 + 3 * size_of t) t
   pub ends : length s ≡ 5 + 3 * size_of t
 
-no_fault : {A : Type 0} (o : Outcome) (n : ℕ) (t : Tree) → faulty o ≡ opened n t → A
+no_fault : {A : Type 0} (o : Refusal) (n : ℕ) (t : Tree) → faulty o ≡ opened n t → A
 no_fault o n t e = absurd (let z : ◌≡◌ {A = ℕ} 0 1 = cc in omega arith)
 
 module _ (s : List ℕ) (n : ℕ) (t : Tree) where
@@ -54,8 +54,11 @@ module _ (s : List ℕ) (n : ℕ) (t : Tree) where
       (λ _. no_fault (BadCount 3) n t)
 
   pub open_whole : open_of s ≡ opened n t → Whole s n t
-  open_whole e = go (answers (header_of s)) refl (sym (open_by s) ∙ e)
+  open_whole e = go (header_of s) refl (sym (open_by s) ∙ e)
     where
-      go : (b : Bool) → answers (header_of s) ≡ b → cond b (closed s (get_or s 2 0) (block_at s (get_or s 2 0) 5)) (faulty (header_of s)) ≡ opened n t → Whole s n t
-      go true a f = block_whole (header_good s a) (block_at s (get_or s 2 0) 5) refl f
-      go false a f = no_fault (header_of s) n t f
+      go : (h : Outcome) → header_of s ≡ h → by_header s h ≡ opened n t → Whole s n t
+      go (Ok k) is f =
+          let h = header_good s k is in
+          let level : k ≡ get_or s 2 0 = (let e : Ok k ≡ Ok (get_or s 2 0) = sym is ∙ h.is in cc) in
+          block_whole h (block_at s (get_or s 2 0) 5) refl (rw level at f)
+      go (Err o) is f = no_fault o n t f

@@ -1,5 +1,6 @@
 -- Reading and writing undo each other, for every level: a written file is read as the preorder table of the same
 -- picture, an accepted file is what writing its table gives, and tables with one picture write one file.
+use Rattle.std.specs.Prelude.{Ok}
 use mathlib.Core.List.{List}
 use mathlib.Core.Path.{◌≡◌, ap, sym, ◌∙◌}
 use Prim.Native.Nat.{ℕ, ◌+◌, ◌*◌, ◌^◌, ◌≤◌, ◌<◌}
@@ -8,9 +9,7 @@ use lib.ListN.{length}
 use borrow.Author.Tests.{le-ltb}
 use Rattle.base.specs.Tab.{overlay}
 use Rattle.base.proofs.SetsLaws.{overlay_all}
-use Rattle.answer.specs.declared.Outcome.{Outcome}
-use Rattle.answer.specs.declared.Outcome.TheVariants.{Answered}
-use Rattle.answer.specs.Numbers.{with_level}
+use Rattle.answer.specs.Numbers.{Outcome, with_level}
 use Rattle.quad.specs.Numbers.{none}
 use Rattle.quad.specs.Tree.{Tree, size_of}
 use Rattle.table.specs.Table.{nodes}
@@ -28,7 +27,7 @@ use Rattle.file.proofs.OneFile.{Bytes, file_length, file_opens, open_exactly}
 
 -- an accepted table, written where there is room
 module _ (n : ℕ) (T old : List ℕ) (acc : Accepted n T) (room : 5 + 3 * nodes T ≤ length old) where
-  pub write_value : write_of n T (length old) ≡ Answered (5 + 3 * nodes T)
+  pub write_value : write_of n T (length old) ≡ Ok (5 + 3 * nodes T)
   unfolding write_of
   write_value = rw (check_accepted n T acc, le-ltb (length old) (5 + 3 * nodes T) room)
 
@@ -38,7 +37,7 @@ module _ (n : ℕ) (T old : List ℕ) (acc : Accepted n T) (room : 5 + 3 * nodes
 
 -- a file that opens, read where there is room
 module _ (s old : List ℕ) (n : ℕ) (t : Tree) (e : open_of s ≡ opened n t) (room : 6 * size_of t ≤ length old) where
-  pub read_value : read_of s (length old) ≡ Answered (with_level (size_of t) n)
+  pub read_value : read_of s (length old) ≡ Ok (with_level (size_of t) n)
   unfolding read_of
   read_value = rw (e, le-ltb (length old) (6 * size_of t) room)
 
@@ -49,7 +48,7 @@ module _ (s old : List ℕ) (n : ℕ) (t : Tree) (e : open_of s ≡ opened n t) 
 -- reading what was written, into a table of just its length, gives an accepted table of the same picture: the preorder
 -- one
 pub record Again (n : ℕ) (T : List ℕ) (r : Outcome) (U : List ℕ) : Type 0 where
-  pub answer : r ≡ Answered (with_level (nodes T) n)
+  pub answer : r ≡ Ok (with_level (nodes T) n)
   pub table : U ≡ preorder_table (tree_at T n 0)
   pub accepted : Accepted n U
   pub picture : (x y : ℕ) → pixel n U x y ≡ pixel n T x y
@@ -76,7 +75,7 @@ written_then_read n T before file words U w r acc lb lw writes reads =
 
 -- every accepted file is exactly what writing its table gives
 pub read_then_written : (s words U before file : List ℕ) (n : ℕ) (t : Tree) (r w : Outcome) → Bytes s → open_of s ≡ opened n t → length words ≡ 6 * size_of t
-    → length before ≡ length s → Reads s words r U → Writes n U before w file → (w ≡ Answered (length s)) × (file ≡ s)
+    → length before ≡ length s → Reads s words r U → Writes n U before w file → (w ≡ Ok (length s)) × (file ≡ s)
 read_then_written s words U before file n t r w bytes e lw lb reads writes =
     let x = open_exactly s n t bytes e in
     let is : U ≡ preorder_table t =
@@ -85,7 +84,7 @@ read_then_written s words U before file n t r w bytes e lw lb reads writes =
     let count : nodes U ≡ size_of t = ap nodes is ∙ preorder_nodes n t x.level x.sound in
     let tree : tree_at U n 0 ≡ t = ap (λ (W : List ℕ). tree_at W n 0) is ∙ preorder_tree n t x.level x.sound in
     let long : length s ≡ 5 + 3 * size_of t = ap length x.is ∙ file_length n t in (
-      writes.answer ∙ write_value n U before acc (omega arith) ∙ ap Answered (omega arith),
+      writes.answer ∙ write_value n U before acc (omega arith) ∙ ap Ok (omega arith),
       writes.file ∙ write_leaves n U before acc (omega arith) ∙ rw tree (overlay_all (file_of n t) before (omega (arith, file_length n t))) ∙ sym x.is,
     )
 

@@ -6,7 +6,7 @@ use mathlib.Core.Path.{◌≡◌, refl, ap, sym, ◌∙◌}
 use Prim.Native.Nat.{ℕ, suc, ◌+◌, ◌-◌, ◌*◌, ◌≤◌, ◌<◌}
 use native.Mathlib.Numerals.{add-one}
 use native.Mathlib.Omega.{arith}
-use lib.ListN.{length, length-append}
+use lib.ListN.{length, length-append, get_or}
 use lib.Seq.{sets, length-sets}
 use borrow.Author.Tests.{ne_eqb}
 use Rattle.base.proofs.SetsLaws.{sets_behind}
@@ -14,8 +14,9 @@ use Rattle.quad.specs.Numbers.{fork_type}
 use Rattle.quad.specs.Tree.{Tree, leaf, fork, size_of, types_of}
 use Rattle.quad.proofs.TreeLaws.{by_quadrant, size_pos, types_length}
 use Rattle.table.specs.Table.{nodes, son, node_type, is_fork}
+use Rattle.table.specs.Links.{SonsIn, four_types}
 use Rattle.table.specs.Nodes.{tree_at}
-use Rattle.table.proofs.AcceptedLaws.{tree_leaf, tree_fork, type_byte, fork_above, son_at}
+use Rattle.table.proofs.AcceptedLaws.{sons_of, tree_leaf, tree_fork, type_byte, fork_above, son_at}
 use Rattle.file.specs.File.{mark, node_mark, records}
 use Rattle.file.specs.Writing.{Writable, OverPixels, Wrote, son_tree, types_to, SonsWrote}
 
@@ -156,11 +157,23 @@ module _ (T : List ℕ) (l p at : ℕ) (w : List ℕ) (ok : Writable T l p at (l
 
 -- a fork over four pixels
 module _ (T : List ℕ) (p : ℕ) (ok : OverPixels T p) where
-  pub pixel_node : (q : ℕ) → q < 4 → son T p q < nodes T
-  pixel_node q q4 = (son_at ok.place ok.over q q4).node
+  -- what reading its sons' types asks, and what it tells
+  pub types_asked : (p < nodes T) × SonsIn T p
+  types_asked = (ok.place.node, sons_of ok.n T ok.place.accepted p ok.place.node ok.over)
 
-  pub pixel_byte : (q : ℕ) → q < 4 → node_type T (son T p q) < 256
-  pixel_byte q q4 = type_byte ok.n T ok.place.accepted (son T p q) (pixel_node q q4)
+  module _ (kinds : List ℕ) (e : kinds ≡ four_types T p) where
+    pub types_told : (get_or kinds 0 0 ≡ node_type T (son T p 0)) × (get_or kinds 1 0 ≡ node_type T (son T p 1)) × (get_or kinds 2 0 ≡ node_type T (son T p 2))
+        × (get_or kinds 3 0 ≡ node_type T (son T p 3))
+    unfolding four_types
+    types_told = rw e (refl, refl, refl, refl)
+
+    type_low : (q : ℕ) → q < 4 → node_type T (son T p q) < 256
+    type_low q q4 = type_byte ok.n T ok.place.accepted (son T p q) (son_at ok.place ok.over q q4).node
+
+    pub types_low : (get_or kinds 0 0 < 256) × (get_or kinds 1 0 < 256) × (get_or kinds 2 0 < 256) × (get_or kinds 3 0 < 256)
+    types_low =
+        let t = types_told in
+        rw (t.0, t.1, t.2, t.3) (type_low 0 (omega arith), type_low 1 (omega arith), type_low 2 (omega arith), type_low 3 (omega arith))
 
   pub pixels_wrote : (a b c d at : ℕ) (w w₀ w₁ w₂ w₃ w₄ : List ℕ)
       → a ≡ node_type T (son T p 0) → b ≡ node_type T (son T p 1) → c ≡ node_type T (son T p 2) → d ≡ node_type T (son T p 3)

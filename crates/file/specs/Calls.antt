@@ -1,6 +1,6 @@
 -- The two calls' statements: the answer, and what is in the lent buffer afterwards.
 use Rattle.std.specs.Prelude.{List, ◌≡◌, ℕ, length}
-use Rattle.answer.specs.declared.Outcome.{Outcome}
+use Rattle.answer.specs.Numbers.{Outcome}
 use Rattle.file.specs.File.{read_of, read_table, write_of, written_file}
 
 -- reading a file into the table `before` answers r and leaves the table `after`

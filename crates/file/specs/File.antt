@@ -1,10 +1,10 @@
 -- The sheet file (document 01, 'Sheet file'): the bytes of a tree, and what reading bytes gives, byte by byte, the
 -- first fault deciding.
-use Rattle.std.specs.Prelude.{cond, List, [], ◌∷◌, ℕ, zero, suc, ◌+◌, ◌*◌, ◌/◌, ◌%◌, eqb, leb, ltb, length, get_or}
+use Rattle.std.specs.Prelude.{Ok, Err, cond, List, [], ◌∷◌, ℕ, zero, suc, ◌+◌, ◌*◌, ◌/◌, ◌%◌, eqb, leb, ltb, length, get_or}
 use Rattle.base.specs.Tab.{overlay}
-use Rattle.answer.specs.declared.Outcome.{Outcome}
-use Rattle.answer.specs.declared.Outcome.TheVariants.{Answered, BadLevel, TooDeep, NeedlessFork, BadByte, Absent, BadCount}
-use Rattle.answer.specs.Numbers.{with_level, and_then, room, answers}
+use Rattle.answer.specs.declared.Refusal.{Refusal}
+use Rattle.answer.specs.declared.Refusal.TheVariants.{BadLevel, TooDeep, NeedlessFork, BadByte, Absent, BadCount}
+use Rattle.answer.specs.Numbers.{Outcome, with_level, and_then, room, answers}
 use Rattle.quad.specs.Numbers.{top_level, fork_type, is_type}
 use Rattle.quad.specs.Tree.{Tree, leaf, fork, alike, size_of, types_of}
 use Rattle.table.specs.Rules.{check_of}
@@ -34,14 +34,14 @@ file_of n t = mark ∷ sheet_mark ∷ n ∷ size_of t % 256 ∷ size_of t / 256 
 -- what reading a block gives: the place after it and its tree, or the fault
 pub data Got : Type 0 where
   got : ℕ → Tree → Got
-  bad : Outcome → Got
+  bad : Refusal → Got
 
 -- the byte at a place is needed: absent it is 13 there
-abbrev pub needed : {A : Type 0} → List ℕ → ℕ → (Outcome → A) → A → A
+abbrev pub needed : {A : Type 0} → List ℕ → ℕ → (Refusal → A) → A → A
 needed s at refuse next = cond (leb (length s) at) (refuse (Absent at)) next
 
 -- it must be this mark byte
-abbrev pub marked : {A : Type 0} → List ℕ → ℕ → ℕ → (Outcome → A) → A → A
+abbrev pub marked : {A : Type 0} → List ℕ → ℕ → ℕ → (Refusal → A) → A → A
 marked s at byte refuse next = needed s at refuse (cond (eqb (get_or s at 0) byte) next (refuse (BadByte at)))
 
 -- a node record at a place, then, by its type, a leaf or what a fork gives
@@ -73,7 +73,7 @@ block_at s (suc l) at = record_at s at (four_at (block_at s l) (at + 3))
 -- what reading a whole file gives before the room is looked at: level and tree, or the fault
 pub data Opened : Type 0 where
   opened : ℕ → Tree → Opened
-  faulty : Outcome → Opened
+  faulty : Refusal → Opened
 
 -- after the block: the node count, then no byte left over
 abbrev pub closed : List ℕ → ℕ → Got → Opened
@@ -93,8 +93,8 @@ open_of s =
 
 -- reading: the answer is 8N + n; `words` is the length of the table that is lent
 abbrev pub read_to : Opened → ℕ → Outcome
-read_to (opened n t) words = and_then (room (6 * size_of t) words) (Answered (with_level (size_of t) n))
-read_to (faulty o) words = o
+read_to (opened n t) words = and_then (room (6 * size_of t) words) (Ok (with_level (size_of t) n))
+read_to (faulty o) words = Err o
 
 unfoldable pub read_of : List ℕ → ℕ → Outcome
 read_of s words = read_to (open_of s) words
@@ -109,7 +109,7 @@ read_table s old = cond (answers (read_of s (length old))) (table_of (open_of s)
 
 -- writing: refusals 1, 2, 3, 4, 5, 9; the answer is the length; `bytes` is the length of the file that is lent
 unfoldable pub write_of : ℕ → List ℕ → ℕ → Outcome
-write_of n T bytes = and_then (check_of n T) (and_then (room (5 + 3 * nodes T) bytes) (Answered (5 + 3 * nodes T)))
+write_of n T bytes = and_then (check_of n T) (and_then (room (5 + 3 * nodes T) bytes) (Ok (5 + 3 * nodes T)))
 
 -- the file as writing leaves it
 unfoldable pub written_file : ℕ → List ℕ → List ℕ → List ℕ

@@ -1,8 +1,6 @@
 // The sheet file: what reading and writing give; one file for each picture.
 #![tactic(auto)]
 
-use answer::Outcome;
-
 // Every record stands after a two-byte mark: 51, and 53 before the header or 4E before a node's type.
 pub const MARK: u8 = 81;
 
@@ -10,18 +8,16 @@ pub const SHEET: u8 = 83;
 
 pub const NODE: u8 = 78;
 
-// What reading a block, or four blocks, gives.
+// A block, or four blocks, that was read: the place after it, and its root's type.
 #[derive(Clone, Copy)]
-pub enum Block {
-    // The place after it, and its root's type.
-    Read(u32, usize),
-    // The first fault.
-    Bad(Outcome),
+pub struct Block {
+    pub next: u32,
+    pub kind: usize,
 }
 
-// What reading a whole file gives, before the room for its table is looked at.
+// A whole file that was read, before the room for its table is looked at: its level and its node count.
 #[derive(Clone, Copy)]
-pub enum Contents {
-    Sheet { level: u32, count: u32 },
-    Faulty { outcome: Outcome },
+pub struct Contents {
+    pub level: u32,
+    pub count: u32,
 }

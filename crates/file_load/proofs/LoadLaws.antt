@@ -1,18 +1,16 @@
 -- The programs' read is sheet_read's but for a sheet that is too large; what it loads is an accepted sheet; and it has
 -- no second outcome.
+use Rattle.std.specs.Prelude.{Ok, Err}
 use mathlib.Core.Bool.{Bool, true, false, true≢false}
 use mathlib.Core.List.{List}
 use mathlib.Core.Path.{◌≡◌, refl, ap, sym, ◌∙◌}
-use Prim.Native.Nat.{ℕ, ◌*◌, ◌≤◌, ◌<◌}
+use Prim.Native.Nat.{ℕ, ◌*◌, ◌≤◌}
 use native.Mathlib.Omega.{arith}
-use lib.Dec.{leb}
 use lib.ListN.{length, get_or, take, replicate}
 use lib.Seq.{take-append_seam}
-use borrow.Author.Tests.{le-leb, lt-leb, eq-eqb}
-use Rattle.answer.specs.declared.Outcome.{Outcome}
-use Rattle.answer.specs.declared.Outcome.TheVariants.{Answered, TooLarge}
-use Rattle.answer.specs.Numbers.{node_in, level_in, answers}
-use Rattle.quad.specs.Numbers.{top_level, none}
+use Rattle.answer.specs.declared.Refusal.TheVariants.{TooLarge}
+use Rattle.answer.specs.Numbers.{Outcome, node_in, level_in, answers}
+use Rattle.quad.specs.Numbers.{none}
 use Rattle.quad.specs.Tree.{size_of, same_leaf}
 use Rattle.base.specs.Tab.{overlay}
 use Rattle.base.proofs.CaseLaws.{cond_case}
@@ -21,28 +19,15 @@ use Rattle.table.specs.Preorder.{preorder, preorder_table}
 use Rattle.table.specs.SheetA.{table_a, file_a}
 use Rattle.table.proofs.PreorderAccepted.{preorder_accepted}
 use Rattle.table.proofs.PreorderLaws.{preorder_length}
-use Rattle.file.specs.File.{mark, sheet_mark, block_at, open_of, read_of, read_table}
+use Rattle.file.specs.File.{block_at, open_of, read_of, read_table}
 use Rattle.file.specs.Calls.{Reads}
 use Rattle.file.proofs.FaultLaws.{Answers, read_answered, read_length}
 use Rattle.file.proofs.OneFile.{opens}
 use Rattle.file.proofs.RoundTrip.{read_leaves}
-use Rattle.file_load.specs.Load.{too_large, load_of, loaded_table, printed_level, Loads}
-
--- the last test, with the level as the call gave it
-pub last_test : (s : List ℕ) (level : ℕ) → 2 < length s → get_or s 0 0 ≡ mark → get_or s 1 0 ≡ sheet_mark → level ≡ get_or s 2 0 → printed_level < level
-    → leb level top_level ≡ too_large s
-unfolding too_large
-last_test s level h m k e p =
-    rw (too_large, lt-leb (length s) 2 h, eq-eqb (get_or s 0 0) mark m, eq-eqb (get_or s 1 0) sheet_mark k, ← e, lt-leb level printed_level p)
-
-pub too_small : (s : List ℕ) (level : ℕ) → 2 < length s → get_or s 0 0 ≡ mark → get_or s 1 0 ≡ sheet_mark → level ≡ get_or s 2 0 → level ≤ printed_level
-    → false ≡ too_large s
-unfolding too_large
-too_small s level h m k e p =
-    rw (too_large, lt-leb (length s) 2 h, eq-eqb (get_or s 0 0) mark m, eq-eqb (get_or s 1 0) sheet_mark k, ← e, le-leb level printed_level p)
+use Rattle.file_load.specs.Load.{too_large, load_of, loaded_table, Loads}
 
 module _ (s before : List ℕ) (u : Bool) (e : u ≡ too_large s) where
-  pub load_large : u ≡ true → Loads s before (TooLarge 2) before
+  pub load_large : u ≡ true → Loads s before (Err (TooLarge 2)) before
   unfolding load_of loaded_table
   load_large h = record { answer = rw (load_of, ← e, h); table = rw (loaded_table, ← e, h) }
 
@@ -51,19 +36,19 @@ module _ (s before : List ℕ) (u : Bool) (e : u ≡ too_large s) where
   load_read r after h reads = record { answer = rw (load_of, ← e, h) reads.answer; table = rw (loaded_table, ← e, h) reads.table }
 
 -- an answer is the file reader's, so its nodes fit
-not_large : (s : List ℕ) (words v : ℕ) → load_of s words ≡ Answered v → too_large s ≡ false
+not_large : (s : List ℕ) (words v : ℕ) → load_of s words ≡ Ok v → too_large s ≡ false
 unfolding load_of
 not_large s words v h = go (too_large s) refl
   where
     go : (b : Bool) → too_large s ≡ b → too_large s ≡ false
-    go true e = absurd (let z : ◌≡◌ {A = ℕ} 0 1 = (let f : TooLarge 2 ≡ Answered v = rw (load_of, e) at h in cc) in omega arith)
+    go true e = absurd (let z : ◌≡◌ {A = ℕ} 0 1 = (let f : Err (TooLarge 2) ≡ Ok v = rw (load_of, e) at h in cc) in omega arith)
     go false e = e
 
-pub load_answers : (s : List ℕ) (words v : ℕ) → load_of s words ≡ Answered v → Answers s words v
+pub load_answers : (s : List ℕ) (words v : ℕ) → load_of s words ≡ Ok v → Answers s words v
 unfolding load_of
 load_answers s words v h = read_answered s words v (rw (load_of, not_large s words v h) at h)
 
-pub loaded_fits : (s before after : List ℕ) (r : Outcome) (v : ℕ) → Loads s before r after → r ≡ Answered v → 6 * node_in v ≤ length before
+pub loaded_fits : (s before after : List ℕ) (r : Outcome) (v : ℕ) → Loads s before r after → r ≡ Ok v → 6 * node_in v ≤ length before
 loaded_fits s before after r v l e =
     let a = load_answers s (length before) v (sym l.answer ∙ e) in
     omega (arith, a.value, a.low, a.fits)
@@ -74,7 +59,7 @@ loaded_length s before after r l =
     ap length l.table ∙ cond_case (λ (t : List ℕ). length t ≡ length before) (too_large s) before (read_table s before) (λ e. refl) (λ e. read_length s before)
 
 -- the words of the nodes loaded are an accepted sheet of the level loaded
-pub loaded_accepted : (s before after : List ℕ) (r : Outcome) (v : ℕ) → Loads s before r after → r ≡ Answered v → Accepted (level_in v) (take (6 * node_in v) after)
+pub loaded_accepted : (s before after : List ℕ) (r : Outcome) (v : ℕ) → Loads s before r after → r ≡ Ok v → Accepted (level_in v) (take (6 * node_in v) after)
 unfolding loaded_table
 loaded_accepted s before after r v l e =
     let h = sym l.answer ∙ e in
@@ -97,7 +82,7 @@ one_load s before r q after final a b = (a.answer ∙ sym b.answer, a.table ∙ 
 abbrev zeros : List ℕ
 zeros = replicate 54 0
 
-loads-A : load_of file_a 54 ≡ Answered 74
+loads-A : load_of file_a 54 ≡ Ok 74
 unfolding load_of too_large read_of open_of block_at size_of same_leaf
 loads-A = refl
 

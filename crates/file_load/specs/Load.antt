@@ -1,8 +1,8 @@
 -- The programs' read (document 01, 'Sheet A': "Code 15 comes straight after the test of n"): a file as sheet_read takes
 -- it, but a level above the highest printed is code 15.
-use Rattle.std.specs.Prelude.{Bool, false, cond, List, ◌≡◌, ℕ, eqb, leb, length, get_or}
-use Rattle.answer.specs.declared.Outcome.{Outcome}
-use Rattle.answer.specs.declared.Outcome.TheVariants.{TooLarge}
+use Rattle.std.specs.Prelude.{Err, Bool, false, cond, List, ◌≡◌, ℕ, eqb, leb, length, get_or}
+use Rattle.answer.specs.Numbers.{Outcome}
+use Rattle.answer.specs.declared.Refusal.TheVariants.{TooLarge}
 use Rattle.quad.specs.Numbers.{top_level}
 use Rattle.file.specs.File.{mark, sheet_mark, read_of, read_table}
 
@@ -21,7 +21,7 @@ too_large s =
     false)
 
 unfoldable pub load_of : List ℕ → ℕ → Outcome
-load_of s words = cond (too_large s) (TooLarge 2) (read_of s words)
+load_of s words = cond (too_large s) (Err (TooLarge 2)) (read_of s words)
 
 unfoldable pub loaded_table : List ℕ → List ℕ → List ℕ
 loaded_table s old = cond (too_large s) old (read_table s old)

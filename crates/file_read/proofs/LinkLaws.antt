@@ -1,10 +1,10 @@
 -- The second pass: a block that was read is a leaf, or a fork over four blocks whose records follow; each of these may
 -- be linked in its turn.
-use mathlib.Core.List.{List, ◌++◌}
+use mathlib.Core.List.{List, [], ◌++◌}
 use mathlib.Core.Path.{◌≡◌, refl, ap, sym, ◌∙◌}
 use Prim.Native.Nat.{ℕ, zero, suc, ◌+◌, ◌-◌, ◌*◌, ◌≤◌, ◌<◌}
 use native.Mathlib.Omega.{arith}
-use lib.ListN.{length, get_or, set}
+use lib.ListN.{length, get_or, set, length-append}
 use lib.Seq.{sets}
 use Rattle.base.proofs.SetsLaws.{sets_behind}
 use Rattle.quad.specs.Numbers.{fork_type, top_colour, max_words}
@@ -163,6 +163,47 @@ pub record Pixels (s : List ℕ) (p a b c d : ℕ) (t : Tree) : Type 0 where
   pub sw : c ≤ top_colour
   pub se : d ≤ top_colour
 
+-- the type byte of pixel q of a fork at node p, and the words of the pixels before it
+pub pixel_byte : List ℕ → ℕ → ℕ → ℕ
+pixel_byte s p q = get_or s (record_place (p + 1 + q) + 2) 0
+
+pub pixel_words : List ℕ → ℕ → ℕ → List ℕ
+pixel_words s p zero = []
+pixel_words s p (suc q) = pixel_words s p q ++ leaf_words p (pixel_byte s p q)
+
+pixel_length : (s : List ℕ) (p q : ℕ) → length (pixel_words s p q) ≡ 6 * q
+unfolding pixel_words
+pixel_length s p zero = refl
+pixel_length s p (suc q) = length-append (pixel_words s p q) _ ∙ omega (arith, pixel_length s p q)
+
+-- a fork over four pixels was written over the words `before`, with its pixels before node `next`
+pub record PixelsPut (s : List ℕ) (p f next : ℕ) (before after : List ℕ) : Type 0 where
+  pub from : p + 1 ≤ next
+  pub to : next ≤ p + 5
+  pub words : after ≡ sets before (6 * p) (node_words f (p + 1) (p + 2) (p + 3) (p + 4) fork_type ++ pixel_words s p (next - (p + 1)))
+
+pub none_of_pixels : {s : List ℕ} {p f : ℕ} {w w' : List ℕ} → w' ≡ sets w (6 * p) (node_words f (p + 1) (p + 2) (p + 3) (p + 4) fork_type) → PixelsPut s p f (p + 1) w w'
+unfolding pixel_words
+none_of_pixels {s} {p} e =
+    let z : p + 1 - (p + 1) ≡ 0 = omega arith in
+    record { from = omega arith; to = omega arith; words = rw z e }
+
+pub pixel_put : {s : List ℕ} {p f next k : ℕ} {w w₁ w₂ : List ℕ} → PixelsPut s p f next w w₁ → next < p + 5 → k ≡ get_or s (record_place next + 2) 0
+    → w₂ ≡ sets w₁ (6 * next) (leaf_words p k) → PixelsPut s p f (next + 1) w w₂
+unfolding pixel_words pixel_byte
+pixel_put {s} {p} {f} {next} {k} {w} {w₁} {w₂} put lt ek e =
+    let q : ℕ = next - (p + 1) in
+    let own : List ℕ = node_words f (p + 1) (p + 2) (p + 3) (p + 4) fork_type in
+    let more : next + 1 - (p + 1) ≡ suc q = omega (arith, put.from) in
+    let here : p + 1 + q ≡ next = omega (arith, put.from) in
+    let behind : w₂ ≡ sets w (6 * p) ((own ++ pixel_words s p q) ++ leaf_words p k) =
+    sets_behind w w₁ w₂ (6 * p) (6 * next) (own ++ pixel_words s p q) (leaf_words p k) put.words e (omega (arith, pixel_length s p q, put.from)) in
+    record { from = omega (arith, put.from); to = omega arith; words = rw (more, here, ← ek) behind }
+
+pixel_kind : (s : List ℕ) (p q i : ℕ) → p + 1 + q ≡ i → pixel_byte s p q ≡ get_or s (record_place i + 2) 0
+unfolding pixel_byte
+pixel_kind s p q i e = ap (λ (j : ℕ). get_or s (record_place j + 2) 0) e
+
 module _ {s : List ℕ} {p words : ℕ} (k : ForkToLink s 1 p words) where
   pub pixels : {a b c d : ℕ} → a ≡ get_or s (record_place (p + 1) + 2) 0 → b ≡ get_or s (record_place (p + 1 + 1) + 2) 0 → c ≡ get_or s (record_place (p + 1 + 1 + 1) + 2) 0
       → d ≡ get_or s (record_place (p + 1 + 1 + 1 + 1) + 2) 0 → Pixels s p a b c d (tree_on s 1 p)
@@ -188,20 +229,15 @@ module _ {s : List ℕ} {p words : ℕ} (k : ForkToLink s 1 p words) where
   pub pixels_few : p + 5 ≤ max_words
   pixels_few = omega (arith, k.block.ready.few, five)
 
-  pub pixels_linked : {f a b c d : ℕ} {w w₀ w₁ w₂ w₃ w₄ : List ℕ} → a ≡ get_or s (record_place (p + 1) + 2) 0 → b ≡ get_or s (record_place (p + 1 + 1) + 2) 0
-      → c ≡ get_or s (record_place (p + 1 + 1 + 1) + 2) 0 → d ≡ get_or s (record_place (p + 1 + 1 + 1 + 1) + 2) 0
-      → w₀ ≡ sets w (6 * p) (node_words f (p + 1) (p + 1 + 1) (p + 1 + 1 + 1) (p + 1 + 1 + 1 + 1) fork_type)
-      → w₁ ≡ sets w₀ (6 * (p + 1)) (leaf_words p a) → w₂ ≡ sets w₁ (6 * (p + 1 + 1)) (leaf_words p b)
-      → w₃ ≡ sets w₂ (6 * (p + 1 + 1 + 1)) (leaf_words p c) → w₄ ≡ sets w₃ (6 * (p + 1 + 1 + 1 + 1)) (leaf_words p d)
-      → Linked (tree_in (block_at s 1 (record_place p))) f p w w₄ (p + 1 + 1 + 1 + 1 + 1)
-  unfolding size_of preorder
-  pixels_linked {f} {a} {b} {c} {d} {w} {w₀} {w₁} {w₂} {w₃} {w₄} ea eb ec ed e₀ e₁ e₂ e₃ e₄ =
-      let own : List ℕ = node_words f (p + 1) (p + 1 + 1) (p + 1 + 1 + 1) (p + 1 + 1 + 1 + 1) fork_type in
-      let nw : List ℕ = own ++ preorder p (p + 1) (leaf a) in
-      let ne : List ℕ = nw ++ preorder p (p + 1 + 1) (leaf b) in
-      let sw : List ℕ = ne ++ preorder p (p + 1 + 1 + 1) (leaf c) in
-      let h₁ = sets_behind w w₀ w₁ (6 * p) (6 * (p + 1)) own (preorder p (p + 1) (leaf a)) e₀ e₁ (omega arith) in
-      let h₂ = sets_behind w w₁ w₂ (6 * p) (6 * (p + 1 + 1)) nw (preorder p (p + 1 + 1) (leaf b)) h₁ e₂ (omega arith) in
-      let h₃ = sets_behind w w₂ w₃ (6 * p) (6 * (p + 1 + 1 + 1)) ne (preorder p (p + 1 + 1 + 1) (leaf c)) h₂ e₃ (omega arith) in
-      let h₄ = sets_behind w w₃ w₄ (6 * p) (6 * (p + 1 + 1 + 1 + 1)) sw (preorder p (p + 1 + 1 + 1 + 1) (leaf d)) h₃ e₄ (omega arith) in
-      rw (pixels ea eb ec ed).is (record { next = omega arith; words = h₄ })
+  -- all four of its pixels are put
+  pub pixels_linked : {f next : ℕ} {w w' : List ℕ} → PixelsPut s p f next w w' → p + 5 ≤ next → Linked (tree_in (block_at s 1 (record_place p))) f p w w' (p + 5)
+  unfolding size_of preorder pixel_words
+  pixels_linked {f} {next} {w} {w'} put h =
+      let t = pixels {a = pixel_byte s p 0} {b = pixel_byte s p 1} {c = pixel_byte s p 2} {d = pixel_byte s p 3} (pixel_kind s p 0 (p + 1) (omega arith)) (pixel_kind s p 1 (p + 1 + 1) (omega arith))
+      (pixel_kind s p 2 (p + 1 + 1 + 1) (omega arith)) (pixel_kind s p 3 (p + 1 + 1 + 1 + 1) (omega arith)) in
+      let four : next - (p + 1) ≡ 4 = omega (arith, put.to) in
+      let e₂ : p + 2 ≡ p + 1 + 1 = omega arith in
+      let e₃ : p + 3 ≡ p + 1 + 1 + 1 = omega arith in
+      let e₄ : p + 4 ≡ p + 1 + 1 + 1 + 1 = omega arith in
+      let words : w' ≡ sets w (6 * p) (node_words f (p + 1) (p + 1 + 1) (p + 1 + 1 + 1) (p + 1 + 1 + 1 + 1) fork_type ++ pixel_words s p 4) = rw (four, e₂, e₃, e₄) at put.words in
+      rw t.is (record { next = omega arith; words = words })

@@ -8,31 +8,23 @@ ghost use Rattle.file.specs.Calls.{Reads};
 ghost use Rattle.file.specs.Reading.{contents_of};
 ghost use Rattle.file.specs.Linking.{record_place, tree_in, Ready, Linked};
 
-use answer::Outcome;
-use file::{Block, Contents};
+use answer::{Outcome, Refusal};
+use file::Contents;
 use file_scan::{scan_root, type_at};
 use file_tell::{close, read_block, read_header};
 use table_node::{put_leaf, put_node};
 
 // The first pass: level and node count, or the first fault. It writes nothing. A sound file is read by a faster way,
 // and only one that is not is read again for its fault.
-fn survey(file: &[u8]) -> Contents
+fn survey(file: &[u8]) -> Result<Contents, Refusal>
     ensures { result ≡ contents_of (open_of file.now) }
 {
-    let header = read_header(file);
-    if !answer::answered(header) {
-        return Contents::Faulty { outcome: header };
-    }
-    let level = answer::value(header);
-    let end = scan_root(file, level);
-    if end != 0 {
+    let level = read_header(file)?;
+    if let Some(end) = scan_root(file, level) {
         return close(file, level, end as u32);
     }
-    let root = read_block(file, level, 5);
-    match root {
-        Block::Bad(outcome) => Contents::Faulty { outcome },
-        Block::Read(next, _) => close(file, level, next),
-    }
+    let block = read_block(file, level, 5)?;
+    close(file, level, block.next)
 }
 
 // The type of node p, which is record p of the file.
@@ -48,20 +40,20 @@ fn link_pixels(file: &[u8], table: &mut [u32], p: u32, father: u32) -> u32
     requires { Ready file.now 1 p (length table.old) × (get_or file.now (record_place p + 2) 0 ≡ fork_type) }
     ensures { Linked (tree_in (block_at file.now 1 (record_place p))) father p table.old table.new result }
 {
-    let nw = p + 1;
-    let ne = nw + 1;
-    let sw = ne + 1;
-    let se = sw + 1;
-    let kind_nw = type_of(file, nw);
-    let kind_ne = type_of(file, ne);
-    let kind_sw = type_of(file, sw);
-    let kind_se = type_of(file, se);
-    put_node(table, p as usize, father, nw, ne, sw, se, quad::FORK as u32);
-    put_leaf(table, nw as usize, p, kind_nw as u32);
-    put_leaf(table, ne as usize, p, kind_ne as u32);
-    put_leaf(table, sw as usize, p, kind_sw as u32);
-    put_leaf(table, se as usize, p, kind_se as u32);
-    se + 1
+    put_node(
+        table,
+        p as usize,
+        father,
+        p + 1,
+        p + 2,
+        p + 3,
+        p + 4,
+        quad::FORK as u32,
+    );
+    for son in p + 1..p + 5 {
+        put_leaf(table, son as usize, p, type_of(file, son) as u32);
+    }
+    p + 5
 }
 
 // The second pass, for a fork: its nodes from p on, in preorder, and the next node. Each son's number is written before
@@ -75,10 +67,8 @@ fn link_fork(file: &&[u8], level: u32, table: &mut [u32], p: u32, father: u32) -
     let own = 6 * (p as usize);
     table[own] = father;
     let mut next = p + 1;
-    let mut q = 0;
-    while q < 4 {
+    for q in 0..4 {
         table[own + 1 + q] = next;
-        q += 1;
         let kind = type_of(*file, next);
         if kind == quad::FORK {
             if level == 2 {
@@ -112,18 +102,11 @@ fn link_block(file: &[u8], level: u32, table: &mut [u32], p: u32, father: u32) -
 pub fn read(file: &[u8], table: &mut [u32]) -> Outcome
     ensures { Reads file.now table.old result table.new }
 {
-    let contents = survey(file);
-    match contents {
-        Contents::Faulty { outcome } => outcome,
-        Contents::Sheet { level, count } => {
-            let words = 6 * count;
-            if table.len() < words as usize {
-                return Outcome::NoRoom { needed: words };
-            }
-            link_block(file, level, table, 0, quad::NONE as u32);
-            Outcome::Answered {
-                value: answer::with_level(count, level),
-            }
-        }
+    let Contents { level, count } = survey(file)?;
+    let words = 6 * count;
+    if table.len() < words as usize {
+        return Err(Refusal::NoRoom { needed: words });
     }
+    link_block(file, level, table, 0, quad::NONE as u32);
+    Ok(answer::with_level(count, level))
 }

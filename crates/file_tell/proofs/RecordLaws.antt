@@ -1,26 +1,69 @@
--- A node record and its marks: what the code's tests say of the definitions, byte by byte.
-use mathlib.Core.Path.{◌≡◌}
-use mathlib.Core.Bool.{Bool, true, false, not, cond}
-use Prim.Native.Nat.{ℕ}
-use Rattle.base.proofs.BoolLaws.{on, off}
-use Rattle.answer.specs.declared.Outcome.{Outcome}
-use Rattle.answer.specs.Numbers.{answers}
-use Rattle.file.specs.declared.Block.{Block}
-use Rattle.file.specs.declared.Block.TheVariants.{Read, Bad}
-use Rattle.quad.specs.Numbers.{is_type}
+-- A byte and the two marks: what a call told of them, and what the definitions say then.
+use Rattle.std.specs.Prelude.{Result, Ok, Err}
+use Rattle.std.specs.Result.{IsErr, IsErrAnd}
+use Rattle.std.proofs.lemmas.Result.{err_from_is_err_and}
+use mathlib.Core.Bool.{Bool, true, false}
+use mathlib.Core.List.{List}
+use mathlib.Core.Path.{◌≡◌, refl, sym}
+use Prim.Native.Nat.{ℕ, ◌+◌}
+use native.Mathlib.Omega.{arith}
+use lib.Dec.{eqb, leb}
+use lib.ListN.{length, get_or}
+use Rattle.base.proofs.CaseLaws.{cond_map, at_eq, at_ne}
+use Rattle.answer.specs.declared.Refusal.{Refusal}
+use Rattle.answer.specs.declared.Refusal.TheVariants.{Absent, BadByte}
+use Rattle.file.specs.File.{mark, needed, marked}
+use Rattle.file.specs.Reading.{byte_of, marks_of}
 
--- the marks were tested by a call, which refused, or did not
-module _ (o s : Outcome) (next : Block) (u : Bool) (e : s ≡ o) (a : u ≡ answers s) where
-  pub marks_stop : not u ≡ true → Bad s ≡ cond (answers o) next (Bad o)
-  marks_stop h = rw (← e, off u (answers s) a h)
+-- what `?` gives back
+pub back : {A : Type 0} (r : Result A Refusal) (e : Refusal) → IsErr r × IsErrAnd r (λ x. x ≡ e) → r ≡ Err e
+back r e h =
+    let p = err_from_is_err_and r h.1 in
+    rw (p.1, p.2) refl
 
-  pub marks_go : (r : Block) → not u ≡ false → r ≡ next → r ≡ cond (answers o) next (Bad o)
-  marks_go r h f = rw (← e, on u (answers s) a h) f
+module _ {A : Type 0} (s : List ℕ) (at : ℕ) where
+  -- a byte was needed
+  pub byte_err : (next : Result A Refusal) (e : Refusal) → Err e ≡ byte_of s at → Err e ≡ needed s at Err next
+  byte_err next e h = go (leb (length s) at) refl
+    where
+      go : (t : Bool) → leb (length s) at ≡ t → Err e ≡ needed s at Err next
+      go true f =
+          let g : ◌≡◌ {A = Result ℕ Refusal} (Err e) (Err (Absent at)) = rw f at h in
+          rw f (cc)
+      go false f = absurd (let z : ◌≡◌ {A = ℕ} 0 1 = (let g : ◌≡◌ {A = Result ℕ Refusal} (Err e) (Ok (get_or s at 0)) = rw f at h in cc) in omega arith)
 
--- the type byte b was read as k, and tested by a call
-module _ (b k : ℕ) (u : Bool) (e : k ≡ b) (a : u ≡ is_type k) where
-  pub kind_stop : (r x y : Block) → not u ≡ true → r ≡ y → r ≡ cond (is_type b) x y
-  kind_stop r x y h f = rw (← e, off u (is_type k) a h) f
+  pub byte_ok : (next r : Result A Refusal) (b : ℕ) → Ok b ≡ byte_of s at → (b ≡ get_or s at 0 → r ≡ next) → r ≡ needed s at Err next
+  byte_ok next r b h go_on = go (leb (length s) at) refl
+    where
+      go : (t : Bool) → leb (length s) at ≡ t → r ≡ needed s at Err next
+      go true f = absurd (let z : ◌≡◌ {A = ℕ} 0 1 = (let g : ◌≡◌ {A = Result ℕ Refusal} (Ok b) (Err (Absent at)) = rw f at h in cc) in omega arith)
+      go false f =
+          let g : ◌≡◌ {A = Result ℕ Refusal} (Ok b) (Ok (get_or s at 0)) = rw f at h in
+          rw f (go_on (cc))
 
-  pub kind_go : (i : ℕ) (y : Block) → not u ≡ false → Read i k ≡ cond (is_type b) (Read i b) y
-  kind_go i y h = rw (← e, on u (is_type k) a h)
+  -- and it was to be a mark
+  pub mark_wrong : (byte b : ℕ) (next : Result A Refusal) → Ok b ≡ byte_of s at → (b ≡ byte → ⊥) → Err (BadByte at) ≡ marked s at byte Err next
+  mark_wrong byte b next h ne = byte_ok _ _ b h (λ e. at_ne (get_or s at 0) byte (Err (BadByte at)) next (Err (BadByte at)) (rw e at ne) refl)
+
+  pub mark_right : (byte b : ℕ) (next r : Result A Refusal) → Ok b ≡ byte_of s at → b ≡ byte → r ≡ next → r ≡ marked s at byte Err next
+  mark_right byte b next r h is g = byte_ok _ r b h (λ e. at_eq (get_or s at 0) byte r next (Err (BadByte at)) (rw e at is) g)
+
+  -- two mark bytes, one tested after the other, were tested as one
+  abbrev behind : Result A Refusal → Result (Unit {0}) Refusal → Result A Refusal
+  behind next (Ok u) = next
+  behind next (Err e) = Err e
+
+  marks_by : (second : ℕ) (next : Result A Refusal) → marked s at mark Err (marked s (at + 1) second Err next) ≡ behind next (marks_of s at second)
+  unfolding marks_of
+  marks_by second next =
+      let f : Result (Unit {0}) Refusal → Result A Refusal = behind next in
+      sym (cond_map f (leb (length s) at) _ _ _ _ refl
+      (cond_map f (eqb (get_or s at 0) mark) _ _ _ _
+      (cond_map f (leb (length s) (at + 1)) _ _ _ _ refl (cond_map f (eqb (get_or s (at + 1) 0) second) _ _ _ _ refl refl))
+      refl))
+
+  pub marks_err : (second : ℕ) (next : Result A Refusal) (e : Refusal) → Err e ≡ marks_of s at second → Err e ≡ marked s at mark Err (marked s (at + 1) second Err next)
+  marks_err second next e h = rw (marks_by second next, ← h)
+
+  pub marks_ok : (second : ℕ) (next r : Result A Refusal) (u : Unit {0}) → Ok u ≡ marks_of s at second → r ≡ next → r ≡ marked s at mark Err (marked s (at + 1) second Err next)
+  marks_ok second next r u h g = rw (marks_by second next, ← h) g

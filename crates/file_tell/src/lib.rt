@@ -3,124 +3,94 @@
 
 ghost use Rattle.std.specs.Prelude.{◌≡◌, ◌+◌, ◌<◌, ◌≤◌, length};
 ghost use Rattle.file.specs.File.{block_at, four_at};
-ghost use Rattle.file.specs.Reading.{marks_of, record_of, told, Reaches, FourReach, header_of, count_of, closing_of};
+ghost use Rattle.file.specs.Reading.{byte_of, marks_of, record_of, told, Reaches, FourReach, header_of, count_of, closing_of};
 
-use answer::Outcome;
+use answer::{Outcome, Refusal};
 use file::{Block, Contents, MARK, NODE, SHEET};
 
-// The two mark bytes at a place: the first fault, or an answer.
-fn marks(file: &[u8], at: u32, second: u8) -> Outcome
+// The byte at a place, where it is there.
+fn byte_at(file: &[u8], at: u32) -> Result<u8, Refusal>
+    ensures { result ≡ byte_of file.now at }
+{
+    file.get(at as usize)
+        .copied()
+        .ok_or(Refusal::Absent { place: at })
+}
+
+// The two mark bytes at a place, or the first fault.
+fn marks(file: &[u8], at: u32, second: u8) -> Result<(), Refusal>
     requires { at + 1 < 4294967296 }
     ensures { result ≡ marks_of file.now at second }
 {
-    let first_at = at as usize;
-    if file.len() <= first_at {
-        return Outcome::Absent { place: at };
+    if byte_at(file, at)? != MARK {
+        return Err(Refusal::BadByte { place: at });
     }
-    if file[first_at] != MARK {
-        return Outcome::BadByte { place: at };
+    if byte_at(file, at + 1)? != second {
+        return Err(Refusal::BadByte { place: at + 1 });
     }
-    let next = at + 1;
-    let second_at = next as usize;
-    if file.len() <= second_at {
-        return Outcome::Absent { place: next };
-    }
-    if file[second_at] != second {
-        return Outcome::BadByte { place: next };
-    }
-    Outcome::Answered { value: 0 }
+    Ok(())
 }
 
 // A node record: the place after it and its type, or the first fault.
-fn read_record(file: &[u8], at: u32) -> Block
+fn read_record(file: &[u8], at: u32) -> Result<Block, Refusal>
     requires { at + 3 < 4294967296 }
     ensures { result ≡ record_of file.now at }
 {
-    let outcome = marks(file, at, NODE);
-    if !answer::answered(outcome) {
-        return Block::Bad(outcome);
-    }
-    let place = at + 2;
-    let type_at = place as usize;
-    if file.len() <= type_at {
-        return Block::Bad(Outcome::Absent { place });
-    }
-    let kind = quad::wide(file[type_at]);
+    marks(file, at, NODE)?;
+    let kind = quad::wide(byte_at(file, at + 2)?);
     if !quad::is_type(kind) {
-        return Block::Bad(Outcome::BadByte { place });
+        return Err(Refusal::BadByte { place: at + 2 });
     }
-    Block::Read(at + 3, kind)
+    Ok(Block { next: at + 3, kind })
 }
 
 // A block: a leaf record, or a fork record followed by four blocks.
 #[cycle(read_block_read_four)]
-pub fn read_block(file: &[u8], level: u32, at: u32) -> Block
+pub fn read_block(file: &[u8], level: u32, at: u32) -> Result<Block, Refusal>
     requires { Reaches level at }
     ensures { result ≡ told (block_at file.now level at) }
 {
-    let root = read_record(file, at);
-    let Block::Read(next, kind) = root else {
-        return root;
-    };
-    if kind != quad::FORK {
-        return root;
+    let root = read_record(file, at)?;
+    if root.kind != quad::FORK {
+        return Ok(root);
     }
     if level == 0 {
-        return Block::Bad(Outcome::TooDeep { at: at + 2 });
+        return Err(Refusal::TooDeep { at: at + 2 });
     }
-    read_four(file, level - 1, next)
+    read_four(file, level - 1, root.next)
 }
 
 // Four blocks, one after the other.
 #[cycle(read_block_read_four)]
-fn read_four(file: &[u8], level: u32, at: u32) -> Block
+fn read_four(file: &[u8], level: u32, at: u32) -> Result<Block, Refusal>
     requires { FourReach level at }
     ensures { result ≡ told (four_at (block_at file.now level) at) }
 {
-    let nw = read_block(file, level, at);
-    let Block::Read(at_ne, kind_nw) = nw else {
-        return nw;
-    };
-    let ne = read_block(file, level, at_ne);
-    let Block::Read(at_sw, kind_ne) = ne else {
-        return ne;
-    };
-    let sw = read_block(file, level, at_sw);
-    let Block::Read(at_se, kind_sw) = sw else {
-        return sw;
-    };
-    let se = read_block(file, level, at_se);
-    let Block::Read(next, kind_se) = se else {
-        return se;
-    };
-    if quad::like_leaves(kind_nw, kind_ne, kind_sw, kind_se) {
-        return Block::Bad(Outcome::NeedlessFork { at: at_se + 2 });
+    let nw = read_block(file, level, at)?;
+    let ne = read_block(file, level, nw.next)?;
+    let sw = read_block(file, level, ne.next)?;
+    let se = read_block(file, level, sw.next)?;
+    if quad::like_leaves(nw.kind, ne.kind, sw.kind, se.kind) {
+        return Err(Refusal::NeedlessFork { at: sw.next + 2 });
     }
-    Block::Read(next, quad::FORK)
+    Ok(Block {
+        next: se.next,
+        kind: quad::FORK,
+    })
 }
 
 // The header: its level as the answer, or the first fault.
 pub fn read_header(file: &[u8]) -> Outcome
     ensures { result ≡ header_of file.now }
 {
-    let marked = marks(file, 0, SHEET);
-    if !answer::answered(marked) {
-        return marked;
-    }
-    if file.len() <= 2 {
-        return Outcome::Absent { place: 2 };
-    }
-    let level = file[2] as u32;
+    marks(file, 0, SHEET)?;
+    let level = u32::from(byte_at(file, 2)?);
     if quad::TOP_LEVEL < level {
-        return Outcome::BadLevel { place: 2 };
+        return Err(Refusal::BadLevel { place: 2 });
     }
-    if file.len() <= 3 {
-        return Outcome::Absent { place: 3 };
-    }
-    if file.len() <= 4 {
-        return Outcome::Absent { place: 4 };
-    }
-    Outcome::Answered { value: level }
+    byte_at(file, 3)?;
+    byte_at(file, 4)?;
+    Ok(level)
 }
 
 // The node count that the header names.
@@ -128,27 +98,20 @@ fn header_count(file: &[u8]) -> u32
     requires { 5 ≤ length file.now }
     ensures { result ≡ count_of file.now }
 {
-    let low = file[3] as u32;
-    let high = file[4] as u32;
-    low + 256 * high
+    u32::from(u16::from_le_bytes([file[3], file[4]]))
 }
 
 // After the block, which ends before a place: the node count, then the bytes left over.
-pub fn close(file: &[u8], level: u32, at: u32) -> Contents
+pub fn close(file: &[u8], level: u32, at: u32) -> Result<Contents, Refusal>
     requires { (5 ≤ at) × (5 ≤ length file.now) }
     ensures { result ≡ closing_of file.now level at }
 {
     let count = (at - 5) / 3;
-    let named = header_count(file);
-    if named != count {
-        return Contents::Faulty {
-            outcome: Outcome::BadCount { place: 3 },
-        };
+    if header_count(file) != count {
+        return Err(Refusal::BadCount { place: 3 });
     }
     if (at as usize) < file.len() {
-        return Contents::Faulty {
-            outcome: Outcome::BadCount { place: at },
-        };
+        return Err(Refusal::BadCount { place: at });
     }
-    Contents::Sheet { level, count }
+    Ok(Contents { level, count })
 }

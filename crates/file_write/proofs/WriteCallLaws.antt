@@ -1,5 +1,6 @@
 -- The write call: what it answers and leaves in the file, by what the check gave.
-use mathlib.Core.Bool.{Bool, true, false, not}
+use Rattle.std.specs.Prelude.{Ok, Err}
+use mathlib.Core.Bool.{false}
 use mathlib.Core.List.{List, [], ◌∷◌, ◌++◌}
 use mathlib.Core.Path.{◌≡◌, refl, ap, sym, ◌∙◌}
 use Prim.Native.Nat.{ℕ, ◌+◌, ◌*◌, ◌/◌, ◌%◌, ◌≤◌, ◌<◌}
@@ -7,17 +8,17 @@ use native.Mathlib.Omega.{arith}
 use lib.ListN.{length}
 use lib.Seq.{sets, length-sets}
 use borrow.Author.Tests.{lt-ltb, le-ltb}
-use Rattle.base.proofs.BoolLaws.{off}
 use Rattle.base.proofs.SetsLaws.{sets_after, sets_overlay}
-use Rattle.answer.specs.declared.Outcome.{Outcome}
-use Rattle.answer.specs.declared.Outcome.TheVariants.{Answered, NoRoom}
-use Rattle.answer.specs.Numbers.{value_of, answers}
+use Rattle.answer.proofs.OutcomeLaws.{refusal_refuses}
+use Rattle.answer.specs.declared.Refusal.{Refusal}
+use Rattle.answer.specs.declared.Refusal.TheVariants.{NoRoom}
+use Rattle.answer.specs.Numbers.{answers}
 use Rattle.quad.specs.Numbers.{top_level, max_words}
 use Rattle.quad.specs.Tree.{Tree, size_of, types_of}
 use Rattle.table.specs.Table.{nodes}
 use Rattle.table.specs.Rules.{check_of, Accepted}
 use Rattle.table.specs.Nodes.{tree_at}
-use Rattle.table.proofs.CheckLaws.{check_accepted, accepted_call}
+use Rattle.table.proofs.CheckLaws.{check_accepted, accepted_ok}
 use Rattle.table.proofs.AcceptedLaws.{root_at}
 use Rattle.table.proofs.SizeLaws.{tree_size}
 use Rattle.file.specs.File.{mark, sheet_mark, records, file_of, write_of, written_file}
@@ -25,27 +26,29 @@ use Rattle.file.specs.Calls.{Writes}
 use Rattle.file.specs.Writing.{Writable, Wrote}
 use Rattle.file.proofs.WriteLaws.{types_bytes}
 
-module _ (n : ℕ) (T old : List ℕ) (s : Outcome) (u : Bool) (e : s ≡ check_of n T) (a : u ≡ answers s) where
-  pub writes_refused : not u ≡ true → Writes n T old s old
+module _ (n : ℕ) (T old : List ℕ) where
+  pub writes_refused : (e : Refusal) → Err e ≡ check_of n T → Writes n T old (Err e) old
   unfolding write_of written_file
-  writes_refused stop =
-      let f : answers (check_of n T) ≡ false = ap answers (sym e) ∙ off u (answers s) a stop in
-      record { answer = e ∙ rw f; file = rw (f, f) }
+  writes_refused e h =
+      let f : answers (check_of n T) ≡ false = rw (← h) (refusal_refuses e) in
+      record { answer = h ∙ rw f; file = rw (f, f) }
 
-  module _ (go : not u ≡ false) (count : ℕ) (v : count ≡ value_of s) where
+  module _ (count : ℕ) (ok : Ok count ≡ check_of n T) where
     acc : Accepted n T
-    acc = accepted_call n T s u e a go
+    acc = accepted_ok n T count ok
 
-    passes : check_of n T ≡ Answered (nodes T)
+    passes : check_of n T ≡ Ok (nodes T)
     passes = check_accepted n T acc
 
     count_is : nodes T ≡ count
-    count_is = sym (v ∙ ap value_of (e ∙ passes))
+    count_is =
+        let e : Ok (nodes T) ≡ Ok count = sym passes ∙ sym ok in
+        cc
 
     pub count_fits : (n ≤ top_level) × (6 * count ≤ max_words)
     count_fits = (acc.sized.level, omega (arith, acc.sized.few, acc.sized.whole, count_is))
 
-    pub writes_full : length old < 5 + 3 * count → Writes n T old (NoRoom (5 + 3 * count)) old
+    pub writes_full : length old < 5 + 3 * count → Writes n T old (Err (NoRoom (5 + 3 * count))) old
     unfolding write_of written_file
     writes_full lt = record {
       answer = rw (passes, count_is, lt-ltb (length old) (5 + 3 * count) lt);
@@ -70,7 +73,7 @@ module _ (n : ℕ) (T old : List ℕ) (s : Outcome) (u : Bool) (e : s ≡ check_
           room = omega (arith, same, size);
         }
 
-        pub writes_sheet : (after : List ℕ) (r : ℕ) → Wrote (tree_at T n 0) 5 w₀ after r → Writes n T old (Answered (5 + 3 * count)) after
+        pub writes_sheet : (after : List ℕ) (r : ℕ) → Wrote (tree_at T n 0) 5 w₀ after r → Writes n T old (Ok (5 + 3 * count)) after
         unfolding write_of written_file file_of
         writes_sheet after r h =
             let t : Tree = tree_at T n 0 in

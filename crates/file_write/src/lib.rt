@@ -9,7 +9,7 @@ ghost use Rattle.file.specs.File.{mark, sheet_mark, node_mark};
 ghost use Rattle.file.specs.Calls.{Writes};
 ghost use Rattle.file.specs.Writing.{Writable, OverPixels, Wrote};
 
-use answer::Outcome;
+use answer::{Outcome, Refusal};
 use file::{MARK, NODE, SHEET};
 
 // Writes the header: the level, and the node count in two bytes, low byte first.
@@ -18,11 +18,8 @@ fn put_header(file: &mut [u8], level: u32, count: u32)
     ensures { file.new ≡ sets file.old 0
         (mark ∷ sheet_mark ∷ level ∷ count % 256 ∷ count / 256 ∷ []) }
 {
-    file[0] = MARK;
-    file[1] = SHEET;
-    file[2] = level as u8;
-    file[3] = (count % 256) as u8;
-    file[4] = (count / 256) as u8;
+    let [low, high] = (count as u16).to_le_bytes();
+    file[..5].copy_from_slice(&[MARK, SHEET, level as u8, low, high]);
 }
 
 // Writes a node record.
@@ -30,18 +27,7 @@ fn put_record(file: &mut [u8], at: usize, kind: u8)
     requires { at + 3 ≤ length file.old }
     ensures { file.new ≡ sets file.old at (mark ∷ node_mark ∷ kind ∷ []) }
 {
-    file[at] = MARK;
-    file[at + 1] = NODE;
-    file[at + 2] = kind;
-}
-
-// The type of son q of a fork p over four pixels.
-fn pixel_type(table: &[u32], p: usize, q: usize) -> u8
-    requires { OverPixels table.now p × (q < 4) }
-    ensures { result ≡ node_type table.now (son table.now p q) }
-{
-    let pixel = table_node::word_at(table, p, 1 + q);
-    table_node::word_at(table, pixel, 5) as u8
+    file[at..at + 3].copy_from_slice(&[MARK, NODE, kind]);
 }
 
 // Writes the block of a fork p over four pixels and gives the place after it. All five types are known before the first
@@ -50,15 +36,12 @@ fn write_pixels(table: &[u32], p: usize, file: &mut [u8], at: usize) -> usize
     requires { OverPixels table.now p × (at + 15 ≤ length file.old) }
     ensures { Wrote (tree_at table.now 1 p) at file.old file.new result }
 {
-    let nw = pixel_type(table, p, 0);
-    let ne = pixel_type(table, p, 1);
-    let sw = pixel_type(table, p, 2);
-    let se = pixel_type(table, p, 3);
+    let [nw, ne, sw, se] = table_node::four_types(table, p);
     put_record(file, at, quad::FORK as u8);
-    put_record(file, at + 3, nw);
-    put_record(file, at + 6, ne);
-    put_record(file, at + 9, sw);
-    put_record(file, at + 12, se);
+    put_record(file, at + 3, nw as u8);
+    put_record(file, at + 6, ne as u8);
+    put_record(file, at + 9, sw as u8);
+    put_record(file, at + 12, se as u8);
     at + 15
 }
 
@@ -70,10 +53,8 @@ fn write_fork(table: &&[u32], level: u32, p: usize, file: &mut [u8], at: usize) 
 {
     put_record(file, at, quad::FORK as u8);
     let mut next = at + 3;
-    let mut q = 0;
-    while q < 4 {
+    for q in 0..4 {
         let son = table_node::word_at(*table, p, 1 + q);
-        q += 1;
         let kind = table_node::word_at(*table, son, 5);
         if kind == quad::FORK {
             if level == 2 {
@@ -106,16 +87,12 @@ fn write_block(table: &[u32], level: u32, p: usize, file: &mut [u8], at: usize) 
 pub fn write(n: u32, table: &[u32], file: &mut [u8]) -> Outcome
     ensures { Writes n table.now file.old result file.new }
 {
-    let checked = table_check::check(n, table);
-    if !answer::answered(checked) {
-        return checked;
-    }
-    let count = answer::value(checked);
+    let count = table_check::check(n, table)?;
     let bytes = 5 + 3 * count;
     if file.len() < bytes as usize {
-        return Outcome::NoRoom { needed: bytes };
+        return Err(Refusal::NoRoom { needed: bytes });
     }
     put_header(file, n, count);
     write_block(table, n, 0, file, 5);
-    Outcome::Answered { value: bytes }
+    Ok(bytes)
 }

@@ -1,5 +1,5 @@
-use mathlib.Core.Path.{refl}
-use native.Mathlib.Omega.{arith}
+use Rattle.std.proofs.Common.{refl, arith}
+use Rattle.file_read.proofs.+link_fork.Goals.{then-kind-eq-FORK+then-level-eq2, then-kind-eq-FORK+else-level-eq2, else-kind-eq-FORK}
 use Rattle.table.proofs.WritingLaws.{node_room, node_fits, none_put, number_room, type_room, sons_put}
 use Rattle.file_read.specs.Linking.{tree_on}
 use Rattle.file_read.proofs.LinkLaws.{fork_to_link, fork_ready, linked, type_asks, kind_le, links_leaf, its_fork, deeper, son_to_link, son_forked, son_linked}
@@ -35,9 +35,6 @@ bounds-table-own-in-loop-q t c =
     let s = l in
     omega (arith, number_room (its_fork (fork_to_link s.requires)) s.args.table.now (fork_to_link s.requires).block.ready s.args.father l.loop-q.invariant (omega arith))
 
-pub overflow_add-q : goal.overflow_add-q
-overflow_add-q t c = omega arith
-
 pub type_of-kind-requires : goal.type_of-kind-requires
 type_of-kind-requires t c =
     let l = c in
@@ -51,16 +48,6 @@ link_pixels-next-requires t c =
     let s = l in
     fork_ready (son_forked s.args.table.now (fork_to_link s.requires) s.args.father l.loop-q.invariant (omega arith) 1 (omega (arith, c.if-level-eq2.true)) c.type_of-kind.ensures c.if-kind-eq-FORK.true)
 
-pub loop-q-smaller-then-level-eq2 : goal.loop-q-smaller-then-level-eq2
-loop-q-smaller-then-level-eq2 t c = omega arith
-
-pub loop-q-preserved-then-level-eq2 : goal.loop-q-preserved-then-level-eq2
-loop-q-preserved-then-level-eq2 t c =
-    let l = c in
-    let s = l in
-    son_linked s.args.table.now (fork_to_link s.requires) s.args.father l.loop-q.invariant (omega arith) 1
-    (omega (arith, c.if-level-eq2.true)) c.link_pixels-next.ensures
-
 pub overflow_sub-level : goal.overflow_sub-level
 overflow_sub-level t c = omega (arith, deeper (fork_to_link c.requires))
 
@@ -71,16 +58,6 @@ link_fork-next-requires t c =
       omega (arith, s.decreases, deeper (fork_to_link s.requires)),
       fork_ready (son_forked s.args.table.now (fork_to_link s.requires) s.args.father l.loop-q.invariant (omega arith) _ refl c.type_of-kind.ensures c.if-kind-eq-FORK.true),
     )
-
-pub loop-q-smaller-else-level-eq2 : goal.loop-q-smaller-else-level-eq2
-loop-q-smaller-else-level-eq2 t c = omega arith
-
-pub loop-q-preserved-else-level-eq2 : goal.loop-q-preserved-else-level-eq2
-loop-q-preserved-else-level-eq2 t c =
-    let l = c in
-    let s = l in
-    son_linked s.args.table.now (fork_to_link s.requires) s.args.father l.loop-q.invariant (omega arith) _ refl
-    c.link_fork-next.ensures
 
 pub overflow_cast-next : goal.overflow_cast-next
 overflow_cast-next t c =
@@ -110,16 +87,19 @@ overflow_add-next-else-kind-eq-FORK t c =
     let b = son_to_link s.args.table.now (fork_to_link s.requires) s.args.father l.loop-q.invariant (omega arith) _ refl in
     omega (arith, node_fits b.ready)
 
-pub loop-q-smaller : goal.loop-q-smaller
-loop-q-smaller t c = omega arith
-
 pub loop-q-preserved : goal.loop-q-preserved
 loop-q-preserved t c =
-    let l = c in
-    let s = l in
-    let b = son_to_link s.args.table.now (fork_to_link s.requires) s.args.father l.loop-q.invariant (omega arith) _ refl in
-    son_linked s.args.table.now (fork_to_link s.requires) s.args.father l.loop-q.invariant (omega arith) _ refl
-    (links_leaf b c.type_of-kind.ensures c.if-kind-eq-FORK.false c.put_leaf.ensures)
+    let k = fork_to_link c.requires in
+    elim c.if-kind-eq-FORK.branch [
+      | then-kind-eq-FORK+then-level-eq2 w ↦
+          rw (w.next-is, w.table-is) (son_linked c.args.table.now k c.args.father c.loop-q.invariant (omega arith) 1 (omega (arith, w.if-level-eq2.true)) w.link_pixels-next.ensures)
+      | then-kind-eq-FORK+else-level-eq2 w ↦
+          rw (w.next-is, w.table-is) (son_linked c.args.table.now k c.args.father c.loop-q.invariant (omega arith) _ refl w.link_fork-next.ensures)
+      | else-kind-eq-FORK w ↦
+          let b = son_to_link c.args.table.now k c.args.father c.loop-q.invariant (omega arith) _ refl in
+          rw (w.next-is, w.table-is) (son_linked c.args.table.now k c.args.father c.loop-q.invariant (omega arith) _ refl
+          (links_leaf b c.type_of-kind.ensures w.if-kind-eq-FORK.false w.put_leaf.ensures))
+    ]
 
 pub overflow_cast-table : goal.overflow_cast-table
 overflow_cast-table t c = omega arith

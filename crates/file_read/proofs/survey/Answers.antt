@@ -1,35 +1,27 @@
 -- `file_read::survey`: each function gave its part of the definition, header, block, closing; the block by the fast
 -- way, or byte by byte.
-use native.Mathlib.Omega.{arith}
-use Rattle.file.proofs.SurveyLaws.{survey_stop, block_asks, survey_bad, close_start, close_long, survey_read, scan_late, scan_near, survey_scanned}
-use borrow.Author.Rules.{rules}
-use mathlib.Core.Path.{ap}
-use mathlib.Core.Bool.{not}
+use Rattle.std.proofs.Common.{arith, ◌∙◌}
+use Rattle.file.proofs.SurveyLaws.{survey_stop, block_asks, survey_bad, close_long, scan_late, scan_near, survey_scanned}
+use Rattle.file_tell.proofs.RecordLaws.{back}
 use Rattle.file_read.proofs.survey.Goals as goal
 
-pub returns-then-not-answered : goal.returns-then-not-answered
-returns-then-not-answered c = search (survey_stop, rules)
+pub returns-in_err-level : goal.returns-in_err-level
+returns-in_err-level c = back _ _ c.from_residual.ensures ∙ survey_stop _ _ c.in_err-level.ensures
 
-pub scan_root-end-requires : goal.scan_root-end-requires
-scan_root-end-requires c = search (close_long, rules)
+pub scan_root-requires : goal.scan_root-requires
+scan_root-requires c = close_long _ _ c.in_ok-level.ensures
 
 pub overflow_cast-end : goal.overflow_cast-end
-overflow_cast-end c = omega (arith, scan_near _ _ _ c.read_header-header.ensures c.answered.ensures (ap not c.if-not-answered.false) _ c.value-level.ensures _ c.scan_root-end.ensures c.if-end-ne0.true)
+overflow_cast-end c = omega (arith, scan_near _ _ c.in_ok-level.ensures _ c.in-Some.ensures)
 
 pub close-requires : goal.close-requires
-close-requires c = (search (scan_late, rules), search (close_long, rules))
+close-requires c = (scan_late _ _ c.in_ok-level.ensures _ c.in-Some.ensures, close_long _ _ c.in_ok-level.ensures)
 
-pub returns-then-end-ne0 : goal.returns-then-end-ne0
-returns-then-end-ne0 c = search (survey_scanned, rules)
+pub returns-in-Some : goal.returns-in-Some
+returns-in-Some c = survey_scanned _ _ c.in_ok-level.ensures _ c.in-Some.ensures _ c.close.ensures
 
-pub read_block-root-requires : goal.read_block-root-requires
-read_block-root-requires c = search (block_asks, rules)
+pub read_block-requires : goal.read_block-requires
+read_block-requires c = block_asks _ _ c.in_ok-level.ensures
 
-pub close-requires-in-Read : goal.close-requires-in-Read
-close-requires-in-Read c = (search (close_start, rules), search (close_long, rules))
-
-pub returns-in-Bad : goal.returns-in-Bad
-returns-in-Bad c = search (survey_bad, rules)
-
-pub returns-in-Read : goal.returns-in-Read
-returns-in-Read c = search (survey_read, rules)
+pub returns-in_err-block : goal.returns-in_err-block
+returns-in_err-block c = back _ _ c.from_residual-in_err-block.ensures ∙ survey_bad _ _ c.in_ok-level.ensures _ c.in_err-block.ensures

@@ -4,9 +4,9 @@ use Rattle.file.specs.Reading.{closing_of}
 use borrow.Author.Rules.{rules}
 use Rattle.file_tell.proofs.close.Goals as goal
 
-pub returns-then-named-count : goal.returns-then-named-count
+pub returns-then-header_count-count : goal.returns-then-header_count-count
 unfolding closing_of
-returns-then-named-count c = search (cases, rules)
+returns-then-header_count-count c = search (cases, rules)
 
 pub returns-then-at-file : goal.returns-then-at-file
 unfolding closing_of
