@@ -9,6 +9,7 @@ use native.Mathlib.Omega.{arith}
 use lib.ListN.{get_or}
 use lib.Pow.{pow_mono}
 use borrow.Author.Tests.{eq-eqb, ne_eqb}
+use Rattle.std.proofs.Common.{Option, Some, None}
 use Rattle.base.specs.Tab.{least}
 use Rattle.base.proofs.BoolLaws.{by_bool}
 use Rattle.base.proofs.LeastLaws.{least_next, least_less, least_le, least_same}
@@ -19,7 +20,6 @@ use Rattle.table.specs.Rules.{Accepted}
 use Rattle.table.specs.Nodes.{pixel, level_of, centre_across, centre_down}
 use Rattle.table.proofs.AcceptedLaws.{depth_le, level_top, level_is}
 use Rattle.neighbour.specs.declared.Found.{Found}
-use Rattle.neighbour.specs.declared.Found.TheVariants.{At, Off}
 use Rattle.neighbour.specs.Neighbour.{neighbour_found}
 use Rattle.neighbour.specs.Search.{stay}
 use Rattle.neighbour_around.specs.Surround.{node_or, Surrounds}
@@ -62,11 +62,13 @@ module _ (T : List ℕ) (l : ℕ) (near : List ℕ) where
 
 -- the nodes around a leaf that is not white: the least offset in them is the least in its eight neighbours
 module _ {n : ℕ} {T : List ℕ} {p l x : ℕ} {near : List ℕ} (s : Inner n T p l) (land : Land T x) (a : Surrounds n T x p near) where
-  offset_same : (D : ℕ) → D < stay → (g : Found) → neighbour_found n T p D ≡ g → offset_from T D l (node_or x g) 0 ≡ offset_found T D g
+  offset_same : (D : ℕ) → D < stay → (g : Option Found) → neighbour_found n T p D ≡ g → offset_from T D l (node_or x g) 0 ≡ offset_found T D g
   unfolding offset_found node_or
-  offset_same D d Off e =
+  offset_same D d None e =
       offset_leaf T (east_step D) (south_step D) l x 0 0 land.leaf ∙ rw (ne_eqb (node_type T x) white (land.dark p s.place.node s.leaf s.dark))
-  offset_same D d (At m k) e =
+  offset_same D d (Some g) e =
+      let m : ℕ = g.node in
+      let k : ℕ = g.level in
       let facts : FoundAt n T p m k = found_facts n T s.place.accepted p D s.place.node (omega arith) m k e in
       ⊎_elim
       (λ (f : is_fork T m ≡ true).
@@ -88,10 +90,12 @@ module _ {n : ℕ} {T : List ℕ} {p l x : ℕ} {near : List ℕ} (s : Inner n T
       ap (min (2 ^ l - 1)) (least_same none (λ D. offset_from T D l (get_or near D 0) 0) (offset_beside n T p) stay all_same) ∙ min-eq_right (omega arith)
 
   -- what is searched: nodes, and forks only of the leaf's own level
-  found_beside : (D : ℕ) → D < stay → (g : Found) → neighbour_found n T p D ≡ g → Beside T l (node_or x g)
+  found_beside : (D : ℕ) → D < stay → (g : Option Found) → neighbour_found n T p D ≡ g → Beside T l (node_or x g)
   unfolding node_or
-  found_beside D d Off e = record { node = a.off; spot = λ f. absurd (false≢true (sym a.leaf ∙ f)) }
-  found_beside D d (At m k) e =
+  found_beside D d None e = record { node = a.off; spot = λ f. absurd (false≢true (sym a.leaf ∙ f)) }
+  found_beside D d (Some g) e =
+      let m : ℕ = g.node in
+      let k : ℕ = g.level in
       let acc = s.place.accepted in
       let facts : FoundAt n T p m k = found_facts n T acc p D s.place.node (omega arith) m k e in
       record {

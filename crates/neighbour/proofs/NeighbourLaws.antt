@@ -9,6 +9,7 @@ use native.Mathlib.Omega.{arith}
 use lib.Dec.{ltb}
 use lib.ListN.{length}
 use borrow.Author.Tests.{le-ltb, ltb-false}
+use Rattle.std.proofs.Common.{None}
 use Rattle.answer.specs.declared.Outcome.TheVariants.{Answered, BadDirection}
 use Rattle.answer.specs.Numbers.{node_in, level_in, unless}
 use Rattle.answer.proofs.OutcomeLaws.{then_answered, answers_unless}
@@ -20,9 +21,10 @@ use Rattle.table.specs.Nodes.{path_to, holder, level_of}
 use Rattle.table.proofs.AcceptedLaws.{fork_deep}
 use Rattle.table.proofs.CheckLaws.{asked_of_lem, asked_good}
 use Rattle.table.proofs.HolderLaws.{own_depth}
-use Rattle.neighbour.specs.declared.Found.TheVariants.{At, Off}
+use Rattle.neighbour.specs.Found.{At}
 use Rattle.neighbour.specs.Neighbour.{held_at, beside, neighbour_found, outcome_of, neighbour_of, leaf_beyond, corner_column, corner_row, corner_leaf_of, diagonal_leaf_of}
 use Rattle.neighbour.specs.Containing.{Contains, Smallest}
+use Rattle.neighbour.proofs.AtLaws.{one_node, one_level}
 use Rattle.neighbour.proofs.SearchLaws.{Stays, stays_of, stays_both}
 use Rattle.neighbour.proofs.SmallestLaws.{holder_contains, holder_smallest, fork_size}
 use Rattle.neighbour.proofs.FoundLaws.{found_facts, answered_apart}
@@ -40,13 +42,13 @@ lies n T d x y D m l e =
     go (stays (2 ^ d) x (east_step D)) (stays (2 ^ d) y (south_step D)) refl refl e
   where
     go : (a b : Bool) → stays (2 ^ d) x (east_step D) ≡ a → stays (2 ^ d) y (south_step D) ≡ b
-        → cond (a && b) (held_at n T (path_of d (x + east_step D - 1) (y + south_step D - 1))) Off ≡ At m l → Lies n T d x y D m l
+        → cond (a && b) (held_at n T (path_of d (x + east_step D - 1) (y + south_step D - 1))) None ≡ At m l → Lies n T d x y D m l
     go true true p q e =
-        let em : holder T (path_of d (x + east_step D - 1) (y + south_step D - 1)) ≡ m = cc in
-        let el : level_of n T (holder T (path_of d (x + east_step D - 1) (y + south_step D - 1))) ≡ l = cc in
+        let em : holder T (path_of d (x + east_step D - 1) (y + south_step D - 1)) ≡ m = one_node e in
+        let el : level_of n T (holder T (path_of d (x + east_step D - 1) (y + south_step D - 1))) ≡ l = one_level e in
         record { across = stays_of d x (east_step D) p; down = stays_of d y (south_step D) q; node = sym em; level = sym el ∙ ap (level_of n T) em }
-    go true false p q e = absurd (let z : ◌≡◌ {A = ℕ} 0 1 = cc in omega arith)
-    go false b p q e = absurd (let z : ◌≡◌ {A = ℕ} 0 1 = cc in omega arith)
+    go true false p q e = cc
+    go false b p q e = cc
 
 -- and the other way round
 pub lies_found : (n : ℕ) (T : List ℕ) (d x y D : ℕ) → Stays d x (east_step D) → Stays d y (south_step D)

@@ -1,6 +1,6 @@
 -- The search of document 000, section 3, as the code goes through it: up to the nearest common ancestor, and back by
 -- reflected or opposite moves. Inner definitions: no outside call's statement cites them.
-use Rattle.std.specs.Prelude.{cond, List, [], ◌∷◌, ◌⊎◌, ◌≡◌, ℕ, zero, suc, ◌+◌, ◌-◌, ◌/◌, ◌%◌, ◌^◌, ◌≤◌, ◌<◌, ltb, eqb, length}
+use Rattle.std.specs.Prelude.{cond, Option, Some, None, List, [], ◌∷◌, ◌⊎◌, ◌≡◌, ℕ, zero, suc, ◌+◌, ◌-◌, ◌/◌, ◌%◌, ◌^◌, ◌≤◌, ◌<◌, ltb, eqb, length}
 use Rattle.answer.specs.Numbers.{level_room, with_level}
 use Rattle.quad.specs.Numbers.{none}
 use Rattle.quad.specs.Direction.{adj_of, reflect_of, opquad_of, common_side_of}
@@ -9,7 +9,7 @@ use Rattle.table.specs.Rules.{depth_to, Accepted}
 use Rattle.table.specs.Nodes.{path_to, holder, level_of}
 use Rattle.neighbour.specs.declared.Climb.{Climb}
 use Rattle.neighbour.specs.declared.Found.{Found}
-use Rattle.neighbour.specs.declared.Found.TheVariants.{At, Off}
+use Rattle.neighbour.specs.Found.{found_at, At}
 
 -- no direction: the ninth, which stays
 abbrev pub stay : ℕ
@@ -43,8 +43,8 @@ moved D (q ∷ qs) = inner (mirror_of D q) (moved (onward_of D q) qs)
 
 -- the node that holds a block, with `level` counted on from a block of that size: one more for each link that the node
 -- stands higher
-unfoldable pub found_in : ℕ → List ℕ → ℕ → Where → Found
-found_in n T level off = Off
+unfoldable pub found_in : ℕ → List ℕ → ℕ → Where → Option Found
+found_in n T level off = None
 found_in n T level (block ρ) = At (holder T ρ) (level + (length ρ - depth_to T n (holder T ρ)))
 
 -- what the search asks of its caller
@@ -97,7 +97,7 @@ corner_under n T q p = corner_down T q (level_of n T p) p
 
 -- that leaf and its level
 abbrev pub corner_at : ℕ → List ℕ → ℕ → ℕ → Found
-corner_at n T q p = let m = corner_under n T q p in At m (level_of n T m)
+corner_at n T q p = let m = corner_under n T q p in found_at m (level_of n T m)
 
 -- what the search for the leaf beyond a corner asks of its caller
 pub record Cornered (n : ℕ) (T : List ℕ) (p D C : ℕ) : Type 0 where
@@ -108,6 +108,6 @@ pub record Cornered (n : ℕ) (T : List ℕ) (p D C : ℕ) : Type 0 where
   pub on : onward_of D C ≡ D
 
 -- a node with its level beside it fits a word, and the level its room
-unfoldable pub Small : Found → Type 0
-Small Off = Unit {0}
-Small (At m l) = (with_level m l ≤ none) × (l < level_room)
+unfoldable pub Small : Option Found → Type 0
+Small None = Unit {0}
+Small (Some f) = (with_level f.node f.level ≤ none) × (f.level < level_room)

@@ -1,11 +1,11 @@
 // Neighbours and corner leaves, as the papers' geometry names them.
 #![tactic(auto)]
 
-// What a search ends on: a node and its level, or no block of the sheet.
+// What a search ends on: a node and its level. Where no block of the sheet lies, it ends on none.
 #[derive(Clone, Copy)]
-pub enum Found {
-    At { node: usize, level: u32 },
-    Off,
+pub struct Found {
+    pub node: usize,
+    pub level: u32,
 }
 
 // Where a climb stands: an ancestor and its level, the direction in which the block lies from there, and the moves back

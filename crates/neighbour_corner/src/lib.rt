@@ -28,7 +28,7 @@ fn corner_of(n: u32, table: &[u32], node: usize, level: u32, quadrant: usize) ->
         p = word_at(table, p, 1 + quadrant);
         its -= 1;
     }
-    Found::At {
+    Found {
         node: p,
         level: its,
     }
@@ -36,17 +36,14 @@ fn corner_of(n: u32, table: &[u32], node: usize, level: u32, quadrant: usize) ->
 
 // The leaf that holds the pixel in that direction of p's corner, and its level: the corner stands at an end of that
 // side, or in that diagonal. From the neighbour down by the mirrored corner.
-fn leaf_beyond(n: u32, table: &[u32], p: usize, direction: usize, corner: usize) -> Found
+fn leaf_beyond(n: u32, table: &[u32], p: usize, direction: usize, corner: usize) -> Option<Found>
     requires { Cornered n table.now p direction corner }
     ensures { result ≡ leaf_beyond n table.now p corner direction }
 {
     let level = level_of(n, table, p);
-    let found = find(n, table, p, level, direction);
-    let Found::At { node, level: its } = found else {
-        return Found::Off;
-    };
+    let found = find(n, table, p, level, direction)?;
     let quadrant = mirror(direction, corner);
-    corner_of(n, table, node, its, quadrant)
+    Some(corner_of(n, table, found.node, found.level, quadrant))
 }
 
 // The leaf just outside a side of a node, at the corner that stands at one end of it.

@@ -8,6 +8,7 @@ use native.Mathlib.Nat.{add-zero, pow-succ', pow-le-pow_right}
 use native.Mathlib.Omega.{arith}
 use lib.ListN.{length}
 use borrow.Author.Tests.{ne_eqb}
+use Rattle.std.proofs.Common.{None}
 use Rattle.quad.specs.Numbers.{top_level}
 use Rattle.table.specs.Table.{nodes, father, son, is_fork}
 use Rattle.table.specs.Rules.{depth_to, Accepted}
@@ -16,7 +17,7 @@ use Rattle.table.proofs.AcceptedLaws.{father_below, sons_of, son_type_lt, depth_
 use Rattle.table.proofs.NodeLaws.{path_root, holder_fork, holder_leaf}
 use Rattle.table.proofs.HolderLaws.{path_up, own_path, own_depth}
 use Rattle.neighbour.specs.declared.Climb.{Climb}
-use Rattle.neighbour.specs.declared.Found.TheVariants.{At, Off}
+use Rattle.neighbour.specs.Found.{At}
 use Rattle.neighbour.specs.Search.{stay, onward_of, mirror_of, Where, off, block, inner, moved, found_in, Sought, inward, Climbed, back_from}
 use Rattle.neighbour.proofs.SearchLaws.{moved_stay, steers}
 
@@ -90,7 +91,7 @@ module _ (n : ℕ) (T : List ℕ) (p level D : ℕ) (z : Sought n T p level D) w
       }
 
   -- nothing lies beside the whole sheet
-  pub none_above : (c : Climb) → Climbed n T p level D c → c.node ≡ 0 → (c.direction ≡ stay → ⊥) → Off ≡ found_in n T level (moved D (path_to T n p))
+  pub none_above : (c : Climb) → Climbed n T p level D c → c.node ≡ 0 → (c.direction ≡ stay → ⊥) → None ≡ found_in n T level (moved D (path_to T n p))
   unfolding found_in moved
   none_above c h e s =
       let w : moved c.direction (path_to T n c.node) ≡ off = rw (e, path_root T n, moved, ne_eqb c.direction stay s) in

@@ -95,41 +95,41 @@ fn ascend(n: u32, table: &[u32], p: usize, level: u32, direction: usize) -> Clim
 // lies.
 fn descend(n: u32, table: &[u32], from: Climb, level: u32) -> Found
     requires { Descends n table.now from level }
-    ensures { result ≡ found_in n table.now level (back_from n table.now from level) }
+    ensures { Some result ≡ found_in n table.now level (back_from n table.now from level) }
 {
     let mut node = from.node;
     let mut its = from.level;
     let mut moves = from.moves;
     while level < its {
         if word_at(table, node, 5) != quad::FORK {
-            return Found::At { node, level: its };
+            return Found { node, level: its };
         }
         node = word_at(table, node, 1 + moves % 4);
         moves = moves / 4;
         its -= 1;
     }
-    Found::At { node, level: its }
+    Found { node, level: its }
 }
 
 // The neighbour of p and the neighbour's level, from p and p's level.
-pub fn find(n: u32, table: &[u32], p: usize, level: u32, direction: usize) -> Found
+pub fn find(n: u32, table: &[u32], p: usize, level: u32, direction: usize) -> Option<Found>
     requires { Accepted n table.now × (p < nodes table.now) × (level ≡ level_of n table.now p)
         × (direction < stay) }
     ensures { result ≡ neighbour_found n table.now p direction }
 {
     let top = ascend(n, table, p, level, direction);
     if top.direction != STAY {
-        return Found::Off;
+        return None;
     }
-    descend(n, table, top, level)
+    Some(descend(n, table, top, level))
 }
 
 // The outcome of a search: the node with its level beside it, or code 20.
-pub fn outcome(found: Found) -> Outcome
+pub fn outcome(found: Option<Found>) -> Outcome
     requires { Small found }
     ensures { result ≡ outcome_of found }
 {
-    let Found::At { node, level } = found else {
+    let Some(Found { node, level }) = found else {
         return Outcome::NoBlock;
     };
     Outcome::Answered {

@@ -2,7 +2,6 @@ use mathlib.Core.Path.{refl}
 use native.Mathlib.Omega.{arith}
 use Rattle.table.proofs.AcceptedLaws.{fork_above}
 use Rattle.distance_fill.proofs.HandedLaws.{filling_none, filling_all, fork_son, filling_fork, filling_leaf, handed_nodes, son_fork_at, son_handed_at, fills_at, handed_half, son_fork, son_leaf}
-use Prim.Native.Nat.{ℕ, ◌-◌}
 use Rattle.distance_fill.proofs.+below_sons.Goals as goal
 
 pub below-overflow_add-quadrant : goal.below-overflow_add-quadrant

@@ -1,4 +1,3 @@
-use Prim.Native.Nat.{◌-◌}
 use native.Mathlib.Omega.{arith}
 use lib.Pow.{pow_pos}
 use Rattle.distance_fill.proofs.AroundLaws.{around_none, around_more, around_zero, around_all, around_white}

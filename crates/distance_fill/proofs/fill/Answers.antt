@@ -5,7 +5,6 @@ use borrow.Author.Tests.{eq-eqb}
 use Rattle.table.proofs.TypeLaws.{told_leaf}
 use Rattle.distance_fill.proofs.AroundLaws.{white_word, root_word}
 use Rattle.distance_fill.proofs.HandedLaws.{root_handed, whole_filled, leaf_filled}
-use borrow.Author.Rules.{rules}
 use Rattle.distance_fill.proofs.fill.Goals as goal
 
 pub sons-requires : goal.sons-requires

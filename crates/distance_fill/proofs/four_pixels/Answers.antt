@@ -1,4 +1,3 @@
-use Prim.Native.Nat.{◌-◌}
 use native.Mathlib.Omega.{arith}
 use Rattle.distance_fill.proofs.HandedLaws.{filling_none, filling_all, fork_son, filling_pixel}
 use Rattle.distance_fill.proofs.four_pixels.Goals as goal

@@ -1,4 +1,3 @@
-use Prim.Native.Nat.{◌-◌}
 use native.Mathlib.Omega.{arith}
 use Rattle.distance_fill.proofs.HandedLaws.{land_black, land_last, none_more}
 use Rattle.distance_fill.proofs.outside.Goals as goal
