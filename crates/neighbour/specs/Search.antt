@@ -15,6 +15,14 @@ use Rattle.neighbour.specs.Found.{found_at, At}
 abbrev pub stay : ℕ
 stay = 8
 
+-- a direction as the code has it, where it has none in place of the ninth; and the number of what it has
+abbrev pub way_to : ℕ → Option ℕ
+way_to D = cond (eqb D stay) None (Some D)
+
+abbrev pub direction_of : Option ℕ → ℕ
+direction_of None = stay
+direction_of (Some D) = D
+
 -- where the block in direction D of quadrant q has its father: in this direction of q's own father
 unfoldable pub onward_of : ℕ → ℕ → ℕ
 onward_of D q =
@@ -59,18 +67,20 @@ unfoldable pub inward : ℕ → ℕ → Where → Where
 inward zero moves w = w
 inward (suc k) moves w = inward k (moves / 4) (inner (moves % 4) w)
 
--- a climb from p, in direction D: what is left to go from its node, and then its moves down, lead where D leads from p
-pub record Climbed (n : ℕ) (T : List ℕ) (p level D : ℕ) (c : Climb) : Type 0 where
-  pub node : c.node < nodes T
-  pub low : level ≤ c.level
-  pub high : c.level + depth_to T n c.node ≡ level + depth_to T n p
-  pub way : c.direction ≤ stay
-  pub few : c.moves < 4 ^ (c.level - level)
-  pub same : moved D (path_to T n p) ≡ inward (c.level - level) c.moves (moved c.direction (path_to T n c.node))
+-- a climb from p, in direction D, at node q of level l: what is left to go from q, and then the moves down, lead where D
+-- leads from p
+pub record Climbed (n : ℕ) (T : List ℕ) (p level D : ℕ) (q l left moves : ℕ) : Type 0 where
+  pub node : q < nodes T
+  pub low : level ≤ l
+  pub high : l + depth_to T n q ≡ level + depth_to T n p
+  pub way : left ≤ stay
+  pub few : moves < 4 ^ (l - level)
+  pub same : moved D (path_to T n p) ≡ inward (l - level) moves (moved left (path_to T n q))
 
--- it has ended: nothing is left to go, or nothing lies above
-abbrev pub Ended : Climb → Type 0
-Ended c = (c.direction ≡ stay) ⊎ (c.node ≡ 0)
+-- it has ended: nothing is left to go; or no block of the sheet lies there
+unfoldable pub Ended : ℕ → List ℕ → ℕ → ℕ → ℕ → Option Climb → Type 0
+Ended n T p level D None = moved D (path_to T n p) ≡ off
+Ended n T p level D (Some c) = Climbed n T p level D c.node c.level stay c.moves
 
 -- what the descent asks of its caller
 pub record Descends (n : ℕ) (T : List ℕ) (c : Climb) (level : ℕ) : Type 0 where

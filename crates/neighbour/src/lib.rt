@@ -8,12 +8,11 @@ pub struct Found {
     pub level: u32,
 }
 
-// Where a climb stands: an ancestor and its level, the direction in which the block lies from there, and the moves back
-// down to it, a quadrant each: in base four, the next one lowest.
+// Where a climb ends: an ancestor and its level, and the moves from there down to the block, a quadrant each: in base
+// four, the next one lowest.
 #[derive(Clone, Copy)]
 pub struct Climb {
     pub node: usize,
     pub level: u32,
-    pub direction: usize,
     pub moves: usize,
 }

@@ -6,7 +6,7 @@ ghost use Rattle.quad.specs.Direction.{common_side_of};
 ghost use Rattle.table.specs.Table.{nodes};
 ghost use Rattle.table.specs.Rules.{Accepted};
 ghost use Rattle.table.specs.Nodes.{level_of};
-ghost use Rattle.neighbour.specs.Search.{stay, onward_of, mirror_of, found_in, Sought, Climbed, Ended, Descends, back_from};
+ghost use Rattle.neighbour.specs.Search.{stay, way_to, onward_of, mirror_of, found_in, Sought, Ended, Descends, back_from};
 ghost use Rattle.neighbour.specs.Search.{Small};
 ghost use Rattle.neighbour.specs.Neighbour.{neighbour_found, outcome_of};
 ghost use Rattle.neighbour.specs.Calls.{Neighbours};
@@ -14,9 +14,6 @@ ghost use Rattle.neighbour.specs.Calls.{Neighbours};
 use answer::Outcome;
 use neighbour::{Climb, Found};
 use table_node::{level_of, son_type, word_at};
-
-// After the eight directions: no move.
-const STAY: usize = 8;
 
 // The side that two quadrants share. Asked only where document 000's table defines it.
 fn shared_side(quadrant: usize, corner: usize) -> usize
@@ -26,25 +23,23 @@ fn shared_side(quadrant: usize, corner: usize) -> usize
     quad::common_side(quadrant, corner)
 }
 
-// In which direction from a quadrant's father the block that lies in that direction of the quadrant has its own father.
-fn onward(direction: usize, quadrant: usize) -> usize
+// In which direction from a quadrant's father the block that lies in that direction of the quadrant has its own father;
+// none where that is the quadrant's father too.
+fn onward(direction: usize, quadrant: usize) -> Option<usize>
     requires { (direction < stay) × (quadrant < 4) }
-    ensures { result ≡ onward_of direction quadrant }
+    ensures { result ≡ way_to (onward_of direction quadrant) }
 {
     if direction < 4 {
-        if quad::adj(direction, quadrant) {
-            return direction;
-        }
-        return STAY;
+        return quad::adj(direction, quadrant).then_some(direction);
     }
     let corner = direction - 4;
     if quadrant == quad::opquad(corner) {
-        return STAY;
+        return None;
     }
     if quadrant == corner {
-        return direction;
+        return Some(direction);
     }
-    shared_side(quadrant, corner)
+    Some(shared_side(quadrant, corner))
 }
 
 // Which quadrant of that father it is.
@@ -58,37 +53,31 @@ pub fn mirror(direction: usize, quadrant: usize) -> usize
     quad::opquad(quadrant)
 }
 
-// Up from p, a father link and a level at a time, until the way leads no further than the node itself, or off the
-// sheet.
-fn ascend(n: u32, table: &[u32], p: usize, level: u32, direction: usize) -> Climb
-    requires { Sought n table.now p level direction }
-    ensures { Climbed n table.now p level direction result × Ended result }
+// Up from p, a father link and a level at a time, until the way leads no further than the node itself; none where it
+// leads off the sheet.
+fn ascend(n: u32, table: &[u32], p: usize, level: u32, direction: usize) -> Option<Climb>
+    requires { Sought n table.now p level direction × (direction < stay) }
+    ensures { Ended n table.now p level direction result }
 {
     let mut node = p;
     let mut above = level;
-    let mut way = direction;
+    let mut way = Some(direction);
     let mut moves = 0;
-    while way != STAY {
+    while let Some(ahead) = way {
         if node == 0 {
-            return Climb {
-                node,
-                level: above,
-                direction: way,
-                moves,
-            };
+            return None;
         }
         let quadrant = son_type(table, node);
-        moves = 4 * moves + mirror(way, quadrant);
-        way = onward(way, quadrant);
+        moves = 4 * moves + mirror(ahead, quadrant);
+        way = onward(ahead, quadrant);
         node = word_at(table, node, 0);
         above += 1;
     }
-    Climb {
+    Some(Climb {
         node,
         level: above,
-        direction: way,
         moves,
-    }
+    })
 }
 
 // Back down from where a climb ended, a son link and a level at a time, to that level or the leaf in which the block
@@ -117,10 +106,7 @@ pub fn find(n: u32, table: &[u32], p: usize, level: u32, direction: usize) -> Op
         × (direction < stay) }
     ensures { result ≡ neighbour_found n table.now p direction }
 {
-    let top = ascend(n, table, p, level, direction);
-    if top.direction != STAY {
-        return None;
-    }
+    let top = ascend(n, table, p, level, direction)?;
     Some(descend(n, table, top, level))
 }
 
