@@ -8,15 +8,16 @@ use Prim.Native.Nat.{ℕ, zero, suc, ◌+◌, ◌-◌, ◌*◌, ◌/◌, ◌%◌
 use native.Mathlib.Nat.{zero-add}
 use native.Mathlib.Omega.{arith}
 use lib.Dec.{eqb}
+use mir.Val.{bool_byte}
 use lib.ListN.{get_or, set, replicate, get_or-replicate}
-use borrow.Author.Tests.{eq-eqb, ne_eqb, eqb-true, eqb-false}
+use borrow.Author.Tests.{eqb-true, eqb-false}
 use Rattle.std.proofs.Common.{Option, Some, None}
 use Rattle.base.specs.Tab.{tab_from}
 use Rattle.base.proofs.BoolLaws.{by_bool}
 use Rattle.base.proofs.TabLaws.{tab_at}
 use Rattle.quad.specs.Numbers.{fork_type}
 use Rattle.table.specs.Table.{nodes, son, node_type, is_fork}
-use Rattle.table.specs.Rules.{one, Accepted}
+use Rattle.table.specs.Rules.{Accepted}
 use Rattle.table.specs.Nodes.{level_of}
 use Rattle.neighbour.specs.declared.Found.{Found}
 use Rattle.neighbour.specs.Found.{At}
@@ -28,14 +29,8 @@ use Rattle.neighbour.proofs.FoundLaws.{found_facts}
 use Rattle.neighbour_around.proofs.BesideLaws.{son_beside, stays_own, none_beside}
 use Rattle.neighbour_around.specs.Surround.{node_or, part_of, InNodes, son_near, son_surround, Surrounds}
 
-pub fork_counts : (kind : ℕ) → kind ≡ fork_type → 1 ≡ one (eqb kind fork_type)
-fork_counts kind e = rw (eq-eqb kind fork_type e)
-
-pub leaf_counts : (kind : ℕ) → (kind ≡ fork_type → ⊥) → 0 ≡ one (eqb kind fork_type)
-leaf_counts kind h = rw (ne_eqb kind fork_type h)
-
 -- the one of two that a type picks
-pub quarter_picked : (T : List ℕ) (w k kind which : ℕ) → kind ≡ node_type T w → which ≡ one (eqb kind fork_type) → get_or (w ∷ son T w k ∷ []) which 0 ≡ part_of T k w
+pub quarter_picked : (T : List ℕ) (w k kind which : ℕ) → kind ≡ node_type T w → which ≡ bool_byte (eqb kind fork_type) → get_or (w ∷ son T w k ∷ []) which 0 ≡ part_of T k w
 unfolding part_of
 quarter_picked T w k kind which is e =
     ⊎_elim
