@@ -1,15 +1,15 @@
 // Every leaf's distance: a pass from the root down hands each fork its eight neighbours (`sheet_distance`).
 #![tactic(auto)]
 
-ghost use Rattle.std.specs.Prelude.{◌≡◌, true, false, length, ◌+◌, ◌*◌, ◌^◌, ◌<◌, ◌≤◌};
-ghost use Rattle.quad.specs.Numbers.{top_level};
-ghost use Rattle.table.specs.Table.{nodes, son, is_fork};
+ghost use Rattle.std.specs.Prelude.{◌≡◌, true, false, length, ◌+◌, ◌*◌, ◌^◌, ◌<◌, ◌≤◌, All, eqb};
+ghost use Rattle.std.specs.List.{list_any};
+ghost use Rattle.quad.specs.Numbers.{white, top_level};
+ghost use Rattle.table.specs.Table.{nodes, son, node_type, is_fork};
 ghost use Rattle.table.specs.Rules.{Accepted};
 ghost use Rattle.neighbour.specs.Search.{stay};
-ghost use Rattle.neighbour_around.specs.Surround.{InNodes};
 ghost use Rattle.distance.specs.Calls.{Distances};
 ghost use Rattle.distance.specs.Distance.{plain_outside, distance_at, distances_of};
-ghost use Rattle.distance_seek.specs.Around.{least_around, AllBeside, SomeWhite};
+ghost use Rattle.distance_seek.specs.Around.{least_around, AllBeside};
 ghost use Rattle.distance_fill.specs.Handed.{Land, Fork, Handed, Fills};
 
 use answer::Outcome;
@@ -22,17 +22,11 @@ const MARK: u32 = quad::NONE as u32;
 
 // Whether one of eight nodes is a white leaf.
 fn some_white(table: &[u32], near: &[u32; 8]) -> bool
-    requires { InNodes table.now near.now }
-    ensures { result ≡ true → SomeWhite table.now near.now }
+    requires { All (λ w. w < nodes table.now) near.now }
+    ensures { result ≡ list_any (λ w. eqb (node_type table.now w) white) near.now }
 {
-    let mut way = 0;
-    while way < 8 {
-        if word_at(table, near[way] as usize, 5) == 0 {
-            return true;
-        }
-        way += 1;
-    }
-    false
+    near.iter()
+        .any(|node| word_at(table, *node as usize, 5) == 0)
 }
 
 // The least offset of a white pixel in the eight nodes around a block, or one less than the side, where there is none
@@ -45,13 +39,11 @@ fn around(table: &[u32], level: u32, near: &[u32; 8]) -> u32
         return 0;
     }
     let mut best = quad::side(level) - 1;
-    let mut direction = 0;
-    while direction < 8 {
+    for (direction, &node) in near.iter().enumerate() {
         if best == 0 {
             return best;
         }
-        best = beside(table, near[direction], level, direction, best);
-        direction += 1;
+        best = beside(table, node, level, direction, best);
     }
     best
 }
