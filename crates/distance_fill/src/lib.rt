@@ -84,11 +84,9 @@ fn four_pixels(n: u32, table: &[u32], p: usize, out: &mut [u32])
     ensures { Fills n table.now out.old out.new 1 p }
 {
     out[p] = 0;
-    let mut q = 0;
-    while q < 4 {
+    for q in 0..4 {
         let pixel = word_at(table, p, 1 + q);
         out[pixel] = table[6 * pixel + 5];
-        q += 1;
     }
 }
 
@@ -127,10 +125,7 @@ fn sons(n: u32, table: &[u32], p: usize, level: u32, near: &[u32; 8], out: &mut 
 {
     out[p] = 0;
     let half = level - 1;
-    let mut q = 0;
-    while q < 4 {
-        let quadrant = q;
-        q += 1;
+    for quadrant in 0..4 {
         let son = word_at(table, p, 1 + quadrant);
         if word_at(table, son, 5) == quad::FORK {
             below(n, table, p, quadrant, half, near, out);
