@@ -142,14 +142,12 @@ fn outside(n: u32, table: &[u32]) -> u32
     ensures { Land table.now result }
 {
     let last = table_node::node_count(table) - 1;
-    let mut p = 0;
-    while p < last {
+    for p in 0..last {
         if word_at(table, p, 5) == quad::BLACK {
             return p as u32;
         }
-        p += 1;
     }
-    p as u32
+    last as u32
 }
 
 // Writes the distance of every node. A black root is the whole sheet: nothing is white.
@@ -163,11 +161,7 @@ fn fill(n: u32, table: &[u32], out: &mut [u32])
         sons(n, table, 0, n, &near, out);
         return;
     }
-    if kind == 0 {
-        out[0] = 0;
-        return;
-    }
-    out[0] = MARK;
+    out[0] = if kind == 0 { 0 } else { MARK };
 }
 
 // The distance of every node, for any level, words and slice: the slice has one word for each node, and on a refusal it
