@@ -31,10 +31,11 @@ fn middle_of(n: u32, table: &[u32], p: usize) -> Middle
 }
 
 // low ≤ x ≤ high, never of a NaN.
+#[tactic(auto, unfolding(ground::specs::Ground::within))]
 fn in_range(low: f64, high: f64, x: f64) -> bool
     ensures { result ≡ within low high x }
 {
-    if low <= x { x <= high } else { false }
+    low <= x && x <= high
 }
 
 // The first number of a ground place that is out of range, if any is.
@@ -58,10 +59,11 @@ fn range(g: Ground) -> Outcome
 fn reach(g: Ground, h: u32) -> f64
     ensures { result ≡ reach_of g h }
 {
-    ((h as f64 - 1.0) / 2.0) * g.step
+    ((f64::from(h) - 1.0) / 2.0) * g.step
 }
 
 // How far east the centre h half pixels across lies.
+#[tactic(auto, unfolding(ground::specs::Ground::east_of))]
 fn east_of(g: Ground, h: u32) -> f64
     ensures { result ≡ east_of g h }
 {
@@ -69,6 +71,7 @@ fn east_of(g: Ground, h: u32) -> f64
 }
 
 // How far north the centre k half pixels down lies.
+#[tactic(auto, unfolding(ground::specs::Ground::north_of))]
 fn north_of(g: Ground, k: u32) -> f64
     ensures { result ≡ north_of g k }
 {
