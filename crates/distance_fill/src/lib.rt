@@ -169,10 +169,7 @@ fn fill(n: u32, table: &[u32], out: &mut [u32])
 pub fn distances(n: u32, table: &[u32], out: &mut [u32]) -> Outcome
     ensures { Distances n table.now out.old result out.new }
 {
-    let tested = table_check::each_node(n, table, out.len());
-    if !answer::answered(tested) {
-        return tested;
-    }
+    table_check::each_node(n, table, out.len())?;
     fill(n, table, out);
-    Outcome::Answered { value: 0 }
+    Ok(0)
 }

@@ -8,7 +8,7 @@ ghost use Rattle.ground_centre.specs.HalfPixels.{half_pixels, middle_of};
 ghost use Rattle.ground.specs.Ground.{within, range_of, reach_of, east_of, north_of};
 ghost use Rattle.ground.specs.Call.{Centres};
 
-use answer::Outcome;
+use answer::{Outcome, Refusal};
 use ground::{Ground, Middle};
 
 // The middle of a block along one axis, in half pixels: that of the block with this index among those of its level.
@@ -43,15 +43,15 @@ fn range(g: Ground) -> Outcome
     ensures { result ≡ range_of g }
 {
     if !in_range(-16777216.0, 16777216.0, g.east) {
-        return Outcome::OutOfRange { which: 0 };
+        return Err(Refusal::OutOfRange { which: 0 });
     }
     if !in_range(-16777216.0, 16777216.0, g.north) {
-        return Outcome::OutOfRange { which: 1 };
+        return Err(Refusal::OutOfRange { which: 1 });
     }
     if !in_range(0.0009765625, 16384.0, g.step) {
-        return Outcome::OutOfRange { which: 2 };
+        return Err(Refusal::OutOfRange { which: 2 });
     }
-    Outcome::Answered { value: 0 }
+    Ok(0)
 }
 
 // How far from the origin, in ground units, a place h half pixels from the sheet's edge lies: the origin is one half
@@ -83,19 +83,13 @@ fn north_of(g: Ground, k: u32) -> f64
 pub fn centre(n: u32, table: &[u32], node: u32, g: Ground, place: &mut [f64]) -> Outcome
     ensures { Centres n table.now node g place.old result place.new }
 {
-    let asked = table_check::asked(n, table, node);
-    if !answer::answered(asked) {
-        return asked;
-    }
-    let ranged = range(g);
-    if !answer::answered(ranged) {
-        return ranged;
-    }
+    table_check::asked(n, table, node)?;
+    range(g)?;
     if place.len() < 2 {
-        return Outcome::NoRoom { needed: 2 };
+        return Err(Refusal::NoRoom { needed: 2 });
     }
     let middle = middle_of(n, table, node as usize);
     place[0] = east_of(g, middle.h);
     place[1] = north_of(g, middle.k);
-    Outcome::Answered { value: 0 }
+    Ok(0)
 }

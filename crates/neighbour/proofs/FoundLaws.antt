@@ -1,4 +1,5 @@
 -- What the search gives, by name: the neighbour of document 01 and its level, in an accepted table.
+use Rattle.std.specs.Prelude.{Ok}
 use mathlib.Core.Bool.{Bool, true, false, cond, ◌&&◌}
 use mathlib.Core.List.{List}
 use mathlib.Core.Path.{◌≡◌, refl, ap, sym, ◌∙◌}
@@ -6,7 +7,6 @@ use Prim.Native.Nat.{ℕ, ◌+◌, ◌-◌, ◌^◌, ◌≤◌, ◌<◌}
 use native.Mathlib.Omega.{arith}
 use lib.ListN.{length}
 use Rattle.std.proofs.Common.{Option, Some, None}
-use Rattle.answer.specs.declared.Outcome.TheVariants.{Answered}
 use Rattle.answer.specs.Numbers.{value_of, with_level, node_in, level_in}
 use Rattle.answer.proofs.OutcomeLaws.{level_apart}
 use Rattle.quad.specs.Block.{path_of, column, row}
@@ -98,7 +98,7 @@ unfolding neighbour_found
 neighbour_small n T acc p D = let π = path_to T n p in beside_small n T acc (length π) (column π) (row π) D
 
 -- so node and level are read off the value
-apart_at : (f : Option Found) (v : ℕ) → Small f → outcome_of f ≡ Answered v → f ≡ At (node_in v) (level_in v)
+apart_at : (f : Option Found) (v : ℕ) → Small f → outcome_of f ≡ Ok v → f ≡ At (node_in v) (level_in v)
 unfolding Small
 apart_at None v s e = cc
 apart_at (Some f) v s e =
@@ -108,6 +108,6 @@ apart_at (Some f) v s e =
     let a = level_apart m l s.1 in
     rw (← is, a.0, a.1)
 
-pub answered_apart : (n : ℕ) (T : List ℕ) → Accepted n T → (d x y D v : ℕ) → outcome_of (beside n T d x y D) ≡ Answered v
+pub answered_apart : (n : ℕ) (T : List ℕ) → Accepted n T → (d x y D v : ℕ) → outcome_of (beside n T d x y D) ≡ Ok v
     → beside n T d x y D ≡ At (node_in v) (level_in v)
 answered_apart n T acc d x y D v = apart_at (beside n T d x y D) v (beside_small n T acc d x y D)

@@ -1,6 +1,7 @@
 -- What the calls' definitions mean on an accepted sheet: the neighbour is the smallest node that contains the block
 -- beside p's own, the corner leaf is the leaf that holds the pixel beyond; each is a node of the table, and the level
 -- beside it in the answer is its own.
+use Rattle.std.specs.Prelude.{Ok, Err}
 use mathlib.Core.Bool.{Bool, true, false, not, cond, ◌&&◌}
 use mathlib.Core.List.{List}
 use mathlib.Core.Path.{◌≡◌, refl, ap, sym, ◌∙◌}
@@ -10,7 +11,7 @@ use lib.Dec.{ltb}
 use lib.ListN.{length}
 use borrow.Author.Tests.{le-ltb, ltb-false}
 use Rattle.std.proofs.Common.{None}
-use Rattle.answer.specs.declared.Outcome.TheVariants.{Answered, BadDirection}
+use Rattle.answer.specs.declared.Refusal.TheVariants.{BadDirection}
 use Rattle.answer.specs.Numbers.{node_in, level_in, unless}
 use Rattle.answer.proofs.OutcomeLaws.{then_answered, answers_unless}
 use Rattle.quad.specs.Block.{path_of, column, row}
@@ -94,13 +95,13 @@ pub record NeighbourAnswer (n : ℕ) (T : List ℕ) (p D v : ℕ) : Type 0 where
   pub large : level_of n T p ≤ level_in v
   pub full : is_fork T (node_in v) ≡ true → level_in v ≡ level_of n T p
 
-pub neighbour_answer : (n : ℕ) (T : List ℕ) (p D v : ℕ) → neighbour_of n T p D ≡ Answered v → NeighbourAnswer n T p D v
+pub neighbour_answer : (n : ℕ) (T : List ℕ) (p D v : ℕ) → neighbour_of n T p D ≡ Ok v → NeighbourAnswer n T p D v
 unfolding neighbour_of neighbour_found
 neighbour_answer n T p D v e =
     let t = then_answered (asked_of n T p) _ v e in
-    let u = then_answered (unless (ltb 7 D) (BadDirection D)) _ v t.1 in
+    let u = then_answered (unless (ltb 7 D) (Err (BadDirection D))) _ v t.1 in
     let z = asked_of_lem n T p t.0 in
-    let way : D ≤ 7 = ltb-false _ _ (answers_unless (ltb 7 D) (BadDirection D) refl u.0) in
+    let way : D ≤ 7 = ltb-false _ _ (answers_unless (ltb 7 D) (Err (BadDirection D)) refl u.0) in
     let π = path_to T n p in
     let found = answered_apart n T z.accepted (length π) (column π) (row π) D v u.1 in
     let k = found_facts n T z.accepted p D z.node (omega arith) (node_in v) (level_in v) found in
@@ -122,7 +123,7 @@ pub record LeafAnswer (n : ℕ) (T : List ℕ) (p D C v : ℕ) : Type 0 where
   pub leaf : is_fork T (node_in v) ≡ false
   pub level : level_in v ≡ level_of n T (node_in v)
 
-module _ (n : ℕ) (T : List ℕ) (p D C v : ℕ) (z : Asked n T p) (e : outcome_of (leaf_beyond n T p C D) ≡ Answered v) where
+module _ (n : ℕ) (T : List ℕ) (p D C v : ℕ) (z : Asked n T p) (e : outcome_of (leaf_beyond n T p C D) ≡ Ok v) where
   beyond : Lies n T n (corner_column n T p C) (corner_row n T p C) D (node_in v) (level_in v)
   beyond =
       lies n T n (corner_column n T p C) (corner_row n T p C) D (node_in v) (level_in v)
@@ -152,18 +153,18 @@ module _ (n : ℕ) (T : List ℕ) (p D C v : ℕ) (z : Asked n T p) (e : outcome
   leaf_answer : LeafAnswer n T p D C v
   leaf_answer = record { asked = z; contains = contained; leaf = no_fork; level = beyond.level }
 
-pub corner_leaf_answer : (n : ℕ) (T : List ℕ) (p D C v : ℕ) → corner_leaf_of n T p D C ≡ Answered v → LeafAnswer n T p D C v
+pub corner_leaf_answer : (n : ℕ) (T : List ℕ) (p D C v : ℕ) → corner_leaf_of n T p D C ≡ Ok v → LeafAnswer n T p D C v
 unfolding corner_leaf_of
 corner_leaf_answer n T p D C v e =
     let t = then_answered (asked_of n T p) _ v e in
-    let side = then_answered (unless (ltb 3 D) (BadDirection D)) _ v t.1 in
-    let corner = then_answered (unless (ltb 3 C) (BadDirection C)) _ v side.1 in
-    let joined = then_answered (unless (not (adj_of D C)) (BadDirection C)) _ v corner.1 in
+    let side = then_answered (unless (ltb 3 D) (Err (BadDirection D))) _ v t.1 in
+    let corner = then_answered (unless (ltb 3 C) (Err (BadDirection C))) _ v side.1 in
+    let joined = then_answered (unless (not (adj_of D C)) (Err (BadDirection C))) _ v corner.1 in
     leaf_answer n T p D C v (asked_of_lem n T p t.0) joined.1
 
-pub diagonal_leaf_answer : (n : ℕ) (T : List ℕ) (p C v : ℕ) → diagonal_leaf_of n T p C ≡ Answered v → LeafAnswer n T p (diagonal C) C v
+pub diagonal_leaf_answer : (n : ℕ) (T : List ℕ) (p C v : ℕ) → diagonal_leaf_of n T p C ≡ Ok v → LeafAnswer n T p (diagonal C) C v
 unfolding diagonal_leaf_of
 diagonal_leaf_answer n T p C v e =
     let t = then_answered (asked_of n T p) _ v e in
-    let corner = then_answered (unless (ltb 3 C) (BadDirection C)) _ v t.1 in
+    let corner = then_answered (unless (ltb 3 C) (Err (BadDirection C))) _ v t.1 in
     leaf_answer n T p (diagonal C) C v (asked_of_lem n T p t.0) corner.1

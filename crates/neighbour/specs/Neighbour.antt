@@ -1,9 +1,8 @@
 -- Neighbours by the geometry of blocks (document 01, 'Directions and neighbours'; document 000, section 3), each with
 -- its level (document 02, No. 3).
-use Rattle.std.specs.Prelude.{not, cond, ◌&&◌, Option, Some, None, List, ℕ, ◌+◌, ◌-◌, ◌*◌, ◌/◌, ◌%◌, ◌^◌, ltb, length}
-use Rattle.answer.specs.declared.Outcome.{Outcome}
-use Rattle.answer.specs.declared.Outcome.TheVariants.{Answered, BadDirection, NoBlock}
-use Rattle.answer.specs.Numbers.{with_level, and_then, unless}
+use Rattle.std.specs.Prelude.{Ok, Err, not, cond, ◌&&◌, Option, Some, None, List, ℕ, ◌+◌, ◌-◌, ◌*◌, ◌/◌, ◌%◌, ◌^◌, ltb, length}
+use Rattle.answer.specs.declared.Refusal.TheVariants.{BadDirection, NoBlock}
+use Rattle.answer.specs.Numbers.{Outcome, with_level, and_then, unless}
 use Rattle.quad.specs.Block.{path_of, column, row}
 use Rattle.quad.specs.Direction.{east_step, south_step, stays, adj_of, diagonal}
 use Rattle.table.specs.Rules.{asked_of}
@@ -30,13 +29,13 @@ neighbour_found n T p D = let π = path_to T n p in beside n T (length π) (colu
 
 -- what a call answers: the node with its level beside it, or code 20
 abbrev pub outcome_of : Option Found → Outcome
-outcome_of (Some f) = Answered (with_level f.node f.level)
-outcome_of None = NoBlock
+outcome_of (Some f) = Ok (with_level f.node f.level)
+outcome_of None = Err NoBlock
 
 unfoldable pub neighbour_of : ℕ → List ℕ → ℕ → ℕ → Outcome
 neighbour_of n T p D =
     and_then (asked_of n T p)
-    (and_then (unless (ltb 7 D) (BadDirection D))
+    (and_then (unless (ltb 7 D) (Err (BadDirection D)))
     (outcome_of (neighbour_found n T p D)))
 
 -- the pixel of p's block at corner C: its column and its row
@@ -54,14 +53,14 @@ leaf_beyond n T p C D = beside n T n (corner_column n T p C) (corner_row n T p C
 unfoldable pub corner_leaf_of : ℕ → List ℕ → ℕ → ℕ → ℕ → Outcome
 corner_leaf_of n T p D C =
     and_then (asked_of n T p)
-    (and_then (unless (ltb 3 D) (BadDirection D))
-    (and_then (unless (ltb 3 C) (BadDirection C))
-    (and_then (unless (not (adj_of D C)) (BadDirection C))
+    (and_then (unless (ltb 3 D) (Err (BadDirection D)))
+    (and_then (unless (ltb 3 C) (Err (BadDirection C)))
+    (and_then (unless (not (adj_of D C)) (Err (BadDirection C)))
     (outcome_of (leaf_beyond n T p C D)))))
 
 -- the leaf diagonally beyond corner C
 unfoldable pub diagonal_leaf_of : ℕ → List ℕ → ℕ → ℕ → Outcome
 diagonal_leaf_of n T p C =
     and_then (asked_of n T p)
-    (and_then (unless (ltb 3 C) (BadDirection C))
+    (and_then (unless (ltb 3 C) (Err (BadDirection C)))
     (outcome_of (leaf_beyond n T p C (diagonal C))))

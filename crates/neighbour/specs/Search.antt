@@ -1,6 +1,6 @@
 -- The search of document 000, section 3, as the code goes through it: up to the nearest common ancestor, and back by
 -- reflected or opposite moves. Inner definitions: no outside call's statement cites them.
-use Rattle.std.specs.Prelude.{cond, Option, Some, None, List, [], ◌∷◌, ◌⊎◌, ◌≡◌, ℕ, zero, suc, ◌+◌, ◌-◌, ◌/◌, ◌%◌, ◌^◌, ◌≤◌, ◌<◌, ltb, eqb, length}
+use Rattle.std.specs.Prelude.{cond, Option, Some, None, List, [], ◌∷◌, ◌≡◌, ℕ, zero, suc, ◌+◌, ◌-◌, ◌/◌, ◌%◌, ◌^◌, ◌≤◌, ◌<◌, ltb, eqb, length}
 use Rattle.answer.specs.Numbers.{level_room, with_level}
 use Rattle.quad.specs.Numbers.{none}
 use Rattle.quad.specs.Direction.{adj_of, reflect_of, opquad_of, common_side_of}

@@ -10,7 +10,7 @@ ghost use Rattle.neighbour.specs.Search.{corner_at, Cornered};
 ghost use Rattle.neighbour.specs.Neighbour.{leaf_beyond};
 ghost use Rattle.neighbour.specs.Calls.{CornerLeaves, DiagonalLeaves};
 
-use answer::Outcome;
+use answer::{Outcome, Refusal};
 use neighbour::Found;
 use neighbour_find::{find, mirror, outcome};
 use table_node::{level_of, word_at};
@@ -50,18 +50,15 @@ fn leaf_beyond(n: u32, table: &[u32], p: usize, direction: usize, corner: usize)
 pub fn corner_leaf(n: u32, table: &[u32], node: u32, side: u32, corner: u32) -> Outcome
     ensures { CornerLeaves n table.now node side corner result }
 {
-    let asked = table_check::asked(n, table, node);
-    if !answer::answered(asked) {
-        return asked;
-    }
+    table_check::asked(n, table, node)?;
     if 3 < side {
-        return Outcome::BadDirection { given: side };
+        return Err(Refusal::BadDirection { given: side });
     }
     if 3 < corner {
-        return Outcome::BadDirection { given: corner };
+        return Err(Refusal::BadDirection { given: corner });
     }
     if !quad::adj(side as usize, corner as usize) {
-        return Outcome::BadDirection { given: corner };
+        return Err(Refusal::BadDirection { given: corner });
     }
     outcome(leaf_beyond(n, table, node as usize, side as usize, corner as usize))
 }
@@ -70,12 +67,9 @@ pub fn corner_leaf(n: u32, table: &[u32], node: u32, side: u32, corner: u32) -> 
 pub fn diagonal_leaf(n: u32, table: &[u32], node: u32, corner: u32) -> Outcome
     ensures { DiagonalLeaves n table.now node corner result }
 {
-    let asked = table_check::asked(n, table, node);
-    if !answer::answered(asked) {
-        return asked;
-    }
+    table_check::asked(n, table, node)?;
     if 3 < corner {
-        return Outcome::BadDirection { given: corner };
+        return Err(Refusal::BadDirection { given: corner });
     }
     outcome(leaf_beyond(
         n,

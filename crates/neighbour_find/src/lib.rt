@@ -11,7 +11,7 @@ ghost use Rattle.neighbour.specs.Search.{Small};
 ghost use Rattle.neighbour.specs.Neighbour.{neighbour_found, outcome_of};
 ghost use Rattle.neighbour.specs.Calls.{Neighbours};
 
-use answer::Outcome;
+use answer::{Outcome, Refusal};
 use neighbour::{Climb, Found};
 use table_node::{level_of, son_type, word_at};
 
@@ -115,12 +115,8 @@ pub fn outcome(found: Option<Found>) -> Outcome
     requires { Small found }
     ensures { result ≡ outcome_of found }
 {
-    let Some(Found { node, level }) = found else {
-        return Outcome::NoBlock;
-    };
-    Outcome::Answered {
-        value: answer::with_level(node as u32, level),
-    }
+    let found = found.ok_or(Refusal::NoBlock)?;
+    Ok(answer::with_level(found.node as u32, found.level))
 }
 
 // The neighbour of a node in a direction: the smallest node, at least as large, that contains the block of its size
@@ -129,12 +125,9 @@ pub fn outcome(found: Option<Found>) -> Outcome
 pub fn neighbour(n: u32, table: &[u32], node: u32, direction: u32) -> Outcome
     ensures { Neighbours n table.now node direction result }
 {
-    let asked = table_check::asked(n, table, node);
-    if !answer::answered(asked) {
-        return asked;
-    }
+    table_check::asked(n, table, node)?;
     if 7 < direction {
-        return Outcome::BadDirection { given: direction };
+        return Err(Refusal::BadDirection { given: direction });
     }
     let level = level_of(n, table, node as usize);
     outcome(find(n, table, node as usize, level, direction as usize))
