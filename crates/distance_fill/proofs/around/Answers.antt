@@ -20,12 +20,12 @@ overflow_sub-best c = omega (arith, c.side-best.ensures, pow_pos c.args.level)
 pub loop-direction-init : goal.loop-direction-init
 loop-direction-init c =
     let s = c in
-    (omega arith, around_none s.args.table.now s.args.level s.args.near.now _ s.requires.0 c.side-best.ensures)
+    around_none s.args.table.now s.args.level s.args.near.now _ s.requires.0 c.side-best.ensures
 
 pub returns-then-best-eq0 : goal.returns-then-best-eq0
 returns-then-best-eq0 c =
     let s = c in
-    around_zero s.args.table.now s.args.level s.args.near.now _ _ (omega arith) c.loop-direction.invariant.1 c.if-best-eq0.true
+    around_zero s.args.table.now s.args.level s.args.near.now _ _ (omega arith) c.loop-direction.invariant c.if-best-eq0.true
 
 pub offset_bounds-near-direction : goal.offset_bounds-near-direction
 offset_bounds-near-direction c = omega arith
@@ -39,9 +39,9 @@ beside-best-requires c = (c.requires.1 c.loop-direction.direction (omega arith),
 pub loop-direction-preserved : goal.loop-direction-preserved
 loop-direction-preserved c =
     let s = c in
-    (omega arith, around_more s.args.table.now s.args.level s.args.near.now _ _ _ c.loop-direction.invariant.1 c.beside-best.ensures)
+    around_more s.args.table.now s.args.level s.args.near.now _ _ _ c.loop-direction.invariant c.beside-best.ensures
 
 pub returns : goal.returns
 returns c =
     let s = c in
-    around_all s.args.table.now s.args.level s.args.near.now _ _ (omega arith) (omega arith) c.loop-direction.invariant.1
+    around_all s.args.table.now s.args.level s.args.near.now _ _ (omega arith) (omega arith) c.loop-direction.invariant
