@@ -22,6 +22,8 @@ fn quarter(table: &[u32], w: u32, quadrant: usize) -> u32
 
 // Writes what is around the son of fork p in a quadrant over eight zeros: three brothers, and parts of what lies beside
 // p, beyond it and at its corner in that quadrant.
+// The eight are a plain array: what is said of them (`InNodes`, `Surrounds`) speaks of the table, which a struct of them
+// does not hold; and they are written where they lie, as an array given back is copied (bench/SPEED.md).
 pub fn of_son(table: &[u32], p: usize, quadrant: usize, around: &[u32; 8], own: &mut [u32; 8])
     requires { (p < nodes table.now) × (quadrant < 4) × InNodes table.now around.now
         × (own.old ≡ replicate 8 0) }

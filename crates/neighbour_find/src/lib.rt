@@ -82,6 +82,7 @@ fn ascend(n: u32, table: &[u32], p: usize, level: u32, direction: usize) -> Opti
 
 // Back down from where a climb ended, a son link and a level at a time, to that level or the leaf in which the block
 // lies.
+// It follows links: `for below in (level..its).rev()` would stop at a leaf of level `below + 1`, and is no plainer.
 fn descend(n: u32, table: &[u32], from: Climb, level: u32) -> Found
     requires { Descends n table.now from level }
     ensures { Some result ≡ found_in n table.now level (back_from n table.now from level) }
