@@ -12,11 +12,7 @@ fn fill_row(raster: &mut [u8], start: usize, width: usize, colour: u8)
     requires { start + width ≤ length raster.old }
     ensures { BytesFilled start width colour raster.old raster.new }
 {
-    let mut i = 0;
-    while i < width {
-        raster[start + i] = colour;
-        i += 1;
-    }
+    raster[start..start + width].fill(colour);
 }
 
 // Fills a block, row by row.
