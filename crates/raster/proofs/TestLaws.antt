@@ -9,8 +9,10 @@ use native.Mathlib.Nat.{eq-or-lt_of_le, le_of_suc-le-suc}
 use native.Mathlib.Numerals.{add-one}
 use native.Mathlib.Omega.{arith}
 use lib.Dec.{eqb, ltb}
-use lib.ListN.{length, get_or, drop}
-use lib.Seq.{drop-cons, drop-length}
+use lib.ListN.{length, get_or}
+use Rattle.std.proofs.Common.{Option, Some, None}
+use Rattle.std.specs.List.{position, position_from}
+use Rattle.std.proofs.lemmas.Iterator.Adapters.{position_from-zero}
 use borrow.Author.Tests.{eq-eqb, ne_eqb, eqb-true, lt-ltb, le-ltb, ltb-true, ltb-false}
 use Rattle.base.proofs.BoolLaws.{on, by_bool}
 use Rattle.base.proofs.PowLaws.{four_pow}
@@ -31,21 +33,29 @@ module _ (n bytes s : ℕ) (e : s ≡ 2 ^ n) where
   pub length_right : bytes ≡ s * s → Answered 0 ≡ raster_length n bytes
   length_right q = rw (eq-eqb bytes (4 ^ n) (q ∙ rw e (sym (four_pow n))))
 
--- the first bad byte, from place i on
-module _ (R : List ℕ) where
-  pub pixels_next : (i : ℕ) → i < length R → get_or R i 0 ≤ top_colour → pixels_from (drop i R) i ≡ pixels_from (drop (i + 1) R) (i + 1)
-  unfolding pixels_from
-  pixels_next i lt h = rw (drop-cons R i 0 lt, add-one, pixels_from, le-ltb top_colour (get_or R i 0) h)
+-- the first bad byte, by its place
+told : Option ℕ → Outcome
+told None = Answered 0
+told (Some i) = BadPixel i
 
-  pub pixels_bad : (i : ℕ) → i < length R → top_colour < get_or R i 0 → pixels_from (drop i R) i ≡ BadPixel i
-  unfolding pixels_from
-  pixels_bad i lt h = rw (drop-cons R i 0 lt, pixels_from, lt-ltb top_colour (get_or R i 0) h)
+pixels_told : (R : List ℕ) (i : ℕ) → pixels_from R i ≡ told (position_from (λ b. ltb top_colour b) i R)
+unfolding pixels_from told
+pixels_told [] i = refl
+pixels_told (b ∷ bs) i = go (ltb top_colour b) refl (pixels_told bs (i + 1))
+  where
+    go : (u : Bool) → ltb top_colour b ≡ u → pixels_from bs (i + 1) ≡ told (position_from (λ b. ltb top_colour b) (i + 1) bs)
+        → pixels_from (b ∷ bs) i ≡ told (position_from (λ b. ltb top_colour b) i (b ∷ bs))
+    go true q ih = rw (pixels_from, q)
+    go false q ih = rw (pixels_from, q) ih
 
-  pub pixels_end : (i : ℕ) → i ≤ length R → length R ≤ i → pixels_from (drop i R) i ≡ Answered 0
-  unfolding pixels_from
-  pixels_end i le ge =
-      let e : i ≡ length R = omega arith in
-      rw (e, drop-length R)
+module _ (R : List ℕ) (r : Option ℕ) (e : r ≡ position (λ b. ltb top_colour b) R) where
+  pub pixels_found : (i : ℕ) → r ≡ Some i → BadPixel i ≡ pixels_from R 0
+  unfolding told
+  pixels_found i q = rw (pixels_told, ← position_from-zero, ← e, q) refl
+
+  pub pixels_passed : r ≡ None → Answered 0 ≡ pixels_from R 0
+  unfolding told
+  pixels_passed q = rw (pixels_told, ← position_from-zero, ← e, q) refl
 
 -- none, where no byte is above the top colour
 pub pixels_pass : (R : List ℕ) (i : ℕ) → NoneAbove top_colour R → pixels_from R i ≡ Answered 0
@@ -100,7 +110,7 @@ module _ (n : ℕ) (R : List ℕ) where
 
 -- four parts of p bytes each, looked at together: none of their first i is above m
 module _ (R : List ℕ) (p : ℕ) where
-  abbrev Below : ℕ → ℕ → Type 0
+  abbrev pub Below : ℕ → ℕ → Type 0
   Below m j = (get_or R j 0 ≤ m) × (get_or R (p + j) 0 ≤ m) × (get_or R (2 * p + j) 0 ≤ m) × (get_or R (3 * p + j) 0 ≤ m)
 
   pub none_above_next : (m k i : ℕ) → ((j : ℕ) → j < i → Below m j) → m ≤ k → Below k i → (j : ℕ) → j < i + 1 → Below k j

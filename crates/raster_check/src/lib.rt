@@ -1,8 +1,8 @@
 // The tests of a raster: its level, its length, its bytes.
 #![tactic(auto)]
 
-ghost use Rattle.std.specs.Prelude.{◌≡◌, ◌%◌, ◌≤◌, ◌^◌, length};
-ghost use Rattle.quad.specs.Numbers.{top_level};
+ghost use Rattle.std.specs.Prelude.{◌≡◌, ◌%◌, ◌≤◌, ◌^◌, nat_lt, position, length};
+ghost use Rattle.quad.specs.Numbers.{top_level, top_colour};
 ghost use Rattle.raster.specs.Raster.{raster_length, pixels_from};
 ghost use Rattle.raster.specs.Blocks.{readable_of, NoneAbove};
 
@@ -20,16 +20,6 @@ pub fn raster_length(n: u32, bytes: usize) -> Outcome
     Outcome::Answered { value: 0 }
 }
 
-// The larger of two bytes.
-fn larger(a: u8, b: u8) -> u8
-    ensures { (a ≤ result) × (b ≤ result) }
-{
-    if a < b {
-        return b;
-    }
-    a
-}
-
 // A byte that no byte of a raster of four parts is above: the highest, found without a way out, so that many are looked
 // at together, from all four parts.
 fn highest(raster: &[u8]) -> u8
@@ -38,29 +28,19 @@ fn highest(raster: &[u8]) -> u8
 {
     let part = raster.len() / 4;
     let mut most = 0;
-    let mut i = 0;
-    while i < part {
-        let north = larger(raster[i], raster[part + i]);
-        let south = larger(raster[2 * part + i], raster[3 * part + i]);
-        most = larger(most, larger(north, south));
-        i += 1;
+    for i in 0..part {
+        let north = raster[i].max(raster[part + i]);
+        let south = raster[2 * part + i].max(raster[3 * part + i]);
+        most = most.max(north.max(south));
     }
     most
 }
 
-// The first byte that is no colour.
-fn first_bad(raster: &[u8]) -> Outcome
-    requires { length raster.now ≤ 4 ^ top_level }
-    ensures { result ≡ pixels_from raster.now 0 }
+// The place of the first byte that is no colour.
+fn first_bad(raster: &[u8]) -> Option<usize>
+    ensures { result ≡ position (λ b. nat_lt top_colour b) raster.now }
 {
-    let mut i = 0;
-    while i < raster.len() {
-        if quad::TOP_COLOUR < raster[i] as usize {
-            return Outcome::BadPixel { place: i as u32 };
-        }
-        i += 1;
-    }
-    Outcome::Answered { value: 0 }
+    raster.iter().position(|b| quad::TOP_COLOUR < *b as usize)
 }
 
 // The first byte that is no colour, looked for only where the highest is none, or where there is one byte.
@@ -68,13 +48,13 @@ fn pixels(raster: &[u8]) -> Outcome
     requires { length raster.now ≤ 4 ^ top_level }
     ensures { result ≡ pixels_from raster.now 0 }
 {
-    if raster.len() % 4 != 0 {
-        return first_bad(raster);
+    if raster.len() % 4 == 0 && highest(raster) as usize <= quad::TOP_COLOUR {
+        return Outcome::Answered { value: 0 };
     }
-    if quad::TOP_COLOUR < highest(raster) as usize {
-        return first_bad(raster);
+    match first_bad(raster) {
+        Some(i) => Outcome::BadPixel { place: i as u32 },
+        None => Outcome::Answered { value: 0 },
     }
-    Outcome::Answered { value: 0 }
 }
 
 // The tests for 1, 2 and 8.
