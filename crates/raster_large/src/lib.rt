@@ -11,16 +11,11 @@ use raster_notes::{eight, sixteen};
 fn joined(nw: u32, ne: u32, sw: u32, se: u32) -> u32
     ensures { result ≡ joined_of nw ne sw se }
 {
-    if nw != ne {
-        return quad::FORK as u32;
+    if nw == ne && nw == sw && nw == se {
+        nw
+    } else {
+        quad::FORK as u32
     }
-    if nw != sw {
-        return quad::FORK as u32;
-    }
-    if nw != se {
-        return quad::FORK as u32;
-    }
-    nw
 }
 
 // Where quadrant q begins of a block whose quarters have the side `half`.
@@ -51,11 +46,9 @@ fn large(
     let apart = slots / 4;
     let first = slot + 1;
     let mut nodes = 1;
-    let mut q = 0;
-    while q < 4 {
+    for q in 0..4 {
         let place = part_at(across, at, side, q);
         let its = first + q * apart;
-        q += 1;
         if half == 4 {
             nodes += sixteen(&*raster, across, place, its, kinds);
         } else {
@@ -85,10 +78,8 @@ pub fn slots(n: u32) -> usize
     ensures { result ≡ slots_of (n - 3) }
 {
     let mut slots = 1;
-    let mut level = 3;
-    while level < n {
+    for _level in 3..n {
         slots = 4 * slots + 1;
-        level += 1;
     }
     slots
 }
