@@ -43,13 +43,11 @@ fn put_fork(
     let own = 6 * (p as usize);
     table[own] = father;
     let mut next = p + 1;
-    let mut q = 0;
-    while q < 4 {
+    for q in 0..4 {
         table[own + 1 + q] = next;
         let u = 2 * x + q % 2;
         let v = 2 * y + q / 2;
         let its = slot + 1 + q * apart;
-        q += 1;
         if half == 2 {
             next = put_sixteen(&*raster, n, u, v, table, next, p);
         } else {
@@ -78,14 +76,14 @@ fn put(raster: &[u8], n: u32, kinds: &[u32; 341], table: &mut [u32]) -> u32
         put_leaf(table, 0, nobody, kind);
         return 1;
     }
-    if n == 1 {
-        return put_four(raster, 1, 0, 0, table, 0, nobody);
+    match n {
+        1 => put_four(raster, 1, 0, 0, table, 0, nobody),
+        2 => put_sixteen(raster, 2, 0, 0, table, 0, nobody),
+        _ => {
+            let slots = raster_large::slots(n);
+            put_fork(raster, n, n, 0, 0, 0, slots, kinds, table, 0, nobody)
+        },
     }
-    if n == 2 {
-        return put_sixteen(raster, 2, 0, 0, table, 0, nobody);
-    }
-    let slots = raster_large::slots(n);
-    put_fork(raster, n, n, 0, 0, 0, slots, kinds, table, 0, nobody)
 }
 
 // Building: for any level, any bytes and any table, the preorder table of the raster's one tree at the table's start
