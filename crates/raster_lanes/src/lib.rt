@@ -1,36 +1,20 @@
 // Pixels looked at many at once, as parts of one number.
 #![tactic(auto)]
 
-ghost use Rattle.std.specs.Prelude.{◌≡◌, ◌+◌, ◌*◌, ◌≤◌, ◌<◌, length, get_or};
+ghost use Rattle.std.specs.Prelude.{◌≡◌, ◌+◌, ◌*◌, ◌≤◌, ◌<◌, length};
 ghost use Rattle.quad.specs.Numbers.{fork_type};
 ghost use Rattle.quad.specs.Tree.{colour, size_of, tree_of};
 ghost use Rattle.raster.specs.Sums.{Colours};
-ghost use Rattle.raster_lanes.specs.Lanes.{window, two_from, four_from, eight_from, black_row, two_rows, four_rows};
+ghost use Rattle.raster_lanes.specs.Lanes.{window, four_from, eight_from, black_row, two_rows, four_rows};
 ghost use Rattle.raster_lanes.specs.Lanes.{eight_rows, kind_of, packed, last_bits, fourths_of, mixed_lanes, lane_sum};
 ghost use Rattle.raster_lanes.specs.Lanes.{mixed_two, forks_of, FourSums, sums_from};
-
-// A pixel.
-fn byte_at(raster: &[u8], at: usize) -> u64
-    requires { (at < length raster.now) × Colours raster.now }
-    ensures { (result ≡ get_or raster.now at 0) × (result ≤ 1) }
-{
-    raster[at] as u64
-}
-
-// Two pixels.
-fn two_at(raster: &[u8], at: usize) -> u64
-    requires { (at + 2 ≤ length raster.now) × Colours raster.now }
-    ensures { (result ≡ two_from raster.now at) × (result ≤ 257) }
-{
-    byte_at(raster, at) + 256 * byte_at(raster, at + 1)
-}
 
 // Four pixels.
 pub fn four_at(raster: &[u8], at: usize) -> u64
     requires { (at + 4 ≤ length raster.now) × Colours raster.now }
     ensures { (result ≡ four_from raster.now at) × (result ≤ 16843009) }
 {
-    two_at(raster, at) + 65536 * two_at(raster, at + 2)
+    u64::from(u32::from_le_bytes([raster[at], raster[at + 1], raster[at + 2], raster[at + 3]]))
 }
 
 // Eight pixels.
@@ -38,7 +22,16 @@ fn eight_at(raster: &[u8], at: usize) -> u64
     requires { (at + 8 ≤ length raster.now) × Colours raster.now }
     ensures { (result ≡ eight_from raster.now at) × (result ≤ black_row) }
 {
-    four_at(raster, at) + 4294967296 * four_at(raster, at + 4)
+    u64::from_le_bytes([
+        raster[at],
+        raster[at + 1],
+        raster[at + 2],
+        raster[at + 3],
+        raster[at + 4],
+        raster[at + 5],
+        raster[at + 6],
+        raster[at + 7],
+    ])
 }
 
 // Two rows of eight pixels, added up.

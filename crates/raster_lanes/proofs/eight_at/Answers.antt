@@ -1,7 +1,12 @@
--- `raster_lanes::eight_at`: its two halves.
+use Prim.Native.Nat.{◌+◌}
+use native.Mathlib.Nat.{add_assoc}
 use native.Mathlib.Omega.{arith}
-use Rattle.raster_lanes.specs.Lanes.{eight_from}
+use Rattle.raster_lanes.specs.Lanes.{two_from, four_from, eight_from}
 use Rattle.raster_lanes.proofs.eight_at.Goals as goal
 
 pub returns : goal.returns
-returns c = (unfold eight_from in omega (arith, c.four_at.ensures.0, c.four_at-2.ensures.0), omega (arith, c.four_at.ensures.1, c.four_at-2.ensures.1))
+unfolding eight_from four_from two_from
+returns c =
+    let few = c.requires.1 in
+    let at = c.args.at in
+    (simp add_assoc (omega (arith, c.from_le_bytes.ensures)), omega (arith, c.from_le_bytes.ensures, few at, few (at + 1), few (at + 2), few (at + 3), few (at + 4), few (at + 5), few (at + 6), few (at + 7)))

@@ -1,7 +1,12 @@
--- `raster_lanes::four_at`: its two halves.
+use Prim.Native.Nat.{◌+◌}
+use native.Mathlib.Nat.{add_assoc}
 use native.Mathlib.Omega.{arith}
-use Rattle.raster_lanes.specs.Lanes.{four_from}
+use Rattle.raster_lanes.specs.Lanes.{two_from, four_from}
 use Rattle.raster_lanes.proofs.four_at.Goals as goal
 
 pub returns : goal.returns
-returns c = (unfold four_from in omega (arith, c.two_at.ensures.0, c.two_at-2.ensures.0), omega (arith, c.two_at.ensures.1, c.two_at-2.ensures.1))
+unfolding four_from two_from
+returns c =
+    let few = c.requires.1 in
+    let at = c.args.at in
+    (simp add_assoc (omega (arith, c.from_le_bytes.ensures, c.from.ensures)), omega (arith, c.from_le_bytes.ensures, c.from.ensures, few at, few (at + 1), few (at + 2), few (at + 3)))
