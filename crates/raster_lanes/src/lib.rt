@@ -6,7 +6,7 @@ ghost use Rattle.quad.specs.Numbers.{fork_type};
 ghost use Rattle.quad.specs.Tree.{colour, size_of, tree_of};
 ghost use Rattle.raster.specs.Sums.{Colours};
 ghost use Rattle.raster_lanes.specs.Lanes.{window, four_from, eight_from, black_row, two_rows, four_rows};
-ghost use Rattle.raster_lanes.specs.Lanes.{eight_rows, kind_of, packed, last_bits, fourths_of, mixed_lanes, lane_sum};
+ghost use Rattle.raster_lanes.specs.Lanes.{eight_rows, kind_of, packed, lane_bits, mixed_lanes, lane_sum};
 ghost use Rattle.raster_lanes.specs.Lanes.{mixed_two, forks_of, FourSums, sums_from};
 
 // Four pixels.
@@ -35,6 +35,7 @@ fn eight_at(raster: &[u8], at: usize) -> u64
 }
 
 // Two rows of eight pixels, added up.
+#[tactic(auto, unfolding(crate::specs::Lanes::two_rows))]
 fn two_rows(raster: &[u8], across: usize, at: usize) -> u64
     requires { (at + across + 8 ≤ length raster.now) × Colours raster.now }
     ensures { (result ≡ two_rows raster.now across at) × (result ≤ 2 * black_row) }
@@ -43,6 +44,7 @@ fn two_rows(raster: &[u8], across: usize, at: usize) -> u64
 }
 
 // Four rows.
+#[tactic(auto, unfolding(crate::specs::Lanes::four_rows))]
 fn four_rows(raster: &[u8], across: usize, at: usize) -> u64
     requires { (at + 3 * across + 8 ≤ length raster.now) × Colours raster.now }
     ensures { (result ≡ four_rows raster.now across at) × (result ≤ 4 * black_row) }
@@ -51,6 +53,7 @@ fn four_rows(raster: &[u8], across: usize, at: usize) -> u64
 }
 
 // Eight rows: what tells a block of level 3.
+#[tactic(auto, unfolding(crate::specs::Lanes::eight_rows))]
 pub fn eight_rows(raster: &[u8], across: usize, at: usize) -> u64
     requires { (at + 7 * across + 8 ≤ length raster.now) × Colours raster.now }
     ensures { (result ≡ eight_rows raster.now across at) × (result ≤ 8 * black_row) }
@@ -59,39 +62,32 @@ pub fn eight_rows(raster: &[u8], across: usize, at: usize) -> u64
 }
 
 // A block's type by the sum of its rows, `most` being that of black ones.
+#[tactic(auto, unfolding(crate::specs::Lanes::kind_of))]
 pub fn kind(all: u64, most: u64) -> u32
     ensures { result ≡ kind_of all most }
 {
     if all == 0 {
-        return 0;
+        0
+    } else if all == most {
+        1
+    } else {
+        quad::FORK as u32
     }
-    if all == most {
-        return 1;
-    }
-    quad::FORK as u32
 }
 
-// The lanes' last three bits.
-fn apart(v: u64) -> u64
-    ensures { result ≡ last_bits v }
+// Of each lane the bits from the one that counts BELOW on, as many as OF numbers need.
+#[tactic(auto, unfolding(crate::specs::Lanes::lane_bits))]
+fn bits<const BELOW: u64, const OF: u64>(v: u64) -> u64
+    requires { (0 < BELOW) × (0 < OF) × (OF ≤ 8) }
+    ensures { result ≡ lane_bits BELOW OF v }
 {
     let second = v / 65536;
     let third = second / 65536;
     let fourth = third / 65536;
-    v % 8 + 65536 * (second % 8) + 4294967296 * (third % 8) + 281474976710656 * (fourth % 8)
-}
-
-// The lanes' third bits.
-fn fourths(v: u64) -> u64
-    ensures { result ≡ fourths_of v }
-{
-    let second = v / 65536;
-    let third = second / 65536;
-    let fourth = third / 65536;
-    v / 4 % 2
-        + 65536 * (second / 4 % 2)
-        + 4294967296 * (third / 4 % 2)
-        + 281474976710656 * (fourth / 4 % 2)
+    v / BELOW % OF
+        + 65536 * (second / BELOW % OF)
+        + 4294967296 * (third / BELOW % OF)
+        + 281474976710656 * (fourth / BELOW % OF)
 }
 
 // 1 in the lanes whose sums are neither 0 nor 4: three more take all others past 3, and 4 is past it alone.
@@ -99,10 +95,11 @@ fn mixed_lanes(v: u64) -> u64
     requires { FourSums v }
     ensures { (result ≡ mixed_lanes v) × (result ≤ packed 1 1 1 1) }
 {
-    fourths(v + 844437815230467) - fourths(v)
+    bits::<4, 2>(v + 844437815230467) - bits::<4, 2>(v)
 }
 
 // The sum of the lanes.
+#[tactic(auto, unfolding(crate::specs::Lanes::lane_sum))]
 fn lane_sum(v: u64) -> u64
     ensures { (result ≡ lane_sum v) × (result ≤ 262140) }
 {
@@ -113,6 +110,7 @@ fn lane_sum(v: u64) -> u64
 }
 
 // How many of the sums in the first and the third lane are neither 0 nor 16.
+#[tactic(auto, unfolding(crate::specs::Lanes::mixed_two))]
 fn mixed_two(v: u64) -> u64
     ensures { (result ≡ mixed_two v) × (result ≤ 2) }
 {
@@ -127,7 +125,7 @@ fn four_sums(raster: &[u8], across: usize, at: usize) -> u64
     ensures { result ≡ sums_from (window raster.now across at) 0 }
 {
     let rows = two_rows(raster, across, at);
-    apart(rows + rows / 256)
+    bits::<1, 8>(rows + rows / 256)
 }
 
 // The forks of two blocks of level 2 side by side, from the sums in their upper and in their lower half.
