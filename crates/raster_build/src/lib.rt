@@ -11,7 +11,7 @@ ghost use Rattle.raster.specs.Calls.{Building};
 ghost use Rattle.raster_notes.specs.Notes.{Noted};
 ghost use Rattle.raster_count.specs.Kinds.{Known};
 
-use answer::Outcome;
+use answer::{Outcome, Refusal};
 use raster_check::readable;
 use raster_count::count;
 use raster_put::{put_four, put_sixteen};
@@ -91,16 +91,12 @@ fn put(raster: &[u8], n: u32, kinds: &[u32; 341], table: &mut [u32]) -> u32
 pub fn build(n: u32, raster: &[u8], table: &mut [u32]) -> Outcome
     ensures { Building n raster.now table.old result table.new }
 {
-    let read = readable(n, raster);
-    if !answer::answered(read) {
-        return read;
-    }
+    readable(n, raster)?;
     let mut kinds: [u32; 341] = [0; 341];
     let nodes = count(raster, n, &mut kinds);
     let needed = 6 * nodes;
     if table.len() < needed as usize {
-        return Outcome::NoRoom { needed };
+        return Err(Refusal::NoRoom { needed });
     }
-    let value = put(raster, n, &kinds, table);
-    Outcome::Answered { value }
+    Ok(put(raster, n, &kinds, table))
 }

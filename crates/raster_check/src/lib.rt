@@ -6,7 +6,7 @@ ghost use Rattle.quad.specs.Numbers.{top_level, top_colour};
 ghost use Rattle.raster.specs.Raster.{raster_length, pixels_from};
 ghost use Rattle.raster.specs.Blocks.{readable_of, NoneAbove};
 
-use answer::Outcome;
+use answer::{Outcome, Refusal};
 
 // Whether a raster of level n has that many bytes.
 pub fn raster_length(n: u32, bytes: usize) -> Outcome
@@ -15,9 +15,9 @@ pub fn raster_length(n: u32, bytes: usize) -> Outcome
 {
     let across = quad::side(n) as usize;
     if bytes != across * across {
-        return Outcome::WrongLength { which: 1 };
+        return Err(Refusal::WrongLength { which: 1 });
     }
-    Outcome::Answered { value: 0 }
+    Ok(0)
 }
 
 // A byte that no byte of a raster of four parts is above: the highest, found without a way out, so that many are looked
@@ -49,11 +49,11 @@ fn pixels(raster: &[u8]) -> Outcome
     ensures { result ≡ pixels_from raster.now 0 }
 {
     if raster.len() % 4 == 0 && highest(raster) as usize <= quad::TOP_COLOUR {
-        return Outcome::Answered { value: 0 };
+        return Ok(0);
     }
     match first_bad(raster) {
-        Some(i) => Outcome::BadPixel { place: i as u32 },
-        None => Outcome::Answered { value: 0 },
+        Some(i) => Err(Refusal::BadPixel { place: i as u32 }),
+        None => Ok(0),
     }
 }
 
@@ -62,11 +62,8 @@ pub fn readable(n: u32, raster: &[u8]) -> Outcome
     ensures { result ≡ readable_of n raster.now }
 {
     if quad::TOP_LEVEL < n {
-        return Outcome::BadLevel { place: 0 };
+        return Err(Refusal::BadLevel { place: 0 });
     }
-    let sized = raster_length(n, raster.len());
-    if !answer::answered(sized) {
-        return sized;
-    }
+    raster_length(n, raster.len())?;
     pixels(raster)
 }

@@ -1,4 +1,5 @@
 -- Decoding, from its refusals to the raster: the outcome and the raster that the call leaves, each way that it ends.
+use Rattle.std.specs.Prelude.{Ok}
 use mathlib.Core.Bool.{Bool, true, false, not}
 use mathlib.Core.List.{List}
 use mathlib.Core.Path.{◌≡◌, refl, ap, sym, ◌∙◌}
@@ -6,9 +7,7 @@ use Prim.Native.Nat.{ℕ, ◌^◌}
 use native.Mathlib.Nat.{div-eq_of_lt}
 use lib.ListN.{length}
 use Rattle.base.proofs.BoolLaws.{on, off}
-use Rattle.answer.specs.declared.Outcome.{Outcome}
-use Rattle.answer.specs.declared.Outcome.TheVariants.{Answered}
-use Rattle.answer.specs.Numbers.{answers, and_then}
+use Rattle.answer.specs.Numbers.{Outcome, answers, and_then}
 use Rattle.answer.proofs.OutcomeLaws.{then_stop, then_go}
 use Rattle.table.specs.Rules.{sizes_of, faults_of, check_of, Accepted}
 use Rattle.table.proofs.AcceptedLaws.{root_at}
@@ -46,12 +45,12 @@ module _ (n : ℕ) (T U : List ℕ) where
           decodes_not s₂ (then_go (sizes_of n T) s₁ _ u₁ e₁ a₁ s₂ h₁ (then_stop (raster_length n (length U)) s₂ _ u₂ e₂ a₂ h)) (off u₂ (answers s₂) a₂ h)
 
       module _ (h₂ : not u₂ ≡ false) (s₃ : Outcome) (u₃ : Bool) (e₃ : s₃ ≡ faults_of n T) (a₃ : u₃ ≡ answers s₃) where
-        decode_go : (r : Outcome) → r ≡ and_then (faults_of n T) (Answered 0) → r ≡ decode_of n T (length U)
+        decode_go : (r : Outcome) → r ≡ and_then (faults_of n T) (Ok 0) → r ≡ decode_of n T (length U)
         unfolding decode_of
         decode_go r e = then_go (sizes_of n T) s₁ _ u₁ e₁ a₁ r h₁ (then_go (raster_length n (length U)) s₂ _ u₂ e₂ a₂ r h₂ e)
 
         pub decodes_faults : not u₃ ≡ true → Decoding n T U s₃ U
-        decodes_faults h = decodes_not s₃ (decode_go s₃ (then_stop (faults_of n T) s₃ (Answered 0) u₃ e₃ a₃ h)) (off u₃ (answers s₃) a₃ h)
+        decodes_faults h = decodes_not s₃ (decode_go s₃ (then_stop (faults_of n T) s₃ (Ok 0) u₃ e₃ a₃ h)) (off u₃ (answers s₃) a₃ h)
 
         module _ (h₃ : not u₃ ≡ false) where
           passed_length : length U ≡ 4 ^ n
@@ -71,8 +70,8 @@ module _ (n : ℕ) (T U : List ℕ) where
             whole = passed_length;
           }
 
-          pub decodes_done : (W : List ℕ) → Painted n (in_block n 0 0) (colours_at T n 0) U W → Decoding n T U (Answered 0) W
+          pub decodes_done : (W : List ℕ) → Painted n (in_block n 0 0) (colours_at T n 0) U W → Decoding n T U (Ok 0) W
           unfolding decoded_raster
           decodes_done W p =
-              let d : Answered 0 ≡ decode_of n T (length U) = decode_go (Answered 0) (then_go (faults_of n T) s₃ (Answered 0) u₃ e₃ a₃ (Answered 0) h₃ refl) in
+              let d : Ok 0 ≡ decode_of n T (length U) = decode_go (Ok 0) (then_go (faults_of n T) s₃ (Ok 0) u₃ e₃ a₃ (Ok 0) h₃ refl) in
               record { answer = d; raster = rw (← d) (painted_sheet n T U W passed_length p) }

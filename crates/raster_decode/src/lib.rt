@@ -74,18 +74,9 @@ fn paint(table: &[u32], p: usize, n: u32, level: u32, x: usize, y: usize, raster
 pub fn decode(n: u32, table: &[u32], raster: &mut [u8]) -> Outcome
     ensures { Decoding n table.now raster.old result raster.new }
 {
-    let sized = table_check::sizes(n, table);
-    if !answer::answered(sized) {
-        return sized;
-    }
-    let long = raster_length(n, raster.len());
-    if !answer::answered(long) {
-        return long;
-    }
-    let checked = table_check::faults(n, table);
-    if !answer::answered(checked) {
-        return checked;
-    }
+    table_check::sizes(n, table)?;
+    raster_length(n, raster.len())?;
+    table_check::faults(n, table)?;
     paint(table, 0, n, n, 0, 0, raster);
-    Outcome::Answered { value: 0 }
+    Ok(0)
 }
