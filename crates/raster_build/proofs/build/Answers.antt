@@ -9,24 +9,19 @@ use Rattle.quad.proofs.PictureLaws.{tree_within}
 use Rattle.raster.specs.Raster.{picture_of}
 use Rattle.raster.proofs.BuildLaws.{builds_refused, passed_picture, builds_short, builds_done, sheet_ready}
 use Rattle.raster_count.proofs.NotedLaws.{sheet_window}
-use mathlib.Core.Bool.{not}
 use Rattle.raster_build.proofs.build.Goals as goal
 
-pub returns-then-not-answered : goal.returns-then-not-answered
-returns-then-not-answered c =
-    builds_refused c.args.n c.args.raster.now c.args.table.now _ _ c.readable-read.ensures c.answered.ensures
-    (ap not c.if-not-answered.true)
+pub returns-in_err-readable : goal.returns-in_err-readable
+returns-in_err-readable c = builds_refused c.args.n c.args.raster.now c.args.table.now _ _ c.from_residual.ensures c.in_err-readable.ensures
 
 pub count-nodes-requires : goal.count-nodes-requires
 count-nodes-requires c =
-    let pic = passed_picture c.args.n c.args.raster.now c.args.table.now
-    _ _ c.readable-read.ensures c.answered.ensures (ap not c.if-not-answered.false) in
+    let pic = passed_picture c.args.n c.args.raster.now c.args.table.now _ c.in_ok-readable.ensures in
     (pic, length-replicate {A = ℕ} 341 0)
 
 pub overflow_mul-needed : goal.overflow_mul-needed
 overflow_mul-needed c =
-    let pic = passed_picture c.args.n c.args.raster.now c.args.table.now
-    _ _ c.readable-read.ensures c.answered.ensures (ap not c.if-not-answered.false) in
+    let pic = passed_picture c.args.n c.args.raster.now c.args.table.now _ c.in_ok-readable.ensures in
     let f = picture_of c.args.n c.args.raster.now in
     record {
       fits = omega (
@@ -38,14 +33,13 @@ overflow_mul-needed c =
 
 pub returns-then-table-needed : goal.returns-then-table-needed
 returns-then-table-needed c =
-    builds_short c.args.n c.args.raster.now c.args.table.now _ _ c.readable-read.ensures c.answered.ensures (ap not c.if-not-answered.false) _
+    builds_short c.args.n c.args.raster.now c.args.table.now _ c.in_ok-readable.ensures _
     (c.count-nodes.ensures.nodes ∙ ap size_of (sheet_window _ _)) c.if-table-needed.true
 
-pub put-value-requires : goal.put-value-requires
-put-value-requires c =
+pub put-requires : goal.put-requires
+put-requires c =
     let counted = c.count-nodes.ensures in
-    let pic = passed_picture c.args.n c.args.raster.now c.args.table.now
-    _ _ c.readable-read.ensures c.answered.ensures (ap not c.if-not-answered.false) in (
+    let pic = passed_picture c.args.n c.args.raster.now c.args.table.now _ c.in_ok-readable.ensures in (
       pic,
       counted.noted,
       sheet_ready c.args.n c.args.raster.now c.args.table.now pic.top _ (counted.nodes ∙ ap size_of (sheet_window _ _)) c.if-table-needed.false,
@@ -53,6 +47,6 @@ put-value-requires c =
 
 pub returns : goal.returns
 returns c =
-    builds_done c.args.n c.args.raster.now c.args.table.now _ _ c.readable-read.ensures c.answered.ensures (ap not c.if-not-answered.false) _
+    builds_done c.args.n c.args.raster.now c.args.table.now _ c.in_ok-readable.ensures _
     (c.count-nodes.ensures.nodes ∙ ap size_of (sheet_window _ _)) _ _ c.if-table-needed.false
-    c.put-value.ensures
+    c.put.ensures
