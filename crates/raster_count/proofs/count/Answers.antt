@@ -7,8 +7,4 @@ use Rattle.raster_count.proofs.count.Goals as goal
 
 pub block-requires : goal.block-requires
 block-requires c =
-    let s = c in
-    (rw c.side-across.ensures (sheet_lies _ _ s.requires.0), omega (arith, c.if-n-lt3.false), s.requires.0.top, c.slots.ensures, omega (arith, c.slots.ensures, slots_fit (s.args.n - 3) (omega (arith, s.requires.0.top))), s.requires.1)
-
-pub returns : goal.returns
-returns c = rw c.side-across.ensures at c.block.ensures
+    (rw c.side-across.ensures (sheet_lies _ _ c.requires.0), omega (arith, c.if-n-lt3.false), c.requires.0.top, c.slots.ensures, omega (arith, c.slots.ensures, slots_fit (c.args.n - 3) (omega (arith, c.requires.0.top))), c.requires.1)

@@ -12,15 +12,12 @@ returns-then-kind c = leaf_noted _ _ _ _ _ _ _ (omega (arith, c.requires.2)) (c.
 
 pub returns-then-n-eq1 : goal.returns-then-n-eq1
 returns-then-n-eq1 c =
-    let s = c in
-    alone_noted _ _ _ _ _ _ _ _ (omega (arith, s.requires.1)) (omega (arith, s.requires.2)) (small_five _ _ s.requires.0 c.if-n-eq1.true (sym c.small_kind-kind.ensures ∙ c.if-kind.false)) (c.small_kind-kind.ensures ∙ sym (ap colour (sheet_window _ _)))
+    alone_noted _ _ _ _ _ _ _ _ (omega (arith, c.requires.1)) (omega (arith, c.requires.2)) (small_five _ _ c.requires.0 c.if-n-eq1.true (sym c.small_kind-kind.ensures ∙ c.if-kind.false)) (c.small_kind-kind.ensures ∙ sym (ap colour (sheet_window _ _)))
 
 pub count_sixteen-requires : goal.count_sixteen-requires
 count_sixteen-requires c =
-    let s = c in
-    let two : s.args.n ≡ 2 = small_two _ _ s.requires.0 s.requires.1 c.if-n-eq1.false (sym c.small_kind-kind.ensures ∙ c.if-kind.false) in (rw two at s.requires.0, sheet_on 2)
+    let two : c.args.n ≡ 2 = small_two _ _ c.requires.0 c.requires.1 c.if-n-eq1.false (sym c.small_kind-kind.ensures ∙ c.if-kind.false) in (rw two at c.requires.0, sheet_on 2)
 
 pub returns : goal.returns
 returns c =
-    let s = c in
-    let two : s.args.n ≡ 2 = small_two _ _ s.requires.0 s.requires.1 c.if-n-eq1.false (sym c.small_kind-kind.ensures ∙ c.if-kind.false) in alone_noted _ _ _ _ _ _ _ _ (omega (arith, s.requires.1)) (omega (arith, s.requires.2)) (rw two (c.count_sixteen.ensures ∙ sym (ap size_of (sheet_window 2 _)))) (c.small_kind-kind.ensures ∙ sym (ap colour (sheet_window _ _)))
+    let two : c.args.n ≡ 2 = small_two _ _ c.requires.0 c.requires.1 c.if-n-eq1.false (sym c.small_kind-kind.ensures ∙ c.if-kind.false) in alone_noted _ _ _ _ _ _ _ _ (omega (arith, c.requires.1)) (omega (arith, c.requires.2)) (rw two (c.count_sixteen.ensures ∙ sym (ap size_of (sheet_window 2 _)))) (c.small_kind-kind.ensures ∙ sym (ap colour (sheet_window _ _)))
