@@ -9,56 +9,102 @@ ghost use Rattle.raster_lanes.specs.Lanes.{window, four_from, eight_from, black_
 ghost use Rattle.raster_lanes.specs.Lanes.{eight_rows, kind_of, packed, lane_bits, mixed_lanes, lane_sum};
 ghost use Rattle.raster_lanes.specs.Lanes.{mixed_two, forks_of, FourSums, sums_from};
 
-// Four pixels.
-pub fn four_at(raster: &[u8], at: usize) -> u64
-    requires { (at + 4 ≤ length raster.now) × Colours raster.now }
-    ensures { (result ≡ four_from raster.now at) × (result ≤ 16843009) }
-{
-    u64::from(u32::from_le_bytes([raster[at], raster[at + 1], raster[at + 2], raster[at + 3]]))
+// A raster's bytes, all of them colours, seen as rows of a width.
+#[derive(Clone, Copy)]
+pub struct Pixels<'a> {
+    pub bytes: &'a [u8],
+    pub across: usize,
+    pub ghost colours: { Colours bytes.now },
 }
 
-// Eight pixels.
-fn eight_at(raster: &[u8], at: usize) -> u64
-    requires { (at + 8 ≤ length raster.now) × Colours raster.now }
-    ensures { (result ≡ eight_from raster.now at) × (result ≤ black_row) }
-{
-    u64::from_le_bytes([
-        raster[at],
-        raster[at + 1],
-        raster[at + 2],
-        raster[at + 3],
-        raster[at + 4],
-        raster[at + 5],
-        raster[at + 6],
-        raster[at + 7],
-    ])
-}
+impl Pixels<'_> {
+    // Four pixels.
+    pub fn four_at(&self, at: usize) -> u64
+        requires { at + 4 ≤ length self.now.bytes.now }
+        ensures { (result ≡ four_from self.now.bytes.now at) × (result ≤ 16843009) }
+    {
+        u64::from(u32::from_le_bytes([
+            self.bytes[at],
+            self.bytes[at + 1],
+            self.bytes[at + 2],
+            self.bytes[at + 3],
+        ]))
+    }
 
-// Two rows of eight pixels, added up.
-#[tactic(auto, unfolding(crate::specs::Lanes::two_rows))]
-fn two_rows(raster: &[u8], across: usize, at: usize) -> u64
-    requires { (at + across + 8 ≤ length raster.now) × Colours raster.now }
-    ensures { (result ≡ two_rows raster.now across at) × (result ≤ 2 * black_row) }
-{
-    eight_at(raster, at) + eight_at(raster, at + across)
-}
+    // Eight pixels.
+    fn eight_at(&self, at: usize) -> u64
+        requires { at + 8 ≤ length self.now.bytes.now }
+        ensures { (result ≡ eight_from self.now.bytes.now at) × (result ≤ black_row) }
+    {
+        u64::from_le_bytes([
+            self.bytes[at],
+            self.bytes[at + 1],
+            self.bytes[at + 2],
+            self.bytes[at + 3],
+            self.bytes[at + 4],
+            self.bytes[at + 5],
+            self.bytes[at + 6],
+            self.bytes[at + 7],
+        ])
+    }
 
-// Four rows.
-#[tactic(auto, unfolding(crate::specs::Lanes::four_rows))]
-fn four_rows(raster: &[u8], across: usize, at: usize) -> u64
-    requires { (at + 3 * across + 8 ≤ length raster.now) × Colours raster.now }
-    ensures { (result ≡ four_rows raster.now across at) × (result ≤ 4 * black_row) }
-{
-    two_rows(raster, across, at) + two_rows(raster, across, at + 2 * across)
-}
+    // Two rows of eight pixels, added up.
+    #[tactic(auto, unfolding(crate::specs::Lanes::two_rows))]
+    fn two_rows(&self, at: usize) -> u64
+        requires { at + self.now.across + 8 ≤ length self.now.bytes.now }
+        ensures { (result ≡ two_rows self.now.bytes.now self.now.across at) × (result ≤ 2 * black_row) }
+    {
+        self.eight_at(at) + self.eight_at(at + self.across)
+    }
 
-// Eight rows: what tells a block of level 3.
-#[tactic(auto, unfolding(crate::specs::Lanes::eight_rows))]
-pub fn eight_rows(raster: &[u8], across: usize, at: usize) -> u64
-    requires { (at + 7 * across + 8 ≤ length raster.now) × Colours raster.now }
-    ensures { (result ≡ eight_rows raster.now across at) × (result ≤ 8 * black_row) }
-{
-    four_rows(raster, across, at) + four_rows(raster, across, at + 4 * across)
+    // Four rows.
+    #[tactic(auto, unfolding(crate::specs::Lanes::four_rows))]
+    fn four_rows(&self, at: usize) -> u64
+        requires { at + 3 * self.now.across + 8 ≤ length self.now.bytes.now }
+        ensures { (result ≡ four_rows self.now.bytes.now self.now.across at) × (result ≤ 4 * black_row) }
+    {
+        self.two_rows(at) + self.two_rows(at + 2 * self.across)
+    }
+
+    // Eight rows: what tells a block of level 3.
+    #[tactic(auto, unfolding(crate::specs::Lanes::eight_rows))]
+    pub fn eight_rows(&self, at: usize) -> u64
+        requires { at + 7 * self.now.across + 8 ≤ length self.now.bytes.now }
+        ensures { (result ≡ eight_rows self.now.bytes.now self.now.across at) × (result ≤ 8 * black_row) }
+    {
+        self.four_rows(at) + self.four_rows(at + 4 * self.across)
+    }
+
+    // The sums of four blocks of level 1 side by side, in four lanes.
+    fn four_sums(&self, at: usize) -> u64
+        requires { at + self.now.across + 8 ≤ length self.now.bytes.now }
+        ensures { result ≡ sums_from (window self.now.bytes.now self.now.across at) 0 }
+    {
+        let rows = self.two_rows(at);
+        bits::<1, 8>(rows + rows / 256)
+    }
+
+    // The forks of two blocks of level 2 side by side, from their pixels.
+    fn half_forks(&self, at: usize) -> u64
+        requires { at + 3 * self.now.across + 8 ≤ length self.now.bytes.now }
+        ensures { (2 + 4 * result ≡ size_of (tree_of (window self.now.bytes.now self.now.across at) 2 0 0)
+            + size_of (tree_of (window self.now.bytes.now self.now.across at) 2 1 0)) × (result ≤ 262142) }
+    {
+        let north = self.four_sums(at);
+        let south = self.four_sums(at + 2 * self.across);
+        forks(north, south)
+    }
+
+    // The nodes of a block of level 3 that is a fork.
+    pub fn nodes(&self, at: usize) -> u32
+        requires { (at + 7 * self.now.across + 8 ≤ length self.now.bytes.now)
+            × (colour (tree_of (window self.now.bytes.now self.now.across at) 3 0 0) ≡ fork_type) }
+        ensures { result ≡ size_of (tree_of (window self.now.bytes.now self.now.across at) 3 0 0) }
+    {
+        let north = self.half_forks(at);
+        let south = self.half_forks(at + 4 * self.across);
+        (5 + 4 * (north + south)) as u32
+    }
 }
 
 // A block's type by the sum of its rows, `most` being that of black ones.
@@ -119,15 +165,6 @@ fn mixed_two(v: u64) -> u64
     (west + 15) / 16 + (east + 15) / 16 - (west / 16 + east / 16)
 }
 
-// The sums of four blocks of level 1 side by side, in four lanes.
-fn four_sums(raster: &[u8], across: usize, at: usize) -> u64
-    requires { (at + across + 8 ≤ length raster.now) × Colours raster.now }
-    ensures { result ≡ sums_from (window raster.now across at) 0 }
-{
-    let rows = two_rows(raster, across, at);
-    bits::<1, 8>(rows + rows / 256)
-}
-
 // The forks of two blocks of level 2 side by side, from the sums in their upper and in their lower half.
 fn forks(north: u64, south: u64) -> u64
     requires { FourSums north × FourSums south }
@@ -135,26 +172,4 @@ fn forks(north: u64, south: u64) -> u64
 {
     let both = north + south;
     lane_sum(mixed_lanes(north) + mixed_lanes(south)) + mixed_two(both + both / 65536)
-}
-
-// The forks of two blocks of level 2 side by side, from their pixels.
-fn half_forks(raster: &[u8], across: usize, at: usize) -> u64
-    requires { (at + 3 * across + 8 ≤ length raster.now) × Colours raster.now }
-    ensures { (2 + 4 * result ≡ size_of (tree_of (window raster.now across at) 2 0 0)
-        + size_of (tree_of (window raster.now across at) 2 1 0)) × (result ≤ 262142) }
-{
-    let north = four_sums(raster, across, at);
-    let south = four_sums(raster, across, at + 2 * across);
-    forks(north, south)
-}
-
-// The nodes of a block of level 3 that is a fork.
-pub fn nodes(raster: &[u8], across: usize, at: usize) -> u32
-    requires { (at + 7 * across + 8 ≤ length raster.now) × Colours raster.now
-        × (colour (tree_of (window raster.now across at) 3 0 0) ≡ fork_type) }
-    ensures { result ≡ size_of (tree_of (window raster.now across at) 3 0 0) }
-{
-    let north = half_forks(raster, across, at);
-    let south = half_forks(raster, across, at + 4 * across);
-    (5 + 4 * (north + south)) as u32
 }
