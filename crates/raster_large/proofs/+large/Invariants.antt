@@ -6,4 +6,4 @@ abbrev pub decreases-large : goal.decreases-large
 decreases-large l = l.level
 
 abbrev pub invariant-loop-q : goal.invariant-loop-q
-invariant-loop-q l = Parts l.raster l.across l.at l.level l.slot l.q l.initial.kinds l.kinds l.nodes
+invariant-loop-q l = Parts l.pixels.bytes.now l.pixels.across l.at l.level l.slot l.q l.initial.kinds l.kinds l.nodes
