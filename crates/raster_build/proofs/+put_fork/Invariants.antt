@@ -9,4 +9,4 @@ decreases-put_fork l = l.level
 
 abbrev pub invariant-loop-q : goal.invariant-loop-q
 invariant-loop-q l =
-    InTurn (tree_of (picture_of l.n l.raster) l.level l.x l.y) l.p l.q l.next l.initial.table l.table
+    InTurn (tree_of (picture_of l.raster.n l.raster.pixels.bytes.now) l.level l.x l.y) l.p l.q l.next l.initial.table l.table

@@ -1,8 +1,6 @@
 -- `raster_build::build`: refusals 1, 2, 8, then 9 by the nodes counted, then the tree is written.
 use mathlib.Core.Path.{ap, ◌∙◌}
-use Prim.Native.Nat.{ℕ}
 use native.Mathlib.Omega.{arith}
-use lib.ListN.{length-replicate}
 use Rattle.quad.specs.Tree.{size_of, tree_of}
 use Rattle.quad.proofs.TreeLaws.{size_fits}
 use Rattle.quad.proofs.PictureLaws.{tree_within}
@@ -14,10 +12,14 @@ use Rattle.raster_build.proofs.build.Goals as goal
 pub returns-in_err-readable : goal.returns-in_err-readable
 returns-in_err-readable c = builds_refused c.args.n c.args.raster.now c.args.table.now _ _ c.from_residual.ensures c.in_err-readable.ensures
 
-pub count-nodes-requires : goal.count-nodes-requires
-count-nodes-requires c =
-    let pic = passed_picture c.args.n c.args.raster.now c.args.table.now _ c.in_ok-readable.ensures in
-    (pic, length-replicate {A = ℕ} 341 0)
+pub side-requires : goal.side-requires
+side-requires c = (passed_picture c.args.n c.args.raster.now c.args.table.now _ c.in_ok-readable.ensures).top
+
+pub invariant_of-raster : goal.invariant_of-raster
+invariant_of-raster c = record { colours = (passed_picture c.args.n c.args.raster.now c.args.table.now _ c.in_ok-readable.ensures).colours }
+
+pub invariant_of-raster-2 : goal.invariant_of-raster-2
+invariant_of-raster-2 c = record { picture = passed_picture c.args.n c.args.raster.now c.args.table.now _ c.in_ok-readable.ensures; wide = c.side.ensures }
 
 pub overflow_mul-needed : goal.overflow_mul-needed
 overflow_mul-needed c =
@@ -40,7 +42,6 @@ pub put-requires : goal.put-requires
 put-requires c =
     let counted = c.count-nodes.ensures in
     let pic = passed_picture c.args.n c.args.raster.now c.args.table.now _ c.in_ok-readable.ensures in (
-      pic,
       counted.noted,
       sheet_ready c.args.n c.args.raster.now c.args.table.now pic.top _ (counted.nodes ∙ ap size_of (sheet_window _ _)) c.if-table-needed.false,
     )

@@ -7,10 +7,10 @@ use Rattle.raster_build.proofs.QuarterLaws.{sheet_to_put, fork_asks, sheet_forke
 use Rattle.raster_build.proofs.put.Goals as goal
 
 pub put_leaf-requires : goal.put_leaf-requires
-put_leaf-requires c = node_room c.requires.2
+put_leaf-requires c = node_room c.requires.1
 
 pub returns-then-kind : goal.returns-then-kind
-returns-then-kind c = type_put _ _ 0 _ _ _ _ (sheet_kind _ _ _ c.requires.1) c.if-kind.true refl c.put_leaf.ensures
+returns-then-kind c = type_put _ _ 0 _ _ _ _ (sheet_kind _ _ _ c.requires.0) c.if-kind.true refl c.put_leaf.ensures
 
 pub put_fork-requires : goal.put_fork-requires
-put_fork-requires c = fork_asks (sheet_forked (sheet_to_put c.requires) c.if-kind.false (λ e. absurd (omega arith)) (λ e. absurd (omega arith)) _ c.slots-slots.ensures)
+put_fork-requires c = fork_asks (sheet_forked (sheet_to_put c.args.raster.now.picture c.requires) c.if-kind.false (λ e. absurd (omega arith)) (λ e. absurd (omega arith)) _ c.slots-slots.ensures)
