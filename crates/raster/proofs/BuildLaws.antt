@@ -1,5 +1,6 @@
 -- Building, from its refusals to the table: the outcome and the table that the call leaves, each way that it ends.
-use mathlib.Core.Bool.{Bool, true, false, not}
+use Rattle.std.specs.Prelude.{Ok, Err}
+use mathlib.Core.Bool.{false}
 use mathlib.Core.List.{List}
 use mathlib.Core.Path.{◌≡◌, refl, ap, sym, ◌∙◌}
 use Prim.Native.Nat.{ℕ, ◌-◌, ◌*◌, ◌≤◌, ◌<◌}
@@ -7,11 +8,11 @@ use native.Mathlib.Omega.{arith}
 use lib.Dec.{ltb}
 use lib.ListN.{length}
 use borrow.Author.Tests.{lt-ltb, le-ltb}
-use Rattle.base.proofs.BoolLaws.{on, off}
-use Rattle.answer.specs.declared.Outcome.{Outcome}
-use Rattle.answer.specs.declared.Outcome.TheVariants.{Answered, BadLevel, NoRoom}
-use Rattle.answer.specs.Numbers.{answers, and_then, unless, room}
-use Rattle.answer.proofs.OutcomeLaws.{then_then}
+use Rattle.std.specs.Result.{IsErr, IsErrAnd}
+use Rattle.answer.specs.declared.Refusal.{Refusal}
+use Rattle.answer.specs.declared.Refusal.TheVariants.{BadLevel, NoRoom}
+use Rattle.answer.specs.Numbers.{Outcome, answers, and_then, unless, room}
+use Rattle.answer.proofs.OutcomeLaws.{then_then, refusal_refuses, given_back}
 use Rattle.quad.specs.Numbers.{top_level, none}
 use Rattle.quad.specs.Tree.{Tree, size_of, tree_of}
 use Rattle.quad.proofs.TreeLaws.{size_fits}
@@ -33,12 +34,12 @@ module _ (n : ℕ) (R U : List ℕ) where
   abbrev tree : Tree
   tree = tree_of (picture_of n R) n 0 0
 
-  pub build_then : build_of n R (length U) ≡ and_then (readable_of n R) (and_then (room (6 * size_of tree) (length U)) (Answered (size_of tree)))
+  pub build_then : build_of n R (length U) ≡ and_then (readable_of n R) (and_then (room (6 * size_of tree) (length U)) (Ok (size_of tree)))
   unfolding build_of readable_of raster_tree
   build_then =
       sym (
-      then_then (unless (ltb top_level n) (BadLevel 0)) (and_then (raster_length n (length R)) (pixels_from R 0)) _
-      ∙ ap (and_then (unless (ltb top_level n) (BadLevel 0))) (then_then (raster_length n (length R)) (pixels_from R 0) _)
+      then_then (unless (ltb top_level n) (Err (BadLevel 0))) (and_then (raster_length n (length R)) (pixels_from R 0)) _
+      ∙ ap (and_then (unless (ltb top_level n) (Err (BadLevel 0)))) (then_then (raster_length n (length R)) (pixels_from R 0) _)
       )
 
   -- nothing is written where the outcome is no answer
@@ -46,29 +47,28 @@ module _ (n : ℕ) (R U : List ℕ) where
   unfolding built_table
   builds_not o e f = record { answer = e; table = rw (← e, f) }
 
-  module _ (o : Outcome) (u : Bool) (e : o ≡ readable_of n R) (a : u ≡ answers o) where
-    pub builds_refused : not u ≡ true → Building n R U o U
-    builds_refused h =
-        let f : answers o ≡ false = off u (answers o) a h in
-        builds_not o (sym (build_then ∙ rw (← e, f))) f
+  pub builds_refused : (o : Outcome) (e : Refusal) → IsErr o × IsErrAnd o (λ x. x ≡ e) → Err e ≡ readable_of n R → Building n R U o U
+  builds_refused o e g h =
+      let f : answers (Err e) ≡ false = refusal_refuses e in
+      rw (given_back o e g) (builds_not (Err e) (sym (build_then ∙ rw (← h, f))) f)
 
-    module _ (h : not u ≡ false) where
-      pub passed_picture : Picture n R
-      passed_picture = readable_picture n R (ap answers (sym e) ∙ on u (answers o) a h)
+  module _ (k : ℕ) (read : Ok k ≡ readable_of n R) where
+    pub passed_picture : Picture n R
+    passed_picture = readable_picture n R (ap answers (sym read))
 
-      build_room : build_of n R (length U) ≡ and_then (room (6 * size_of tree) (length U)) (Answered (size_of tree))
-      build_room = build_then ∙ rw (← e, on u (answers o) a h)
+    build_room : build_of n R (length U) ≡ and_then (room (6 * size_of tree) (length U)) (Ok (size_of tree))
+    build_room = build_then ∙ rw (← read)
 
-      module _ (m : ℕ) (em : m ≡ size_of tree) where
-        pub builds_short : length U < 6 * m → Building n R U (NoRoom (6 * m)) U
-        builds_short lt = builds_not (NoRoom (6 * m)) (sym (build_room ∙ rw (← em, lt-ltb (length U) (6 * m) lt))) refl
+    module _ (m : ℕ) (em : m ≡ size_of tree) where
+      pub builds_short : length U < 6 * m → Building n R U (Err (NoRoom (6 * m))) U
+      builds_short lt = builds_not (Err (NoRoom (6 * m))) (sym (build_room ∙ rw (← em, lt-ltb (length U) (6 * m) lt))) refl
 
-        pub builds_done : (v : ℕ) (after : List ℕ) → 6 * m ≤ length U → Put tree none 0 U after v → Building n R U (Answered v) after
-        unfolding built_table raster_tree
-        builds_done v after le p =
-            let s : v ≡ m = omega (arith, p.next) in
-            let b : build_of n R (length U) ≡ Answered v = build_room ∙ rw (← em, le-ltb (length U) (6 * m) le, s) in
-            record { answer = sym b; table = rw b (written_whole tree U after (omega arith) p.words) }
+      pub builds_done : (v : ℕ) (after : List ℕ) → 6 * m ≤ length U → Put tree none 0 U after v → Building n R U (Ok v) after
+      unfolding built_table raster_tree
+      builds_done v after le p =
+          let s : v ≡ m = omega (arith, p.next) in
+          let b : build_of n R (length U) ≡ Ok v = build_room ∙ rw (← em, le-ltb (length U) (6 * m) le, s) in
+          record { answer = sym b; table = rw b (written_whole tree U after (omega arith) p.words) }
 
   -- there is room for its tree
   pub sheet_ready : n ≤ top_level → (m : ℕ) → m ≡ size_of tree → 6 * m ≤ length U → Ready tree 0 (length U)

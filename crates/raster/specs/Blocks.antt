@@ -1,8 +1,7 @@
 -- What the passes over a raster know of a block and its tree: inner facts that no outside call states.
-use Rattle.std.specs.Prelude.{List, ◌≡◌, ℕ, ◌-◌, ◌^◌, ◌≤◌, ◌<◌, ltb, length, get_or}
-use Rattle.answer.specs.declared.Outcome.{Outcome}
-use Rattle.answer.specs.declared.Outcome.TheVariants.{BadLevel}
-use Rattle.answer.specs.Numbers.{and_then, unless}
+use Rattle.std.specs.Prelude.{Err, List, ◌≡◌, ℕ, ◌-◌, ◌^◌, ◌≤◌, ◌<◌, ltb, length, get_or}
+use Rattle.answer.specs.declared.Refusal.TheVariants.{BadLevel}
+use Rattle.answer.specs.Numbers.{Outcome, and_then, unless}
 use Rattle.quad.specs.Numbers.{top_level}
 use Rattle.raster.specs.Sums.{Colours}
 use Rattle.raster.specs.Raster.{raster_length, pixels_from}
@@ -19,7 +18,7 @@ pub record Picture (n : ℕ) (R : List ℕ) : Type 0 where
 
 -- the tests that a raster's picture is read after: 1, 2, 8
 unfoldable pub readable_of : ℕ → List ℕ → Outcome
-readable_of n R = and_then (unless (ltb top_level n) (BadLevel 0)) (and_then (raster_length n (length R)) (pixels_from R 0))
+readable_of n R = and_then (unless (ltb top_level n) (Err (BadLevel 0))) (and_then (raster_length n (length R)) (pixels_from R 0))
 
 -- the block (x, y) of level l lies on a sheet of level n
 pub record OnSheet (n l x y : ℕ) : Type 0 where

@@ -1,6 +1,6 @@
 -- The two outside calls: what each gives back and what it leaves in the slice that it is lent, for every input.
 use Rattle.std.specs.Prelude.{List, ◌≡◌, ℕ, length}
-use Rattle.answer.specs.declared.Outcome.{Outcome}
+use Rattle.answer.specs.Numbers.{Outcome}
 use Rattle.raster.specs.Raster.{build_of, built_table, decode_of, decoded_raster}
 
 -- building from the raster R: the outcome, and the table `before` as it is `after`

@@ -1,10 +1,9 @@
 -- A raster is a slice of 4^n bytes, row by row. Building gives the preorder table of its one tree; decoding gives the
 -- raster of a table (document 01, 'Sheets and node tables').
-use Rattle.std.specs.Prelude.{not, cond, List, [], ◌∷◌, ℕ, ◌+◌, ◌*◌, ◌/◌, ◌%◌, ◌^◌, eqb, ltb, length, get_or}
+use Rattle.std.specs.Prelude.{Ok, Err, not, cond, List, [], ◌∷◌, ℕ, ◌+◌, ◌*◌, ◌/◌, ◌%◌, ◌^◌, eqb, ltb, length, get_or}
 use Rattle.base.specs.Tab.{tab, overlay}
-use Rattle.answer.specs.declared.Outcome.{Outcome}
-use Rattle.answer.specs.declared.Outcome.TheVariants.{Answered, BadLevel, WrongLength, BadPixel}
-use Rattle.answer.specs.Numbers.{and_then, unless, room, answers}
+use Rattle.answer.specs.declared.Refusal.TheVariants.{BadLevel, WrongLength, BadPixel}
+use Rattle.answer.specs.Numbers.{Outcome, and_then, unless, room, answers}
 use Rattle.quad.specs.Numbers.{top_level, top_colour}
 use Rattle.quad.specs.Tree.{Tree, tree_of, size_of}
 use Rattle.table.specs.Rules.{sizes_of, faults_of}
@@ -25,21 +24,21 @@ raster_tree n R = tree_of (picture_of n R) n 0 0
 
 -- the first byte above 1, at its place, the first byte being at i
 unfoldable pub pixels_from : List ℕ → ℕ → Outcome
-pixels_from [] i = Answered 0
-pixels_from (b ∷ bs) i = cond (ltb top_colour b) (BadPixel i) (pixels_from bs (i + 1))
+pixels_from [] i = Ok 0
+pixels_from (b ∷ bs) i = cond (ltb top_colour b) (Err (BadPixel i)) (pixels_from bs (i + 1))
 
 -- a raster is a slice of exactly 4^n bytes
 abbrev pub raster_length : ℕ → ℕ → Outcome
-raster_length n bytes = unless (not (eqb bytes (4 ^ n))) (WrongLength 1)
+raster_length n bytes = unless (not (eqb bytes (4 ^ n))) (Err (WrongLength 1))
 
 -- building: refusals 1, 2, 8, 9 in this order; `words` is the length of the table that is lent
 unfoldable pub build_of : ℕ → List ℕ → ℕ → Outcome
 build_of n R words =
-    and_then (unless (ltb top_level n) (BadLevel 0))
+    and_then (unless (ltb top_level n) (Err (BadLevel 0)))
     (and_then (raster_length n (length R))
     (and_then (pixels_from R 0)
     (and_then (room (6 * size_of (raster_tree n R)) words)
-    (Answered (size_of (raster_tree n R))))))
+    (Ok (size_of (raster_tree n R))))))
 
 -- the table as building leaves it
 unfoldable pub built_table : ℕ → List ℕ → List ℕ → List ℕ
@@ -47,7 +46,7 @@ built_table n R old = cond (answers (build_of n R (length old))) (overlay (preor
 
 -- decoding: refusals 1, 2 (table first), 3, 4, 5; `bytes` is the length of the raster that is lent
 unfoldable pub decode_of : ℕ → List ℕ → ℕ → Outcome
-decode_of n T bytes = and_then (sizes_of n T) (and_then (raster_length n bytes) (and_then (faults_of n T) (Answered 0)))
+decode_of n T bytes = and_then (sizes_of n T) (and_then (raster_length n bytes) (and_then (faults_of n T) (Ok 0)))
 
 -- the raster as decoding leaves it
 unfoldable pub decoded_raster : ℕ → List ℕ → List ℕ → List ℕ

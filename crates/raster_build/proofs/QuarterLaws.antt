@@ -22,18 +22,18 @@ use Rattle.raster_count.proofs.NotedLaws.{known_kind, known_part, sheet_kind, sh
 use Rattle.raster_put.specs.Putting.{BlockToPut, BlockPut}
 use Rattle.raster_build.specs.NotedBlocks.{ForkToPut, SheetToPut}
 
--- what is asked of a fork to be put, and of the whole sheet, as one fact, and back
+-- what is asked of a fork to be put, and of the whole sheet, as one fact with its picture, and back
 pub fork_to_put : {n : ℕ} {R K : List ℕ} {l x y slot slots p words : ℕ}
-    → Picture n R × OnSheet n l x y × (3 ≤ l) × (colour (tree_of (picture_of n R) l x y) ≡ fork_type) × Ready (tree_of (picture_of n R) l x y) p words × Known n R K l x y slot slots
+    → Picture n R → OnSheet n l x y × (3 ≤ l) × (colour (tree_of (picture_of n R) l x y) ≡ fork_type) × Ready (tree_of (picture_of n R) l x y) p words × Known n R K l x y slot slots
     → ForkToPut n R K l x y slot slots p words
-fork_to_put h = record { block = record { picture = h.0; on = h.1; ready = h.4 }; high = h.2; fork = h.3; known = h.5 }
+fork_to_put pic h = record { block = record { picture = pic; on = h.0; ready = h.3 }; high = h.1; fork = h.2; known = h.4 }
 
 pub fork_asks : {n : ℕ} {R K : List ℕ} {l x y slot slots p words : ℕ} → ForkToPut n R K l x y slot slots p words
-    → Picture n R × OnSheet n l x y × (3 ≤ l) × (colour (tree_of (picture_of n R) l x y) ≡ fork_type) × Ready (tree_of (picture_of n R) l x y) p words × Known n R K l x y slot slots
-fork_asks b = (b.block.picture, b.block.on, b.high, b.fork, b.block.ready, b.known)
+    → OnSheet n l x y × (3 ≤ l) × (colour (tree_of (picture_of n R) l x y) ≡ fork_type) × Ready (tree_of (picture_of n R) l x y) p words × Known n R K l x y slot slots
+fork_asks b = (b.block.on, b.high, b.fork, b.block.ready, b.known)
 
-pub sheet_to_put : {n words : ℕ} {R K : List ℕ} → Picture n R × Noted R (2 ^ n) K (n - 3) n 0 0 × Ready (tree_of (picture_of n R) n 0 0) 0 words → SheetToPut n R K words
-sheet_to_put h = record { picture = h.0; noted = h.1; ready = h.2 }
+pub sheet_to_put : {n words : ℕ} {R K : List ℕ} → Picture n R → Noted R (2 ^ n) K (n - 3) n 0 0 × Ready (tree_of (picture_of n R) n 0 0) 0 words → SheetToPut n R K words
+sheet_to_put pic h = record { picture = pic; noted = h.0; ready = h.1 }
 
 module _ {n : ℕ} {R K : List ℕ} {l x y slot slots p words : ℕ} (b : ForkToPut n R K l x y slot slots p words) where
   pub its_fork : Forked (tree_of (picture_of n R) l x y)

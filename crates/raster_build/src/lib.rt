@@ -6,56 +6,55 @@ ghost use Rattle.quad.specs.Numbers.{fork_type, none};
 ghost use Rattle.quad.specs.Tree.{colour, tree_of};
 ghost use Rattle.table.specs.Writing.{Ready, Put};
 ghost use Rattle.raster.specs.Raster.{picture_of};
-ghost use Rattle.raster.specs.Blocks.{Picture, OnSheet};
+ghost use Rattle.raster.specs.Blocks.{OnSheet};
 ghost use Rattle.raster.specs.Calls.{Building};
 ghost use Rattle.raster_notes.specs.Notes.{Noted};
 ghost use Rattle.raster_count.specs.Kinds.{Known};
 
-use answer::Outcome;
+use answer::{Outcome, Refusal};
 use raster_check::readable;
-use raster_count::count;
+use raster_count::Raster;
+use raster_lanes::Pixels;
+use raster_notes::{Notes, SLOTS};
 use raster_put::{put_four, put_sixteen};
 use table_node::put_leaf;
 
 // Writes a fork above level 2, its nodes from p on, and gives the next node. Each son's number is written before the
 // son's part, and the type last; a son that is a leaf is written here, and so is one of level 2, without a call.
 fn put_fork(
-    raster: &[u8],
-    n: u32,
+    raster: &Raster<'_>,
     level: u32,
     x: usize,
     y: usize,
     slot: usize,
     slots: usize,
-    kinds: &[u32; 341],
+    kinds: &Notes,
     table: &mut [u32],
     p: u32,
     father: u32,
 ) -> u32
-    requires { Picture n raster.now × OnSheet n level x y × (3 ≤ level)
-        × (colour (tree_of (picture_of n raster.now) level x y) ≡ fork_type)
-        × Ready (tree_of (picture_of n raster.now) level x y) p (length table.old)
-        × Known n raster.now kinds.now level x y slot slots }
-    ensures { Put (tree_of (picture_of n raster.now) level x y) father p table.old table.new result }
+    requires { OnSheet raster.now.n level x y × (3 ≤ level)
+        × (colour (tree_of (picture_of raster.now.n raster.now.pixels.bytes.now) level x y) ≡ fork_type)
+        × Ready (tree_of (picture_of raster.now.n raster.now.pixels.bytes.now) level x y) p (length table.old)
+        × Known raster.now.n raster.now.pixels.bytes.now kinds.now level x y slot slots }
+    ensures { Put (tree_of (picture_of raster.now.n raster.now.pixels.bytes.now) level x y) father p table.old table.new result }
 {
     let half = level - 1;
     let apart = slots / 4;
     let own = 6 * (p as usize);
     table[own] = father;
     let mut next = p + 1;
-    let mut q = 0;
-    while q < 4 {
+    for q in 0..4 {
         table[own + 1 + q] = next;
         let u = 2 * x + q % 2;
         let v = 2 * y + q / 2;
         let its = slot + 1 + q * apart;
-        q += 1;
         if half == 2 {
-            next = put_sixteen(&*raster, n, u, v, table, next, p);
+            next = put_sixteen(raster, u, v, table, next, p);
         } else {
             let kind = kinds[its];
             if kind == quad::FORK as u32 {
-                next = put_fork(&*raster, n, half, u, v, its, apart, kinds, table, next, p);
+                next = put_fork(raster, half, u, v, its, apart, kinds, table, next, p);
             } else {
                 put_leaf(table, next as usize, p, kind);
                 next += 1;
@@ -67,10 +66,10 @@ fn put_fork(
 }
 
 // Writes a sheet whose types are noted, and gives its node count.
-fn put(raster: &[u8], n: u32, kinds: &[u32; 341], table: &mut [u32]) -> u32
-    requires { Picture n raster.now × Noted raster.now (2 ^ n) kinds.now (n - 3) n 0 0
-        × Ready (tree_of (picture_of n raster.now) n 0 0) 0 (length table.old) }
-    ensures { Put (tree_of (picture_of n raster.now) n 0 0) none 0 table.old table.new result }
+fn put(raster: &Raster<'_>, kinds: &Notes, table: &mut [u32]) -> u32
+    requires { Noted raster.now.pixels.bytes.now (2 ^ raster.now.n) kinds.now (raster.now.n - 3) raster.now.n 0 0
+        × Ready (tree_of (picture_of raster.now.n raster.now.pixels.bytes.now) raster.now.n 0 0) 0 (length table.old) }
+    ensures { Put (tree_of (picture_of raster.now.n raster.now.pixels.bytes.now) raster.now.n 0 0) none 0 table.old table.new result }
 {
     let nobody = quad::NONE as u32;
     let kind = kinds[0];
@@ -78,14 +77,14 @@ fn put(raster: &[u8], n: u32, kinds: &[u32; 341], table: &mut [u32]) -> u32
         put_leaf(table, 0, nobody, kind);
         return 1;
     }
-    if n == 1 {
-        return put_four(raster, 1, 0, 0, table, 0, nobody);
+    match raster.n {
+        1 => put_four(raster, 0, 0, table, 0, nobody),
+        2 => put_sixteen(raster, 0, 0, table, 0, nobody),
+        _ => {
+            let slots = raster_large::slots(raster.n);
+            put_fork(raster, raster.n, 0, 0, 0, slots, kinds, table, 0, nobody)
+        },
     }
-    if n == 2 {
-        return put_sixteen(raster, 2, 0, 0, table, 0, nobody);
-    }
-    let slots = raster_large::slots(n);
-    put_fork(raster, n, n, 0, 0, 0, slots, kinds, table, 0, nobody)
 }
 
 // Building: for any level, any bytes and any table, the preorder table of the raster's one tree at the table's start
@@ -93,16 +92,19 @@ fn put(raster: &[u8], n: u32, kinds: &[u32; 341], table: &mut [u32]) -> u32
 pub fn build(n: u32, raster: &[u8], table: &mut [u32]) -> Outcome
     ensures { Building n raster.now table.old result table.new }
 {
-    let read = readable(n, raster);
-    if !answer::answered(read) {
-        return read;
-    }
-    let mut kinds: [u32; 341] = [0; 341];
-    let nodes = count(raster, n, &mut kinds);
+    readable(n, raster)?;
+    let raster = Raster {
+        n,
+        pixels: Pixels {
+            bytes: raster,
+            across: quad::side(n) as usize,
+        },
+    };
+    let mut kinds: Notes = [0; SLOTS];
+    let nodes = raster.count(&mut kinds);
     let needed = 6 * nodes;
     if table.len() < needed as usize {
-        return Outcome::NoRoom { needed };
+        return Err(Refusal::NoRoom { needed });
     }
-    let value = put(raster, n, &kinds, table);
-    Outcome::Answered { value }
+    Ok(put(&raster, &kinds, table))
 }

@@ -1,12 +1,12 @@
 // The tests of a raster: its level, its length, its bytes.
 #![tactic(auto)]
 
-ghost use Rattle.std.specs.Prelude.{◌≡◌, ◌%◌, ◌≤◌, ◌^◌, length};
-ghost use Rattle.quad.specs.Numbers.{top_level};
+ghost use Rattle.std.specs.Prelude.{◌≡◌, ◌%◌, ◌≤◌, ◌^◌, nat_lt, position, length};
+ghost use Rattle.quad.specs.Numbers.{top_level, top_colour};
 ghost use Rattle.raster.specs.Raster.{raster_length, pixels_from};
 ghost use Rattle.raster.specs.Blocks.{readable_of, NoneAbove};
 
-use answer::Outcome;
+use answer::{Outcome, Refusal};
 
 // Whether a raster of level n has that many bytes.
 pub fn raster_length(n: u32, bytes: usize) -> Outcome
@@ -15,19 +15,9 @@ pub fn raster_length(n: u32, bytes: usize) -> Outcome
 {
     let across = quad::side(n) as usize;
     if bytes != across * across {
-        return Outcome::WrongLength { which: 1 };
+        return Err(Refusal::WrongLength { which: 1 });
     }
-    Outcome::Answered { value: 0 }
-}
-
-// The larger of two bytes.
-fn larger(a: u8, b: u8) -> u8
-    ensures { (a ≤ result) × (b ≤ result) }
-{
-    if a < b {
-        return b;
-    }
-    a
+    Ok(0)
 }
 
 // A byte that no byte of a raster of four parts is above: the highest, found without a way out, so that many are looked
@@ -38,29 +28,19 @@ fn highest(raster: &[u8]) -> u8
 {
     let part = raster.len() / 4;
     let mut most = 0;
-    let mut i = 0;
-    while i < part {
-        let north = larger(raster[i], raster[part + i]);
-        let south = larger(raster[2 * part + i], raster[3 * part + i]);
-        most = larger(most, larger(north, south));
-        i += 1;
+    for i in 0..part {
+        let north = raster[i].max(raster[part + i]);
+        let south = raster[2 * part + i].max(raster[3 * part + i]);
+        most = most.max(north.max(south));
     }
     most
 }
 
-// The first byte that is no colour.
-fn first_bad(raster: &[u8]) -> Outcome
-    requires { length raster.now ≤ 4 ^ top_level }
-    ensures { result ≡ pixels_from raster.now 0 }
+// The place of the first byte that is no colour.
+fn first_bad(raster: &[u8]) -> Option<usize>
+    ensures { result ≡ position (λ b. nat_lt top_colour b) raster.now }
 {
-    let mut i = 0;
-    while i < raster.len() {
-        if quad::TOP_COLOUR < raster[i] as usize {
-            return Outcome::BadPixel { place: i as u32 };
-        }
-        i += 1;
-    }
-    Outcome::Answered { value: 0 }
+    raster.iter().position(|b| quad::TOP_COLOUR < *b as usize)
 }
 
 // The first byte that is no colour, looked for only where the highest is none, or where there is one byte.
@@ -68,13 +48,13 @@ fn pixels(raster: &[u8]) -> Outcome
     requires { length raster.now ≤ 4 ^ top_level }
     ensures { result ≡ pixels_from raster.now 0 }
 {
-    if raster.len() % 4 != 0 {
-        return first_bad(raster);
+    if raster.len() % 4 == 0 && highest(raster) as usize <= quad::TOP_COLOUR {
+        return Ok(0);
     }
-    if quad::TOP_COLOUR < highest(raster) as usize {
-        return first_bad(raster);
+    match first_bad(raster) {
+        Some(i) => Err(Refusal::BadPixel { place: i as u32 }),
+        None => Ok(0),
     }
-    Outcome::Answered { value: 0 }
 }
 
 // The tests for 1, 2 and 8.
@@ -82,11 +62,8 @@ pub fn readable(n: u32, raster: &[u8]) -> Outcome
     ensures { result ≡ readable_of n raster.now }
 {
     if quad::TOP_LEVEL < n {
-        return Outcome::BadLevel { place: 0 };
+        return Err(Refusal::BadLevel { place: 0 });
     }
-    let sized = raster_length(n, raster.len());
-    if !answer::answered(sized) {
-        return sized;
-    }
+    raster_length(n, raster.len())?;
     pixels(raster)
 }

@@ -1,15 +1,15 @@
 -- Decoding, from its refusals to the raster: the outcome and the raster that the call leaves, each way that it ends.
-use mathlib.Core.Bool.{Bool, true, false, not}
+use Rattle.std.specs.Prelude.{Ok, Err}
+use Rattle.std.specs.Result.{IsErr, IsErrAnd}
+use Rattle.answer.specs.declared.Refusal.{Refusal}
+use mathlib.Core.Bool.{false}
 use mathlib.Core.List.{List}
 use mathlib.Core.Path.{◌≡◌, refl, ap, sym, ◌∙◌}
 use Prim.Native.Nat.{ℕ, ◌^◌}
 use native.Mathlib.Nat.{div-eq_of_lt}
 use lib.ListN.{length}
-use Rattle.base.proofs.BoolLaws.{on, off}
-use Rattle.answer.specs.declared.Outcome.{Outcome}
-use Rattle.answer.specs.declared.Outcome.TheVariants.{Answered}
-use Rattle.answer.specs.Numbers.{answers, and_then}
-use Rattle.answer.proofs.OutcomeLaws.{then_stop, then_go}
+use Rattle.answer.specs.Numbers.{Outcome, answers}
+use Rattle.answer.proofs.OutcomeLaws.{then_err, then_ok, given_back, refusal_refuses}
 use Rattle.table.specs.Rules.{sizes_of, faults_of, check_of, Accepted}
 use Rattle.table.proofs.AcceptedLaws.{root_at}
 use Rattle.table.proofs.CheckLaws.{accepted_of}
@@ -34,45 +34,44 @@ module _ (n : ℕ) (T U : List ℕ) where
   unfolding decoded_raster
   decodes_not o e f = record { answer = e; raster = rw (← e, f) }
 
-  module _ (s₁ : Outcome) (u₁ : Bool) (e₁ : s₁ ≡ sizes_of n T) (a₁ : u₁ ≡ answers s₁) where
-    pub decodes_sizes : not u₁ ≡ true → Decoding n T U s₁ U
+  -- a test's refusal, or the next test
+  module _ (o : Outcome) (e : Refusal) (g : IsErr o × IsErrAnd o (λ x. x ≡ e)) where
+    refused_at : o ≡ decode_of n T (length U) → Decoding n T U o U
+    refused_at h = decodes_not o h (ap answers (given_back o e g) ∙ refusal_refuses e)
+
+    pub decodes_sizes : Err e ≡ sizes_of n T → Decoding n T U o U
     unfolding decode_of
-    decodes_sizes h = decodes_not s₁ (then_stop (sizes_of n T) s₁ _ u₁ e₁ a₁ h) (off u₁ (answers s₁) a₁ h)
+    decodes_sizes h = refused_at (then_err (sizes_of n T) _ o e g h)
 
-    module _ (h₁ : not u₁ ≡ false) (s₂ : Outcome) (u₂ : Bool) (e₂ : s₂ ≡ raster_length n (length U)) (a₂ : u₂ ≡ answers s₂) where
-      pub decodes_length : not u₂ ≡ true → Decoding n T U s₂ U
+    module _ (v : ℕ) (sized : Ok v ≡ sizes_of n T) where
+      pub decodes_length : Err e ≡ raster_length n (length U) → Decoding n T U o U
       unfolding decode_of
-      decodes_length h =
-          decodes_not s₂ (then_go (sizes_of n T) s₁ _ u₁ e₁ a₁ s₂ h₁ (then_stop (raster_length n (length U)) s₂ _ u₂ e₂ a₂ h)) (off u₂ (answers s₂) a₂ h)
+      decodes_length h = refused_at (then_ok (sizes_of n T) _ o v sized (then_err (raster_length n (length U)) _ o e g h))
 
-      module _ (h₂ : not u₂ ≡ false) (s₃ : Outcome) (u₃ : Bool) (e₃ : s₃ ≡ faults_of n T) (a₃ : u₃ ≡ answers s₃) where
-        decode_go : (r : Outcome) → r ≡ and_then (faults_of n T) (Answered 0) → r ≡ decode_of n T (length U)
-        unfolding decode_of
-        decode_go r e = then_go (sizes_of n T) s₁ _ u₁ e₁ a₁ r h₁ (then_go (raster_length n (length U)) s₂ _ u₂ e₂ a₂ r h₂ e)
+      pub decodes_faults : (w : ℕ) → Ok w ≡ raster_length n (length U) → Err e ≡ faults_of n T → Decoding n T U o U
+      unfolding decode_of
+      decodes_faults w long h =
+          refused_at (then_ok (sizes_of n T) _ o v sized (then_ok (raster_length n (length U)) _ o w long (then_err (faults_of n T) (Ok 0) o e g h)))
 
-        pub decodes_faults : not u₃ ≡ true → Decoding n T U s₃ U
-        decodes_faults h = decodes_not s₃ (decode_go s₃ (then_stop (faults_of n T) s₃ (Answered 0) u₃ e₃ a₃ h)) (off u₃ (answers s₃) a₃ h)
+  -- all tests passed
+  module _ (v w k : ℕ) (sized : Ok v ≡ sizes_of n T) (long : Ok w ≡ raster_length n (length U)) (sound : Ok k ≡ faults_of n T) where
+    passed_length : length U ≡ 4 ^ n
+    passed_length = length_of n (length U) (ap answers (sym long))
 
-        module _ (h₃ : not u₃ ≡ false) where
-          passed_length : length U ≡ 4 ^ n
-          passed_length = length_of n (length U) (ap answers (sym e₂) ∙ on u₂ (answers s₂) a₂ h₂)
+    pub passed_accepted : Accepted n T
+    unfolding check_of
+    passed_accepted = accepted_of n T (rw (check_of, ← sized) (ap answers (sym sound)))
 
-          pub passed_accepted : Accepted n T
-          unfolding check_of
-          passed_accepted =
-              let good : answers (sizes_of n T) ≡ true = ap answers (sym e₁) ∙ on u₁ (answers s₁) a₁ h₁ in
-              let clean : answers (faults_of n T) ≡ true = ap answers (sym e₃) ∙ on u₃ (answers s₃) a₃ h₃ in
-              accepted_of n T (rw (check_of, good) clean)
+    pub sheet_paintable : Paintable n T 0 n 0 0 (length U)
+    sheet_paintable = record {
+      place = root_at passed_accepted;
+      block = sheet_on n;
+      whole = passed_length;
+    }
 
-          pub sheet_paintable : Paintable n T 0 n 0 0 (length U)
-          sheet_paintable = record {
-            place = root_at passed_accepted;
-            block = sheet_on n;
-            whole = passed_length;
-          }
-
-          pub decodes_done : (W : List ℕ) → Painted n (in_block n 0 0) (colours_at T n 0) U W → Decoding n T U (Answered 0) W
-          unfolding decoded_raster
-          decodes_done W p =
-              let d : Answered 0 ≡ decode_of n T (length U) = decode_go (Answered 0) (then_go (faults_of n T) s₃ (Answered 0) u₃ e₃ a₃ (Answered 0) h₃ refl) in
-              record { answer = d; raster = rw (← d) (painted_sheet n T U W passed_length p) }
+    pub decodes_done : (W : List ℕ) → Painted n (in_block n 0 0) (colours_at T n 0) U W → Decoding n T U (Ok 0) W
+    unfolding decoded_raster decode_of
+    decodes_done W p =
+        let d : Ok 0 ≡ decode_of n T (length U) =
+        then_ok (sizes_of n T) _ (Ok 0) v sized (then_ok (raster_length n (length U)) _ (Ok 0) w long (then_ok (faults_of n T) (Ok 0) (Ok 0) k sound refl)) in
+        record { answer = d; raster = rw (← d) (painted_sheet n T U W passed_length p) }

@@ -24,12 +24,10 @@ fn paint_four(table: &[u32], p: usize, n: u32, x: usize, y: usize, raster: &mut 
     requires { Paintable n table.now p 1 x y (length raster.old) × (is_fork table.now p ≡ true) }
     ensures { Painted n (in_block 1 x y) (colours_at table.now 1 p) raster.old raster.new }
 {
-    let mut q = 0;
-    while q < 4 {
+    for q in 0..4 {
         let son = table_node::word_at(table, p, 1 + q);
         let column = 2 * x + q % 2;
         let row = 2 * y + q / 2;
-        q += 1;
         paint_pixel(table, son, n, column, row, raster);
     }
 }
@@ -45,12 +43,10 @@ fn paint_fork(table: &[u32], p: usize, n: u32, level: u32, x: usize, y: usize, r
         return;
     }
     let half = level - 1;
-    let mut q = 0;
-    while q < 4 {
+    for q in 0..4 {
         let son = table_node::word_at(table, p, 1 + q);
         let west = 2 * x + q % 2;
         let north = 2 * y + q / 2;
-        q += 1;
         let kind = table_node::word_at(table, son, 5);
         if kind == quad::FORK {
             paint_fork(table, son, n, half, west, north, raster);
@@ -68,9 +64,9 @@ fn paint(table: &[u32], p: usize, n: u32, level: u32, x: usize, y: usize, raster
     let kind = table_node::word_at(table, p, 5);
     if kind == quad::FORK {
         paint_fork(table, p, n, level, x, y, raster);
-        return;
+    } else {
+        fill_leaf(raster, n, level, x, y, kind as u8);
     }
-    fill_leaf(raster, n, level, x, y, kind as u8);
 }
 
 // Decoding: for any level and any words, the table's picture in every byte of the raster, or the first refusal and the
@@ -78,18 +74,9 @@ fn paint(table: &[u32], p: usize, n: u32, level: u32, x: usize, y: usize, raster
 pub fn decode(n: u32, table: &[u32], raster: &mut [u8]) -> Outcome
     ensures { Decoding n table.now raster.old result raster.new }
 {
-    let sized = table_check::sizes(n, table);
-    if !answer::answered(sized) {
-        return sized;
-    }
-    let long = raster_length(n, raster.len());
-    if !answer::answered(long) {
-        return long;
-    }
-    let checked = table_check::faults(n, table);
-    if !answer::answered(checked) {
-        return checked;
-    }
+    table_check::sizes(n, table)?;
+    raster_length(n, raster.len())?;
+    table_check::faults(n, table)?;
     paint(table, 0, n, n, 0, 0, raster);
-    Outcome::Answered { value: 0 }
+    Ok(0)
 }

@@ -8,9 +8,12 @@ use Prim.Native.Nat.{ℕ, suc, ◌+◌, ◌-◌, ◌*◌, ◌/◌, ◌%◌, ◌^
 use native.Mathlib.Nat.{add-zero, mul-one, eq-or-lt_of_le, suc-mul, mul-le-mul_right, mod-lt}
 use native.Mathlib.Omega.{arith}
 use lib.Dec.{leb, ltb, eqb}
-use lib.ListN.{length, get_or, set, length-set}
-use lib.Pow.{pow_pos, split, high}
+use lib.ListN.{length, get_or, set, length-set, replicate}
 use lib.Seq.{get_or-set_same, get_or-set_other}
+use lib.Pow.{pow_pos, split, high}
+use borrow.Rule.Slice.PartMut.{put_mid, mid_of}
+use Rattle.std.proofs.Common.{rules}
+use Rattle.std.proofs.lemmas.List.{places}
 use borrow.Author.Tests.{eq-eqb, ne_eqb, eqb-true, eqb-false, lt-ltb, le-ltb, le-leb, ltb-true, leb-true}
 use Rattle.base.proofs.BoolLaws.{and_left, and_right, and_both, and_false, or_true, or_second, same_tests, by_bool, lt_or_ge}
 use Rattle.quad.specs.Numbers.{fork_type}
@@ -64,7 +67,7 @@ within_more a w k =
     within_of a (w + 1) k (omega arith) (omega arith))
     (by_bool (eqb k (a + w))))
 
--- a row, byte by byte
+-- one byte more
 pub filled_none : (a c : ℕ) (U : List ℕ) → BytesFilled a 0 c U U
 filled_none a c U = record { size = refl; bytes = λ k. rw (within_none a k) }
 
@@ -76,6 +79,20 @@ filled_more a i c U W lt f = record { size = length-set W (a + i) c ∙ f.size; 
         let e : k ≡ a + i = eqb-true k (a + i) q in
         rw (within_more a i k, q) (rw e (get_or-set_same W (a + i) c 0 lt))
     go k false q = rw (within_more a i k, q) (get_or-set_other W (a + i) k c 0 (eqb-false k (a + i) q) ∙ f.bytes k)
+
+-- a row written as one part of the raster
+pub filled_part : (a w k c : ℕ) (U V : List ℕ) → a + w ≤ length U → k ≡ w → V ≡ replicate (length (mid_of a k U)) c → BytesFilled a w c U (put_mid a k U V)
+filled_part a w k c U V fits kw e =
+    let long : length (mid_of a w U) ≡ w = search (rules, places) in
+    rw (e, kw, long) record { size = search (rules, places); bytes = λ i. go i (among a w i) refl }
+  where
+    go : (i : ℕ) (u : Bool) → among a w i ≡ u → get_or (put_mid a w U (replicate w c)) i 0 ≡ cond (among a w i) c (get_or U i 0)
+    go i true q =
+        let h : (a ≤ i) × (i < a + w) = within_in a w i q in
+        rw q (grind (arith, places))
+    go i false q =
+        let n : a ≤ i → i < a + w → ⊥ = λ le lt. false≢true (sym q ∙ within_of a w i le lt) in
+        rw q (grind (arith, places, n))
 
 -- the numbers of a block of level l
 span : (l X x : ℕ) → among (X * 2 ^ l) (2 ^ l) x ≡ eqb (x / 2 ^ l) X

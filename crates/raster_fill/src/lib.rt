@@ -12,11 +12,7 @@ fn fill_row(raster: &mut [u8], start: usize, width: usize, colour: u8)
     requires { start + width ≤ length raster.old }
     ensures { BytesFilled start width colour raster.old raster.new }
 {
-    let mut i = 0;
-    while i < width {
-        raster[start + i] = colour;
-        i += 1;
-    }
+    raster[start..start + width].fill(colour);
 }
 
 // Fills a block, row by row.
@@ -28,10 +24,8 @@ fn fill_block(raster: &mut [u8], n: u32, level: u32, x: usize, y: usize, colour:
     let width = quad::side(level) as usize;
     let left = x * width;
     let top = y * width;
-    let mut j = 0;
-    while j < width {
+    for j in 0..width {
         fill_row(raster, (top + j) * across + left, width, colour);
-        j += 1;
     }
 }
 
@@ -49,21 +43,11 @@ pub fn fill_leaf(raster: &mut [u8], n: u32, level: u32, x: usize, y: usize, colo
     requires { (n ≤ top_level) × OnSheet n level x y × (length raster.old ≡ 4 ^ n) }
     ensures { Painted n (in_block level x y) (λ i j. colour) raster.old raster.new }
 {
-    if level == 1 {
-        fill_block(raster, n, 1, x, y, colour);
-        return;
+    match level {
+        1 => fill_block(raster, n, 1, x, y, colour),
+        2 => fill_block(raster, n, 2, x, y, colour),
+        3 => fill_block(raster, n, 3, x, y, colour),
+        4 => fill_block(raster, n, 4, x, y, colour),
+        _ => fill_block(raster, n, level, x, y, colour),
     }
-    if level == 2 {
-        fill_block(raster, n, 2, x, y, colour);
-        return;
-    }
-    if level == 3 {
-        fill_block(raster, n, 3, x, y, colour);
-        return;
-    }
-    if level == 4 {
-        fill_block(raster, n, 4, x, y, colour);
-        return;
-    }
-    fill_block(raster, n, level, x, y, colour);
 }

@@ -1,15 +1,25 @@
 -- What stands in a number's lanes, and what is added up and counted in them.
 use mathlib.Core.Bool.{true, false}
 use mathlib.Core.Logic.{⊎_elim}
-use mathlib.Core.Path.{◌≡◌}
+use mathlib.Core.Path.{◌≡◌, refl}
 use Prim.Native.Nat.{ℕ, ◌+◌, ◌*◌, ◌/◌, ◌%◌, ◌≤◌, ◌<◌}
+use native.Mathlib.Nat.{div-one}
 use native.Mathlib.Omega.{arith}
 use lib.Dec.{eqb}
 use borrow.Author.Tests.{eqb-true, eqb-false}
 use Rattle.base.proofs.BoolLaws.{by_bool}
 use Rattle.raster.specs.Sums.{mixed_of}
-use Rattle.raster_lanes.specs.Lanes.{packed, last_bits, fourths_of, mixed_lanes, lane_sum, mixed_two, forks_of, FourSums}
+use Rattle.raster_lanes.specs.Lanes.{packed, lane_bits, last_bits, fourths_of, mixed_lanes, lane_sum, mixed_two, forks_of, FourSums}
 use Rattle.raster_lanes.proofs.KindLaws.{mixed_like, mixed_unlike}
+
+-- the lanes' bits that are taken
+pub bits_last : (v : ℕ) → lane_bits 1 8 v ≡ last_bits v
+unfolding lane_bits last_bits
+bits_last v = rw (div-one v, div-one (v / 65536), div-one (v / 65536 / 65536), div-one (v / 65536 / 65536 / 65536))
+
+pub bits_fourths : (v : ℕ) → lane_bits 4 2 v ≡ fourths_of v
+unfolding lane_bits fourths_of
+bits_fourths v = refl
 
 -- the first lane, and those beyond it
 lane : (p q u : ℕ) → p < 65536 → u ≡ p + 65536 * q → (u % 65536 ≡ p) × (u / 65536 ≡ q)

@@ -53,6 +53,10 @@ pub record FourSums (v : ℕ) : Type 0 where
   pub is : v ≡ packed a b c d
   pub few : (a ≤ 4) × (b ≤ 4) × (c ≤ 4) × (d ≤ 4)
 
+-- of each lane the bits from the one that counts d on, as many as m numbers need
+unfoldable pub lane_bits : ℕ → ℕ → ℕ → ℕ
+lane_bits d m v = packed (v / d % m) (v / 65536 / d % m) (v / 65536 / 65536 / d % m) (v / 65536 / 65536 / 65536 / d % m)
+
 -- the lanes' last three bits
 unfoldable pub last_bits : ℕ → ℕ
 last_bits v = packed (v % 8) (v / 65536 % 8) (v / 65536 / 65536 % 8) (v / 65536 / 65536 / 65536 % 8)

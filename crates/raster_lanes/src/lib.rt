@@ -1,104 +1,139 @@
 // Pixels looked at many at once, as parts of one number.
 #![tactic(auto)]
 
-ghost use Rattle.std.specs.Prelude.{◌≡◌, ◌+◌, ◌*◌, ◌≤◌, ◌<◌, length, get_or};
+ghost use Rattle.std.specs.Prelude.{◌≡◌, ◌+◌, ◌*◌, ◌≤◌, ◌<◌, length};
 ghost use Rattle.quad.specs.Numbers.{fork_type};
 ghost use Rattle.quad.specs.Tree.{colour, size_of, tree_of};
 ghost use Rattle.raster.specs.Sums.{Colours};
-ghost use Rattle.raster_lanes.specs.Lanes.{window, two_from, four_from, eight_from, black_row, two_rows, four_rows};
-ghost use Rattle.raster_lanes.specs.Lanes.{eight_rows, kind_of, packed, last_bits, fourths_of, mixed_lanes, lane_sum};
+ghost use Rattle.raster_lanes.specs.Lanes.{window, four_from, eight_from, black_row, two_rows, four_rows};
+ghost use Rattle.raster_lanes.specs.Lanes.{eight_rows, kind_of, packed, lane_bits, mixed_lanes, lane_sum};
 ghost use Rattle.raster_lanes.specs.Lanes.{mixed_two, forks_of, FourSums, sums_from};
 
-// A pixel.
-fn byte_at(raster: &[u8], at: usize) -> u64
-    requires { (at < length raster.now) × Colours raster.now }
-    ensures { (result ≡ get_or raster.now at 0) × (result ≤ 1) }
-{
-    raster[at] as u64
+// A raster's bytes, all of them colours, seen as rows of a width.
+#[derive(Clone, Copy)]
+pub struct Pixels<'a> {
+    pub bytes: &'a [u8],
+    pub across: usize,
+    pub ghost colours: { Colours bytes.now },
 }
 
-// Two pixels.
-fn two_at(raster: &[u8], at: usize) -> u64
-    requires { (at + 2 ≤ length raster.now) × Colours raster.now }
-    ensures { (result ≡ two_from raster.now at) × (result ≤ 257) }
-{
-    byte_at(raster, at) + 256 * byte_at(raster, at + 1)
-}
+impl Pixels<'_> {
+    // Four pixels.
+    pub fn four_at(&self, at: usize) -> u64
+        requires { at + 4 ≤ length self.now.bytes.now }
+        ensures { (result ≡ four_from self.now.bytes.now at) × (result ≤ 16843009) }
+    {
+        u64::from(u32::from_le_bytes([
+            self.bytes[at],
+            self.bytes[at + 1],
+            self.bytes[at + 2],
+            self.bytes[at + 3],
+        ]))
+    }
 
-// Four pixels.
-pub fn four_at(raster: &[u8], at: usize) -> u64
-    requires { (at + 4 ≤ length raster.now) × Colours raster.now }
-    ensures { (result ≡ four_from raster.now at) × (result ≤ 16843009) }
-{
-    two_at(raster, at) + 65536 * two_at(raster, at + 2)
-}
+    // Eight pixels.
+    fn eight_at(&self, at: usize) -> u64
+        requires { at + 8 ≤ length self.now.bytes.now }
+        ensures { (result ≡ eight_from self.now.bytes.now at) × (result ≤ black_row) }
+    {
+        u64::from_le_bytes([
+            self.bytes[at],
+            self.bytes[at + 1],
+            self.bytes[at + 2],
+            self.bytes[at + 3],
+            self.bytes[at + 4],
+            self.bytes[at + 5],
+            self.bytes[at + 6],
+            self.bytes[at + 7],
+        ])
+    }
 
-// Eight pixels.
-fn eight_at(raster: &[u8], at: usize) -> u64
-    requires { (at + 8 ≤ length raster.now) × Colours raster.now }
-    ensures { (result ≡ eight_from raster.now at) × (result ≤ black_row) }
-{
-    four_at(raster, at) + 4294967296 * four_at(raster, at + 4)
-}
+    // Two rows of eight pixels, added up.
+    #[tactic(auto, unfolding(crate::specs::Lanes::two_rows))]
+    fn two_rows(&self, at: usize) -> u64
+        requires { at + self.now.across + 8 ≤ length self.now.bytes.now }
+        ensures { (result ≡ two_rows self.now.bytes.now self.now.across at) × (result ≤ 2 * black_row) }
+    {
+        self.eight_at(at) + self.eight_at(at + self.across)
+    }
 
-// Two rows of eight pixels, added up.
-fn two_rows(raster: &[u8], across: usize, at: usize) -> u64
-    requires { (at + across + 8 ≤ length raster.now) × Colours raster.now }
-    ensures { (result ≡ two_rows raster.now across at) × (result ≤ 2 * black_row) }
-{
-    eight_at(raster, at) + eight_at(raster, at + across)
-}
+    // Four rows.
+    #[tactic(auto, unfolding(crate::specs::Lanes::four_rows))]
+    fn four_rows(&self, at: usize) -> u64
+        requires { at + 3 * self.now.across + 8 ≤ length self.now.bytes.now }
+        ensures { (result ≡ four_rows self.now.bytes.now self.now.across at) × (result ≤ 4 * black_row) }
+    {
+        self.two_rows(at) + self.two_rows(at + 2 * self.across)
+    }
 
-// Four rows.
-fn four_rows(raster: &[u8], across: usize, at: usize) -> u64
-    requires { (at + 3 * across + 8 ≤ length raster.now) × Colours raster.now }
-    ensures { (result ≡ four_rows raster.now across at) × (result ≤ 4 * black_row) }
-{
-    two_rows(raster, across, at) + two_rows(raster, across, at + 2 * across)
-}
+    // Eight rows: what tells a block of level 3.
+    #[tactic(auto, unfolding(crate::specs::Lanes::eight_rows))]
+    pub fn eight_rows(&self, at: usize) -> u64
+        requires { at + 7 * self.now.across + 8 ≤ length self.now.bytes.now }
+        ensures { (result ≡ eight_rows self.now.bytes.now self.now.across at) × (result ≤ 8 * black_row) }
+    {
+        self.four_rows(at) + self.four_rows(at + 4 * self.across)
+    }
 
-// Eight rows: what tells a block of level 3.
-pub fn eight_rows(raster: &[u8], across: usize, at: usize) -> u64
-    requires { (at + 7 * across + 8 ≤ length raster.now) × Colours raster.now }
-    ensures { (result ≡ eight_rows raster.now across at) × (result ≤ 8 * black_row) }
-{
-    four_rows(raster, across, at) + four_rows(raster, across, at + 4 * across)
+    // The sums of four blocks of level 1 side by side, in four lanes.
+    fn four_sums(&self, at: usize) -> u64
+        requires { at + self.now.across + 8 ≤ length self.now.bytes.now }
+        ensures { result ≡ sums_from (window self.now.bytes.now self.now.across at) 0 }
+    {
+        let rows = self.two_rows(at);
+        bits::<1, 8>(rows + rows / 256)
+    }
+
+    // The forks of two blocks of level 2 side by side, from their pixels.
+    fn half_forks(&self, at: usize) -> u64
+        requires { at + 3 * self.now.across + 8 ≤ length self.now.bytes.now }
+        ensures { (2 + 4 * result ≡ size_of (tree_of (window self.now.bytes.now self.now.across at) 2 0 0)
+            + size_of (tree_of (window self.now.bytes.now self.now.across at) 2 1 0)) × (result ≤ 262142) }
+    {
+        let north = self.four_sums(at);
+        let south = self.four_sums(at + 2 * self.across);
+        forks(north, south)
+    }
+
+    // The nodes of a block of level 3 that is a fork.
+    pub fn nodes(&self, at: usize) -> u32
+        requires { (at + 7 * self.now.across + 8 ≤ length self.now.bytes.now)
+            × (colour (tree_of (window self.now.bytes.now self.now.across at) 3 0 0) ≡ fork_type) }
+        ensures { result ≡ size_of (tree_of (window self.now.bytes.now self.now.across at) 3 0 0) }
+    {
+        let north = self.half_forks(at);
+        let south = self.half_forks(at + 4 * self.across);
+        (5 + 4 * (north + south)) as u32
+    }
 }
 
 // A block's type by the sum of its rows, `most` being that of black ones.
+#[tactic(auto, unfolding(crate::specs::Lanes::kind_of))]
 pub fn kind(all: u64, most: u64) -> u32
     ensures { result ≡ kind_of all most }
 {
     if all == 0 {
-        return 0;
+        0
+    } else if all == most {
+        1
+    } else {
+        quad::FORK as u32
     }
-    if all == most {
-        return 1;
-    }
-    quad::FORK as u32
 }
 
-// The lanes' last three bits.
-fn apart(v: u64) -> u64
-    ensures { result ≡ last_bits v }
+// Of each lane the bits from the one that counts BELOW on, as many as OF numbers need.
+#[tactic(auto, unfolding(crate::specs::Lanes::lane_bits))]
+fn bits<const BELOW: u64, const OF: u64>(v: u64) -> u64
+    requires { (0 < BELOW) × (0 < OF) × (OF ≤ 8) }
+    ensures { result ≡ lane_bits BELOW OF v }
 {
     let second = v / 65536;
     let third = second / 65536;
     let fourth = third / 65536;
-    v % 8 + 65536 * (second % 8) + 4294967296 * (third % 8) + 281474976710656 * (fourth % 8)
-}
-
-// The lanes' third bits.
-fn fourths(v: u64) -> u64
-    ensures { result ≡ fourths_of v }
-{
-    let second = v / 65536;
-    let third = second / 65536;
-    let fourth = third / 65536;
-    v / 4 % 2
-        + 65536 * (second / 4 % 2)
-        + 4294967296 * (third / 4 % 2)
-        + 281474976710656 * (fourth / 4 % 2)
+    v / BELOW % OF
+        + 65536 * (second / BELOW % OF)
+        + 4294967296 * (third / BELOW % OF)
+        + 281474976710656 * (fourth / BELOW % OF)
 }
 
 // 1 in the lanes whose sums are neither 0 nor 4: three more take all others past 3, and 4 is past it alone.
@@ -106,10 +141,11 @@ fn mixed_lanes(v: u64) -> u64
     requires { FourSums v }
     ensures { (result ≡ mixed_lanes v) × (result ≤ packed 1 1 1 1) }
 {
-    fourths(v + 844437815230467) - fourths(v)
+    bits::<4, 2>(v + 844437815230467) - bits::<4, 2>(v)
 }
 
 // The sum of the lanes.
+#[tactic(auto, unfolding(crate::specs::Lanes::lane_sum))]
 fn lane_sum(v: u64) -> u64
     ensures { (result ≡ lane_sum v) × (result ≤ 262140) }
 {
@@ -120,21 +156,13 @@ fn lane_sum(v: u64) -> u64
 }
 
 // How many of the sums in the first and the third lane are neither 0 nor 16.
+#[tactic(auto, unfolding(crate::specs::Lanes::mixed_two))]
 fn mixed_two(v: u64) -> u64
     ensures { (result ≡ mixed_two v) × (result ≤ 2) }
 {
     let west = v % 65536;
     let east = v / 65536 / 65536 % 65536;
     (west + 15) / 16 + (east + 15) / 16 - (west / 16 + east / 16)
-}
-
-// The sums of four blocks of level 1 side by side, in four lanes.
-fn four_sums(raster: &[u8], across: usize, at: usize) -> u64
-    requires { (at + across + 8 ≤ length raster.now) × Colours raster.now }
-    ensures { result ≡ sums_from (window raster.now across at) 0 }
-{
-    let rows = two_rows(raster, across, at);
-    apart(rows + rows / 256)
 }
 
 // The forks of two blocks of level 2 side by side, from the sums in their upper and in their lower half.
@@ -144,26 +172,4 @@ fn forks(north: u64, south: u64) -> u64
 {
     let both = north + south;
     lane_sum(mixed_lanes(north) + mixed_lanes(south)) + mixed_two(both + both / 65536)
-}
-
-// The forks of two blocks of level 2 side by side, from their pixels.
-fn half_forks(raster: &[u8], across: usize, at: usize) -> u64
-    requires { (at + 3 * across + 8 ≤ length raster.now) × Colours raster.now }
-    ensures { (2 + 4 * result ≡ size_of (tree_of (window raster.now across at) 2 0 0)
-        + size_of (tree_of (window raster.now across at) 2 1 0)) × (result ≤ 262142) }
-{
-    let north = four_sums(raster, across, at);
-    let south = four_sums(raster, across, at + 2 * across);
-    forks(north, south)
-}
-
-// The nodes of a block of level 3 that is a fork.
-pub fn nodes(raster: &[u8], across: usize, at: usize) -> u32
-    requires { (at + 7 * across + 8 ≤ length raster.now) × Colours raster.now
-        × (colour (tree_of (window raster.now across at) 3 0 0) ≡ fork_type) }
-    ensures { result ≡ size_of (tree_of (window raster.now across at) 3 0 0) }
-{
-    let north = half_forks(raster, across, at);
-    let south = half_forks(raster, across, at + 4 * across);
-    (5 + 4 * (north + south)) as u32
 }

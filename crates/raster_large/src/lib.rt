@@ -5,22 +5,18 @@ ghost use Rattle.std.specs.Prelude.{◌≡◌, ◌+◌, ◌-◌, ◌≤◌, ◌<
 ghost use Rattle.quad.specs.Numbers.{top_level};
 ghost use Rattle.raster_notes.specs.Notes.{slots_of, part_at, NotedSize, joined_of, Lies};
 
-use raster_notes::{eight, sixteen};
+use raster_lanes::Pixels;
+use raster_notes::{Notes, SLOTS, eight, sixteen};
 
 // The type of a block by its quarters'.
 fn joined(nw: u32, ne: u32, sw: u32, se: u32) -> u32
     ensures { result ≡ joined_of nw ne sw se }
 {
-    if nw != ne {
-        return quad::FORK as u32;
+    if nw == ne && nw == sw && nw == se {
+        nw
+    } else {
+        quad::FORK as u32
     }
-    if nw != sw {
-        return quad::FORK as u32;
-    }
-    if nw != se {
-        return quad::FORK as u32;
-    }
-    nw
 }
 
 // Where quadrant q begins of a block whose quarters have the side `half`.
@@ -34,32 +30,29 @@ fn part_at(across: usize, at: usize, half: usize, q: usize) -> usize
 // Notes a block above level 4, quarter by quarter, and gives its nodes. Only four quarters of one node each can be like
 // leaves.
 fn large(
-    raster: &[u8],
-    across: usize,
+    pixels: &Pixels<'_>,
     at: usize,
     level: u32,
     slot: usize,
     slots: usize,
-    kinds: &mut [u32; 341],
+    kinds: &mut Notes,
 ) -> u32
-    requires { Lies raster.now across at level × (5 ≤ level) × (level ≤ top_level) × (slots ≡ slots_of (level - 3))
-        × (slot + slots ≤ 341) × (length kinds.old ≡ 341) }
-    ensures { NotedSize raster.now across at level slot kinds.old kinds.new result }
+    requires { Lies pixels.now.bytes.now pixels.now.across at level × (5 ≤ level) × (level ≤ top_level) × (slots ≡ slots_of (level - 3))
+        × (slot + slots ≤ SLOTS) }
+    ensures { NotedSize pixels.now.bytes.now pixels.now.across at level slot kinds.old kinds.new result }
 {
     let half = level - 1;
     let side = quad::side(half) as usize;
     let apart = slots / 4;
     let first = slot + 1;
     let mut nodes = 1;
-    let mut q = 0;
-    while q < 4 {
-        let place = part_at(across, at, side, q);
+    for q in 0..4 {
+        let place = part_at(pixels.across, at, side, q);
         let its = first + q * apart;
-        q += 1;
         if half == 4 {
-            nodes += sixteen(&*raster, across, place, its, kinds);
+            nodes += sixteen(pixels, place, its, kinds);
         } else {
-            nodes += large(&*raster, across, place, half, its, apart, kinds);
+            nodes += large(pixels, place, half, its, apart, kinds);
         }
     }
     if nodes != 5 {
@@ -85,34 +78,28 @@ pub fn slots(n: u32) -> usize
     ensures { result ≡ slots_of (n - 3) }
 {
     let mut slots = 1;
-    let mut level = 3;
-    while level < n {
+    for _level in 3..n {
         slots = 4 * slots + 1;
-        level += 1;
     }
     slots
 }
 
 // Notes a block from level 3 up, and counts its nodes.
 pub fn block(
-    raster: &[u8],
-    across: usize,
+    pixels: &Pixels<'_>,
     at: usize,
     level: u32,
     slot: usize,
     slots: usize,
-    kinds: &mut [u32; 341],
+    kinds: &mut Notes,
 ) -> u32
-    requires { Lies raster.now across at level × (3 ≤ level) × (level ≤ top_level) × (slots ≡ slots_of (level - 3))
-        × (slot + slots ≤ 341) × (length kinds.old ≡ 341) }
-    ensures { NotedSize raster.now across at level slot kinds.old kinds.new result }
+    requires { Lies pixels.now.bytes.now pixels.now.across at level × (3 ≤ level) × (level ≤ top_level) × (slots ≡ slots_of (level - 3))
+        × (slot + slots ≤ SLOTS) }
+    ensures { NotedSize pixels.now.bytes.now pixels.now.across at level slot kinds.old kinds.new result }
 {
-    if level == 3 {
-        let all = raster_lanes::eight_rows(raster, across, at);
-        return eight(raster, across, at, all, slot, kinds);
+    match level {
+        3 => eight(pixels, at, pixels.eight_rows(at), slot, kinds),
+        4 => sixteen(pixels, at, slot, kinds),
+        _ => large(pixels, at, level, slot, slots, kinds),
     }
-    if level == 4 {
-        return sixteen(raster, across, at, slot, kinds);
-    }
-    large(raster, across, at, level, slot, slots, kinds)
 }

@@ -7,30 +7,29 @@ ghost use Rattle.quad.specs.Tree.{tree_of};
 ghost use Rattle.table.specs.Writing.{Ready, Put};
 ghost use Rattle.raster.specs.Raster.{picture_of};
 ghost use Rattle.raster.specs.Sums.{four_over};
-ghost use Rattle.raster.specs.Blocks.{Picture, OnSheet};
+ghost use Rattle.raster.specs.Blocks.{OnSheet};
 
-use raster_count::{pixel_at, sum_four, sum_sixteen};
+use raster_count::Raster;
 use table_node::{put_leaf, put_node};
 
 // Writes a fork over four pixels, its nodes from p on, and gives the next node.
 fn put_pixels(
-    raster: &[u8],
-    n: u32,
+    raster: &Raster<'_>,
     x: usize,
     y: usize,
     table: &mut [u32],
     p: u32,
     father: u32,
 ) -> u32
-    requires { Picture n raster.now × OnSheet n 1 x y × (6 * (p + 5) ≤ length table.old) × (p + 5 ≤ max_words) }
-    ensures { Put (four_over (picture_of n raster.now) 0 x y) father p table.old table.new result }
+    requires { OnSheet raster.now.n 1 x y × (6 * (p + 5) ≤ length table.old) × (p + 5 ≤ max_words) }
+    ensures { Put (four_over (picture_of raster.now.n raster.now.pixels.bytes.now) 0 x y) father p table.old table.new result }
 {
     let west = 2 * x;
     let north = 2 * y;
-    let nw = pixel_at(raster, n, west, north);
-    let ne = pixel_at(raster, n, west + 1, north);
-    let sw = pixel_at(raster, n, west, north + 1);
-    let se = pixel_at(raster, n, west + 1, north + 1);
+    let nw = raster.pixel_at(west, north);
+    let ne = raster.pixel_at(west + 1, north);
+    let sw = raster.pixel_at(west, north + 1);
+    let se = raster.pixel_at(west + 1, north + 1);
     let own = p as usize;
     put_leaf(table, own + 1, p, nw);
     put_leaf(table, own + 2, p, ne);
@@ -51,41 +50,39 @@ fn put_pixels(
 
 // Writes a block of level 1, its nodes from p on, and gives the next node.
 pub fn put_four(
-    raster: &[u8],
-    n: u32,
+    raster: &Raster<'_>,
     x: usize,
     y: usize,
     table: &mut [u32],
     p: u32,
     father: u32,
 ) -> u32
-    requires { Picture n raster.now × OnSheet n 1 x y
-        × Ready (tree_of (picture_of n raster.now) 1 x y) p (length table.old) }
-    ensures { Put (tree_of (picture_of n raster.now) 1 x y) father p table.old table.new result }
+    requires { OnSheet raster.now.n 1 x y
+        × Ready (tree_of (picture_of raster.now.n raster.now.pixels.bytes.now) 1 x y) p (length table.old) }
+    ensures { Put (tree_of (picture_of raster.now.n raster.now.pixels.bytes.now) 1 x y) father p table.old table.new result }
 {
-    let sum = sum_four(raster, n, x, y);
+    let sum = raster.sum_four(x, y);
     if sum % 4 == 0 {
         put_leaf(table, p as usize, father, sum / 4);
         return p + 1;
     }
-    put_pixels(raster, n, x, y, table, p, father)
+    put_pixels(raster, x, y, table, p, father)
 }
 
 // Writes a block of level 2, its nodes from p on, and gives the next node.
 pub fn put_sixteen(
-    raster: &[u8],
-    n: u32,
+    raster: &Raster<'_>,
     x: usize,
     y: usize,
     table: &mut [u32],
     p: u32,
     father: u32,
 ) -> u32
-    requires { Picture n raster.now × OnSheet n 2 x y
-        × Ready (tree_of (picture_of n raster.now) 2 x y) p (length table.old) }
-    ensures { Put (tree_of (picture_of n raster.now) 2 x y) father p table.old table.new result }
+    requires { OnSheet raster.now.n 2 x y
+        × Ready (tree_of (picture_of raster.now.n raster.now.pixels.bytes.now) 2 x y) p (length table.old) }
+    ensures { Put (tree_of (picture_of raster.now.n raster.now.pixels.bytes.now) 2 x y) father p table.old table.new result }
 {
-    let sum = sum_sixteen(&*raster, n, x, y);
+    let sum = raster.sum_sixteen(x, y);
     if sum % 16 == 0 {
         put_leaf(table, p as usize, father, sum / 16);
         return p + 1;
@@ -93,10 +90,10 @@ pub fn put_sixteen(
     let west = 2 * x;
     let north = 2 * y;
     let a = p + 1;
-    let b = put_four(&*raster, n, west, north, table, a, p);
-    let c = put_four(&*raster, n, west + 1, north, table, b, p);
-    let d = put_four(&*raster, n, west, north + 1, table, c, p);
-    let next = put_four(&*raster, n, west + 1, north + 1, table, d, p);
+    let b = put_four(raster, west, north, table, a, p);
+    let c = put_four(raster, west + 1, north, table, b, p);
+    let d = put_four(raster, west, north + 1, table, c, p);
+    let next = put_four(raster, west + 1, north + 1, table, d, p);
     put_node(table, p as usize, father, a, b, c, d, quad::FORK as u32);
     next
 }

@@ -1,6 +1,4 @@
--- `raster_build::put_fork`: the father word, then each quarter's number and part, and the type. The measure is the
--- level; the loop's, the quarters left. In each answer s is the start and l the loop's turn.
-use Prim.Native.Nat.{◌-◌}
+-- `raster_build::put_fork`: the father word, then each quarter's number and part, and the type. The measure is the level.
 use Rattle.quad.specs.Tree.{tree_of}
 use Rattle.table.proofs.WritingLaws.{InTurn}
 use Rattle.raster.specs.Raster.{picture_of}
@@ -11,7 +9,4 @@ decreases-put_fork l = l.level
 
 abbrev pub invariant-loop-q : goal.invariant-loop-q
 invariant-loop-q l =
-    InTurn (tree_of (picture_of l.n l.raster) l.level l.x l.y) l.p l.q l.next l.initial.table l.table
-
-abbrev pub decreases-loop-q : goal.decreases-loop-q
-decreases-loop-q l = 4 - l.q
+    InTurn (tree_of (picture_of l.raster.n l.raster.pixels.bytes.now) l.level l.x l.y) l.p l.q l.next l.initial.table l.table

@@ -1,70 +1,53 @@
 -- `raster_build::build`: refusals 1, 2, 8, then 9 by the nodes counted, then the tree is written.
--- In each answer a is where the test of the raster was answered, and s the start.
 use mathlib.Core.Path.{ap, ◌∙◌}
-use Prim.Native.Nat.{ℕ}
 use native.Mathlib.Omega.{arith}
-use lib.ListN.{length-replicate}
 use Rattle.quad.specs.Tree.{size_of, tree_of}
 use Rattle.quad.proofs.TreeLaws.{size_fits}
 use Rattle.quad.proofs.PictureLaws.{tree_within}
 use Rattle.raster.specs.Raster.{picture_of}
 use Rattle.raster.proofs.BuildLaws.{builds_refused, passed_picture, builds_short, builds_done, sheet_ready}
 use Rattle.raster_count.proofs.NotedLaws.{sheet_window}
-use mathlib.Core.Bool.{not}
 use Rattle.raster_build.proofs.build.Goals as goal
 
-pub returns-then-not-answered : goal.returns-then-not-answered
-returns-then-not-answered c =
-    let s = c in
-    builds_refused s.args.n s.args.raster.now s.args.table.now _ _ c.readable-read.ensures c.answered.ensures
-    (ap not c.if-not-answered.true)
+pub returns-in_err-readable : goal.returns-in_err-readable
+returns-in_err-readable c = builds_refused c.args.n c.args.raster.now c.args.table.now _ _ c.from_residual.ensures c.in_err-readable.ensures
 
-pub count-nodes-requires : goal.count-nodes-requires
-count-nodes-requires c =
-    let a = c in
-    let s = a in
-    let pic = passed_picture s.args.n s.args.raster.now s.args.table.now
-    _ _ a.readable-read.ensures a.answered.ensures (ap not a.if-not-answered.false) in
-    (pic, length-replicate {A = ℕ} 341 0)
+pub side-requires : goal.side-requires
+side-requires c = (passed_picture c.args.n c.args.raster.now c.args.table.now _ c.in_ok-readable.ensures).top
+
+pub invariant_of-raster : goal.invariant_of-raster
+invariant_of-raster c = record { colours = (passed_picture c.args.n c.args.raster.now c.args.table.now _ c.in_ok-readable.ensures).colours }
+
+pub invariant_of-raster-2 : goal.invariant_of-raster-2
+invariant_of-raster-2 c = record { picture = passed_picture c.args.n c.args.raster.now c.args.table.now _ c.in_ok-readable.ensures; wide = c.side.ensures }
 
 pub overflow_mul-needed : goal.overflow_mul-needed
 overflow_mul-needed c =
-    let a = c in
-    let s = a in
-    let pic = passed_picture s.args.n s.args.raster.now s.args.table.now
-    _ _ a.readable-read.ensures a.answered.ensures (ap not a.if-not-answered.false) in
-    let f = picture_of s.args.n s.args.raster.now in
+    let pic = passed_picture c.args.n c.args.raster.now c.args.table.now _ c.in_ok-readable.ensures in
+    let f = picture_of c.args.n c.args.raster.now in
     record {
       fits = omega (
         arith,
-        size_fits s.args.n (tree_of f s.args.n 0 0) pic.top (tree_within f s.args.n 0 0),
+        size_fits c.args.n (tree_of f c.args.n 0 0) pic.top (tree_within f c.args.n 0 0),
         c.count-nodes.ensures.nodes ∙ ap size_of (sheet_window _ _),
       );
     }
 
 pub returns-then-table-needed : goal.returns-then-table-needed
 returns-then-table-needed c =
-    let a = c in
-    let s = a in
-    builds_short s.args.n s.args.raster.now s.args.table.now _ _ a.readable-read.ensures a.answered.ensures (ap not a.if-not-answered.false) _
+    builds_short c.args.n c.args.raster.now c.args.table.now _ c.in_ok-readable.ensures _
     (c.count-nodes.ensures.nodes ∙ ap size_of (sheet_window _ _)) c.if-table-needed.true
 
-pub put-value-requires : goal.put-value-requires
-put-value-requires c =
-    let a = c in
-    let s = a in
+pub put-requires : goal.put-requires
+put-requires c =
     let counted = c.count-nodes.ensures in
-    let pic = passed_picture s.args.n s.args.raster.now s.args.table.now
-    _ _ a.readable-read.ensures a.answered.ensures (ap not a.if-not-answered.false) in (
-      pic,
+    let pic = passed_picture c.args.n c.args.raster.now c.args.table.now _ c.in_ok-readable.ensures in (
       counted.noted,
-      sheet_ready s.args.n s.args.raster.now s.args.table.now pic.top _ (counted.nodes ∙ ap size_of (sheet_window _ _)) c.if-table-needed.false,
+      sheet_ready c.args.n c.args.raster.now c.args.table.now pic.top _ (counted.nodes ∙ ap size_of (sheet_window _ _)) c.if-table-needed.false,
     )
 
 pub returns : goal.returns
 returns c =
-    let a = c in
-    let s = a in
-    builds_done s.args.n s.args.raster.now s.args.table.now _ _ a.readable-read.ensures a.answered.ensures (ap not a.if-not-answered.false) _
+    builds_done c.args.n c.args.raster.now c.args.table.now _ c.in_ok-readable.ensures _
     (c.count-nodes.ensures.nodes ∙ ap size_of (sheet_window _ _)) _ _ c.if-table-needed.false
-    c.put-value.ensures
+    c.put.ensures

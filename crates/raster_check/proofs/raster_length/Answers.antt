@@ -1,11 +1,6 @@
 -- `raster_check::raster_length`: the side times the side is 4 ^ n.
-use native.Mathlib.Omega.{arith}
-use Rattle.raster.proofs.BlockLaws.{square_fits}
 use Rattle.raster.proofs.TestLaws.{length_wrong, length_right}
 use Rattle.raster_check.proofs.raster_length.Goals as goal
-
-pub overflow_mul-across : goal.overflow_mul-across
-overflow_mul-across c = record { fits = omega (arith, square_fits _ _ c.requires c.side-across.ensures) }
 
 pub returns-then-bytes-across : goal.returns-then-bytes-across
 returns-then-bytes-across c = length_wrong _ _ _ c.side-across.ensures c.if-bytes-across.true

@@ -6,8 +6,8 @@ use Rattle.raster_check.proofs.readable.Goals as goal
 pub returns-then-n-gt-TOP_LEVEL : goal.returns-then-n-gt-TOP_LEVEL
 returns-then-n-gt-TOP_LEVEL c = search (readable_level, rules)
 
-pub returns-then-not-answered : goal.returns-then-not-answered
-returns-then-not-answered c = search (readable_length, rules)
+pub returns-in_err-raster_length : goal.returns-in_err-raster_length
+returns-in_err-raster_length c = search (readable_length, rules)
 
 pub pixels-requires : goal.pixels-requires
 pixels-requires c = search (readable_short, rules)

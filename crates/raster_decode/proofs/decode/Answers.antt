@@ -1,37 +1,29 @@
 -- `raster_decode::decode`: refusals 1, 2, 2, then the six rules, then the sheet is painted.
-use Rattle.table.proofs.CheckLaws.{sized_call}
+use Rattle.table.proofs.CheckLaws.{sized_ok}
 use Rattle.raster_decode.proofs.DecodeLaws.{decodes_sizes, decodes_length, decodes_faults, sheet_paintable, decodes_done}
-use mathlib.Core.Path.{ap}
-use mathlib.Core.Bool.{not}
 use Rattle.raster_decode.proofs.decode.Goals as goal
 
-pub returns-then-not-answered : goal.returns-then-not-answered
-returns-then-not-answered c =
-    let s = c.args in
-    decodes_sizes s.n s.table.now s.raster.now _ _ c.sizes-sized.ensures c.answered.ensures (ap not c.if-not-answered.true)
+pub returns-in_err-sizes : goal.returns-in_err-sizes
+returns-in_err-sizes c = decodes_sizes c.args.n c.args.table.now c.args.raster.now _ _ c.from_residual.ensures c.in_err-sizes.ensures
 
-pub raster_length-long-requires : goal.raster_length-long-requires
-raster_length-long-requires c = (sized_call _ _ _ _ c.sizes-sized.ensures c.answered.ensures (ap not c.if-not-answered.false)).level
+pub raster_length-requires : goal.raster_length-requires
+raster_length-requires c = (sized_ok _ _ _ c.in_ok-sizes.ensures).level
 
-pub returns-then-not-answered-2 : goal.returns-then-not-answered-2
-returns-then-not-answered-2 c =
-    let s = c.args in
-    decodes_length s.n s.table.now s.raster.now _ _ c.sizes-sized.ensures c.answered.ensures (ap not c.if-not-answered.false) _ _ c.raster_length-long.ensures c.answered-2.ensures (ap not c.if-not-answered-2.true)
+pub returns-in_err-raster_length : goal.returns-in_err-raster_length
+returns-in_err-raster_length c =
+    decodes_length c.args.n c.args.table.now c.args.raster.now _ _ c.from_residual-in_err-raster_length.ensures _ c.in_ok-sizes.ensures c.in_err-raster_length.ensures
 
-pub faults-checked-requires : goal.faults-checked-requires
-faults-checked-requires c = sized_call _ _ _ _ c.sizes-sized.ensures c.answered.ensures (ap not c.if-not-answered.false)
+pub faults-requires : goal.faults-requires
+faults-requires c = sized_ok _ _ _ c.in_ok-sizes.ensures
 
-pub returns-then-not-answered-3 : goal.returns-then-not-answered-3
-returns-then-not-answered-3 c =
-    let s = c.args in
-    decodes_faults s.n s.table.now s.raster.now _ _ c.sizes-sized.ensures c.answered.ensures (ap not c.if-not-answered.false) _ _ c.raster_length-long.ensures c.answered-2.ensures (ap not c.if-not-answered-2.false) _ _ c.faults-checked.ensures c.answered-3.ensures (ap not c.if-not-answered-3.true)
+pub returns-in_err-faults : goal.returns-in_err-faults
+returns-in_err-faults c =
+    decodes_faults c.args.n c.args.table.now c.args.raster.now _ _ c.from_residual-in_err-faults.ensures _ c.in_ok-sizes.ensures _ c.in_ok-raster_length.ensures c.in_err-faults.ensures
 
 pub paint-requires : goal.paint-requires
 paint-requires c =
-    let s = c.args in
-    sheet_paintable s.n s.table.now s.raster.now _ _ c.sizes-sized.ensures c.answered.ensures (ap not c.if-not-answered.false) _ _ c.raster_length-long.ensures c.answered-2.ensures (ap not c.if-not-answered-2.false) _ _ c.faults-checked.ensures c.answered-3.ensures (ap not c.if-not-answered-3.false)
+    sheet_paintable c.args.n c.args.table.now c.args.raster.now _ _ _ c.in_ok-sizes.ensures c.in_ok-raster_length.ensures c.in_ok-faults.ensures
 
 pub returns : goal.returns
 returns c =
-    let s = c.args in
-    decodes_done s.n s.table.now s.raster.now _ _ c.sizes-sized.ensures c.answered.ensures (ap not c.if-not-answered.false) _ _ c.raster_length-long.ensures c.answered-2.ensures (ap not c.if-not-answered-2.false) _ _ c.faults-checked.ensures c.answered-3.ensures (ap not c.if-not-answered-3.false) _ c.paint.ensures
+    decodes_done c.args.n c.args.table.now c.args.raster.now _ _ _ c.in_ok-sizes.ensures c.in_ok-raster_length.ensures c.in_ok-faults.ensures _ c.paint.ensures

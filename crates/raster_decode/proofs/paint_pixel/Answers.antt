@@ -6,12 +6,9 @@ use Rattle.raster_fill.proofs.PaintingLaws.{painted_leaf}
 use Rattle.raster_decode.proofs.paint_pixel.Goals as goal
 
 pub overflow_cast-kind : goal.overflow_cast-kind
-overflow_cast-kind c =
-    let s = c in
-    omega (arith, c.word_at-kind.ensures, type_byte s.args.n s.args.table.now s.requires.place.accepted s.args.p s.requires.place.node)
+overflow_cast-kind c = omega (arith, c.word_at-kind.ensures, type_byte c.args.n c.args.table.now c.requires.place.accepted c.args.p c.requires.place.node)
 
 pub returns : goal.returns
 returns c =
-    let s = c in
-    painted_leaf s.args.table.now _ s.args.p _ _ _ _ _ _ c.word_at-kind.ensures
-    (λ e. absurd (omega (arith, fork_above s.requires.place (told_fork s.args.table.now s.args.p _ c.word_at-kind.ensures e)))) c.fill_pixel.ensures
+    painted_leaf c.args.table.now _ c.args.p _ _ _ _ _ _ c.word_at-kind.ensures
+    (λ e. absurd (omega (arith, fork_above c.requires.place (told_fork c.args.table.now c.args.p _ c.word_at-kind.ensures e)))) c.fill_pixel.ensures

@@ -1,14 +1,7 @@
 -- `raster_fill::fill_pixel`: the pixel's place lies in the raster.
-use native.Mathlib.Omega.{arith}
-use Rattle.raster.proofs.BlockLaws.{place_lt, place_fits}
+use Rattle.raster.proofs.BlockLaws.{place_lt}
 use Rattle.raster_fill.proofs.PaintingLaws.{painted_pixel}
 use Rattle.raster_fill.proofs.fill_pixel.Goals as goal
-
-pub overflow_mul-raster : goal.overflow_mul-raster
-overflow_mul-raster c = record { fits = rw c.side-across.ensures (omega (arith, place_fits c.requires.0 c.requires.1)) }
-
-pub overflow_add-raster : goal.overflow_add-raster
-overflow_add-raster c = record { fits = rw c.side-across.ensures (omega (arith, place_fits c.requires.0 c.requires.1)) }
 
 pub bounds-raster-y : goal.bounds-raster-y
 bounds-raster-y c = rw (c.side-across.ensures, c.requires.2) (place_lt c.requires.1)

@@ -1,13 +1,9 @@
--- `raster_large::large`: quarter by quarter. The measure is the level; the loop's, the quarters left.
+-- `raster_large::large`: quarter by quarter. The measure is the level.
 use Rattle.raster_notes.specs.Notes.{Parts}
-use Prim.Native.Nat.{◌-◌}
 use Rattle.raster_large.proofs.+large.Given as goal
 
 abbrev pub decreases-large : goal.decreases-large
 decreases-large l = l.level
 
 abbrev pub invariant-loop-q : goal.invariant-loop-q
-invariant-loop-q l = Parts l.raster l.across l.at l.level l.slot l.q l.initial.kinds l.kinds l.nodes
-
-abbrev pub decreases-loop-q : goal.decreases-loop-q
-decreases-loop-q l = 4 - l.q
+invariant-loop-q l = Parts l.pixels.bytes.now l.pixels.across l.at l.level l.slot l.q l.initial.kinds l.kinds l.nodes

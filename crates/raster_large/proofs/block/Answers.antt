@@ -4,23 +4,12 @@ use native.Mathlib.Omega.{arith}
 use Rattle.raster_notes.proofs.NoteLaws.{slots_some, four_slots, block_noted}
 use Rattle.raster_large.proofs.block.Goals as goal
 
-pub eight_rows-all-requires : goal.eight_rows-all-requires
-eight_rows-all-requires c = (omega (arith, (rw c.if-level-eq3.true at c.requires.0).ends), c.requires.0.colours)
-
 pub eight-requires : goal.eight-requires
-eight-requires c =
-    let s = c in
-    (omega (arith, (rw c.if-level-eq3.true at s.requires.0).ends), s.requires.0.colours, c.eight_rows-all.ensures.0, omega (arith, s.requires.3, s.requires.4, slots_some (s.args.level - 3)))
+eight-requires c = (omega (arith, (rw c.in-3.is at c.requires.0).ends), c.eight_rows.ensures.0, omega (arith, c.requires.3, c.requires.4, slots_some (c.args.level - 3)))
 
-pub returns-then-level-eq3 : goal.returns-then-level-eq3
-returns-then-level-eq3 c =
-    let s = c in
-    rw c.if-level-eq3.true (block_noted _ _ _ _ _ _ _ (omega (arith, s.requires.3, s.requires.4, s.requires.5, slots_some (s.args.level - 3))) c.eight.ensures.0 c.eight.ensures.1)
+pub returns-in-3 : goal.returns-in-3
+returns-in-3 c =
+    rw c.in-3.is (block_noted _ _ _ _ _ _ _ (omega (arith, c.requires.3, c.requires.4, c.told-kinds, slots_some (c.args.level - 3))) c.eight.ensures.0 c.eight.ensures.1)
 
 pub sixteen-requires : goal.sixteen-requires
-sixteen-requires c =
-    let s = c in
-    (rw c.if-level-eq4.true at s.requires.0, four_slots _ _ _ c.if-level-eq4.true s.requires.3 s.requires.4, s.requires.5)
-
-pub returns-then-level-eq4 : goal.returns-then-level-eq4
-returns-then-level-eq4 c = rw c.if-level-eq4.true c.sixteen.ensures
+sixteen-requires c = (rw c.in-4.is at c.requires.0, four_slots _ _ _ c.in-4.is c.requires.3 c.requires.4)

@@ -7,15 +7,10 @@ use Rattle.raster_notes.proofs.eight.Goals as goal
 
 pub returns-then-kind : goal.returns-then-kind
 returns-then-kind c =
-    let s = c in
-    (leaf_nodes _ (λ q. c.if-kind.true (block_kind _ _ _ s.requires.1 _ _ s.requires.2 c.kind-kind.ensures ∙ q)), ap (λ (k : ℕ). set s.args.kinds.now s.args.slot k) (block_kind _ _ _ s.requires.1 _ _ s.requires.2 c.kind-kind.ensures))
+    (leaf_nodes _ (λ q. c.if-kind.true (block_kind _ _ _ c.args.pixels.now.colours _ _ c.requires.1 c.kind-kind.ensures ∙ q)), ap (λ (k : ℕ). set c.args.kinds.now c.args.slot k) (block_kind _ _ _ c.args.pixels.now.colours _ _ c.requires.1 c.kind-kind.ensures))
 
 pub nodes-requires : goal.nodes-requires
-nodes-requires c =
-    let s = c in
-    (s.requires.0, s.requires.1, sym (block_kind _ _ _ s.requires.1 _ _ s.requires.2 c.kind-kind.ensures) ∙ c.if-kind.false)
+nodes-requires c = (c.requires.0, sym (block_kind _ _ _ c.args.pixels.now.colours _ _ c.requires.1 c.kind-kind.ensures) ∙ c.if-kind.false)
 
 pub returns : goal.returns
-returns c =
-    let s = c in
-    (c.nodes.ensures, ap (λ (k : ℕ). set s.args.kinds.now s.args.slot k) (block_kind _ _ _ s.requires.1 _ _ s.requires.2 c.kind-kind.ensures))
+returns c = (c.nodes.ensures, ap (λ (k : ℕ). set c.args.kinds.now c.args.slot k) (block_kind _ _ _ c.args.pixels.now.colours _ _ c.requires.1 c.kind-kind.ensures))

@@ -8,26 +8,20 @@ use Rattle.raster_notes.proofs.quarters.Goals as goal
 
 pub overflow_add-result : goal.overflow_add-result
 overflow_add-result c =
-    let s = c in
-    omega (arith, block_few (window s.args.raster.now s.args.across s.args.at) 0 0, c.eight-a.ensures.0, block_few (window s.args.raster.now s.args.across (s.args.at + 8)) 0 0, c.eight-b.ensures.0, block_few (window s.args.raster.now s.args.across (s.args.at + 8 * s.args.across)) 0 0, c.eight-c.ensures.0, block_few (window s.args.raster.now s.args.across (s.args.at + 8 * s.args.across + 8)) 0 0, c.eight-d.ensures.0)
+    omega (arith, block_few (window c.args.pixels.now.bytes.now c.args.pixels.now.across c.args.at) 0 0, c.eight-a.ensures.0, block_few (window c.args.pixels.now.bytes.now c.args.pixels.now.across (c.args.at + 8)) 0 0, c.eight-b.ensures.0, block_few (window c.args.pixels.now.bytes.now c.args.pixels.now.across (c.args.at + 8 * c.args.pixels.now.across)) 0 0, c.eight-c.ensures.0, block_few (window c.args.pixels.now.bytes.now c.args.pixels.now.across (c.args.at + 8 * c.args.pixels.now.across + 8)) 0 0, c.eight-d.ensures.0)
 
 pub overflow_add-result-2 : goal.overflow_add-result-2
 overflow_add-result-2 c =
-    let s = c in
-    omega (arith, block_few (window s.args.raster.now s.args.across s.args.at) 0 0, c.eight-a.ensures.0, block_few (window s.args.raster.now s.args.across (s.args.at + 8)) 0 0, c.eight-b.ensures.0, block_few (window s.args.raster.now s.args.across (s.args.at + 8 * s.args.across)) 0 0, c.eight-c.ensures.0, block_few (window s.args.raster.now s.args.across (s.args.at + 8 * s.args.across + 8)) 0 0, c.eight-d.ensures.0)
+    omega (arith, block_few (window c.args.pixels.now.bytes.now c.args.pixels.now.across c.args.at) 0 0, c.eight-a.ensures.0, block_few (window c.args.pixels.now.bytes.now c.args.pixels.now.across (c.args.at + 8)) 0 0, c.eight-b.ensures.0, block_few (window c.args.pixels.now.bytes.now c.args.pixels.now.across (c.args.at + 8 * c.args.pixels.now.across)) 0 0, c.eight-c.ensures.0, block_few (window c.args.pixels.now.bytes.now c.args.pixels.now.across (c.args.at + 8 * c.args.pixels.now.across + 8)) 0 0, c.eight-d.ensures.0)
 
 pub overflow_add-result-3 : goal.overflow_add-result-3
 overflow_add-result-3 c =
-    let s = c in
-    omega (arith, block_few (window s.args.raster.now s.args.across s.args.at) 0 0, c.eight-a.ensures.0, block_few (window s.args.raster.now s.args.across (s.args.at + 8)) 0 0, c.eight-b.ensures.0, block_few (window s.args.raster.now s.args.across (s.args.at + 8 * s.args.across)) 0 0, c.eight-c.ensures.0, block_few (window s.args.raster.now s.args.across (s.args.at + 8 * s.args.across + 8)) 0 0, c.eight-d.ensures.0)
+    omega (arith, block_few (window c.args.pixels.now.bytes.now c.args.pixels.now.across c.args.at) 0 0, c.eight-a.ensures.0, block_few (window c.args.pixels.now.bytes.now c.args.pixels.now.across (c.args.at + 8)) 0 0, c.eight-b.ensures.0, block_few (window c.args.pixels.now.bytes.now c.args.pixels.now.across (c.args.at + 8 * c.args.pixels.now.across)) 0 0, c.eight-c.ensures.0, block_few (window c.args.pixels.now.bytes.now c.args.pixels.now.across (c.args.at + 8 * c.args.pixels.now.across + 8)) 0 0, c.eight-d.ensures.0)
 
 pub overflow_add-result-4 : goal.overflow_add-result-4
 overflow_add-result-4 c =
-    let s = c in
-    omega (arith, block_few (window s.args.raster.now s.args.across s.args.at) 0 0, c.eight-a.ensures.0, block_few (window s.args.raster.now s.args.across (s.args.at + 8)) 0 0, c.eight-b.ensures.0, block_few (window s.args.raster.now s.args.across (s.args.at + 8 * s.args.across)) 0 0, c.eight-c.ensures.0, block_few (window s.args.raster.now s.args.across (s.args.at + 8 * s.args.across + 8)) 0 0, c.eight-d.ensures.0)
+    omega (arith, block_few (window c.args.pixels.now.bytes.now c.args.pixels.now.across c.args.at) 0 0, c.eight-a.ensures.0, block_few (window c.args.pixels.now.bytes.now c.args.pixels.now.across (c.args.at + 8)) 0 0, c.eight-b.ensures.0, block_few (window c.args.pixels.now.bytes.now c.args.pixels.now.across (c.args.at + 8 * c.args.pixels.now.across)) 0 0, c.eight-c.ensures.0, block_few (window c.args.pixels.now.bytes.now c.args.pixels.now.across (c.args.at + 8 * c.args.pixels.now.across + 8)) 0 0, c.eight-d.ensures.0)
 
 pub returns : goal.returns
 returns c =
-    let s = c in
-    let l = c in
-    four_parts _ _ _ _ _ _ _ _ _ _ _ _ _ s.requires.3 s.requires.2 l.eight-a.ensures.0 l.eight-a.ensures.1 c.eight-b.ensures.0 c.eight-b.ensures.1 c.eight-c.ensures.0 c.eight-c.ensures.1 c.eight-d.ensures.0 c.eight-d.ensures.1
+    four_parts _ _ _ _ _ _ _ _ _ _ _ _ _ c.told-kinds c.requires.1 c.eight-a.ensures.0 c.eight-a.ensures.1 c.eight-b.ensures.0 c.eight-b.ensures.1 c.eight-c.ensures.0 c.eight-c.ensures.1 c.eight-d.ensures.0 c.eight-d.ensures.1

@@ -1,7 +1,0 @@
--- `raster_lanes::four_sums`: two rows, and each byte with the next.
-use mathlib.Core.Path.{◌∙◌}
-use Rattle.raster_lanes.proofs.WindowLaws.{sums_are}
-use Rattle.raster_lanes.proofs.four_sums.Goals as goal
-
-pub returns : goal.returns
-returns c = c.apart.ensures ∙ sums_are _ _ _ c.requires.1 _ c.two_rows-rows.ensures.0
