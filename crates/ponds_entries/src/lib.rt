@@ -1,12 +1,10 @@
 // The register in a lent slice of structs.
 #![tactic(auto)]
 
-ghost use Rattle.std.specs.Prelude.{◌≡◌, ◌<◌, ◌≤◌, length, get_or, set};
+ghost use Rattle.std.specs.Prelude.{◌≡◌, ◌≤◌, length};
 ghost use Rattle.base.specs.Tab.{overlay};
-ghost use Rattle.table.specs.Rules.{Asked};
-ghost use Rattle.table.specs.Blocks.{block_of};
 ghost use Rattle.ponds.specs.Entries.{entries};
-ghost use Rattle.ponds_entry.specs.Gathered.{empty_pond, grown_of, Fitting, Numbers};
+ghost use Rattle.ponds_entry.specs.Gathered.{Numbers};
 
 use ponds::Pond;
 

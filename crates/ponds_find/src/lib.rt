@@ -44,10 +44,7 @@ fn one_if_black(table: &[u32], p: usize) -> usize
     requires { p < nodes table.now }
     ensures { result ≡ one (eqb (node_type table.now p) black) }
 {
-    if word_at(table, p, 5) == quad::BLACK {
-        return 1;
-    }
-    0
+    (word_at(table, p, 5) == quad::BLACK) as usize
 }
 
 // How many leaves are black.
@@ -55,12 +52,9 @@ fn black_leaves(table: &[u32]) -> usize
     requires { length table.now ≤ max_words }
     ensures { result ≡ black_leaves table.now }
 {
-    let all = table_node::node_count(table);
     let mut count = 0;
-    let mut p = 0;
-    while p < all {
+    for p in 0..table_node::node_count(table) {
         count += one_if_black(table, p);
-        p += 1;
     }
     count
 }

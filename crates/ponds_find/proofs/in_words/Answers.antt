@@ -1,5 +1,4 @@
 -- `ponds_find::in_words`: the numbers, and the register only where they were found.
-use borrow.Author.Rules.{rules}
 use Rattle.ponds.specs.Entries.{words_of}
 use Rattle.ponds_find.proofs.CallLaws.{found_none, found_ready, found_all}
 use mathlib.Core.Path.{ap}
