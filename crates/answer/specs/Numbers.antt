@@ -1,45 +1,49 @@
 -- Document 01, 'Numbers given back': the code and the value of each outcome, and the order in which refusals apply.
-use Rattle.std.specs.Prelude.{Bool, cond, ℕ, ◌+◌, ◌*◌, ◌/◌, ◌%◌, eqb, ltb}
-use Rattle.answer.specs.declared.Outcome.{Outcome}
-use Rattle.answer.specs.declared.Outcome.TheVariants.{Answered, BadLevel, WrongLength, BadNode, TooDeep, NeedlessFork, NoNode, BadDirection, BadPixel, NoRoom, BadPlace, OutOfRange, BadByte, Absent, BadCount, TooLarge, NoBlock}
+use Rattle.std.specs.Prelude.{Bool, cond, ℕ, ◌+◌, ◌*◌, ◌/◌, ◌%◌, eqb, ltb, Result, Ok, Err}
+use Rattle.answer.specs.declared.Refusal.{Refusal}
+use Rattle.answer.specs.declared.Refusal.TheVariants.{BadLevel, WrongLength, BadNode, TooDeep, NeedlessFork, NoNode, BadDirection, BadPixel, NoRoom, BadPlace, OutOfRange, BadByte, Absent, BadCount, TooLarge, NoBlock}
+
+-- what a call gives: its value, or a refusal
+abbrev pub Outcome : Type 0
+Outcome = Result ℕ Refusal
 
 abbrev pub code_of : Outcome → ℕ
-code_of (Answered v) = 0
-code_of (BadLevel v) = 1
-code_of (WrongLength v) = 2
-code_of (BadNode v) = 3
-code_of (TooDeep v) = 4
-code_of (NeedlessFork v) = 5
-code_of (NoNode v) = 6
-code_of (BadDirection v) = 7
-code_of (BadPixel v) = 8
-code_of (NoRoom v) = 9
-code_of BadPlace = 10
-code_of (OutOfRange v) = 11
-code_of (BadByte v) = 12
-code_of (Absent v) = 13
-code_of (BadCount v) = 14
-code_of (TooLarge v) = 15
-code_of NoBlock = 20
+code_of (Ok v) = 0
+code_of (Err (BadLevel v)) = 1
+code_of (Err (WrongLength v)) = 2
+code_of (Err (BadNode v)) = 3
+code_of (Err (TooDeep v)) = 4
+code_of (Err (NeedlessFork v)) = 5
+code_of (Err (NoNode v)) = 6
+code_of (Err (BadDirection v)) = 7
+code_of (Err (BadPixel v)) = 8
+code_of (Err (NoRoom v)) = 9
+code_of (Err BadPlace) = 10
+code_of (Err (OutOfRange v)) = 11
+code_of (Err (BadByte v)) = 12
+code_of (Err (Absent v)) = 13
+code_of (Err (BadCount v)) = 14
+code_of (Err (TooLarge v)) = 15
+code_of (Err NoBlock) = 20
 
 abbrev pub value_of : Outcome → ℕ
-value_of (Answered v) = v
-value_of (BadLevel v) = v
-value_of (WrongLength v) = v
-value_of (BadNode v) = v
-value_of (TooDeep v) = v
-value_of (NeedlessFork v) = v
-value_of (NoNode v) = v
-value_of (BadDirection v) = v
-value_of (BadPixel v) = v
-value_of (NoRoom v) = v
-value_of BadPlace = 0
-value_of (OutOfRange v) = v
-value_of (BadByte v) = v
-value_of (Absent v) = v
-value_of (BadCount v) = v
-value_of (TooLarge v) = v
-value_of NoBlock = 0
+value_of (Ok v) = v
+value_of (Err (BadLevel v)) = v
+value_of (Err (WrongLength v)) = v
+value_of (Err (BadNode v)) = v
+value_of (Err (TooDeep v)) = v
+value_of (Err (NeedlessFork v)) = v
+value_of (Err (NoNode v)) = v
+value_of (Err (BadDirection v)) = v
+value_of (Err (BadPixel v)) = v
+value_of (Err (NoRoom v)) = v
+value_of (Err BadPlace) = 0
+value_of (Err (OutOfRange v)) = v
+value_of (Err (BadByte v)) = v
+value_of (Err (Absent v)) = v
+value_of (Err (BadCount v)) = v
+value_of (Err (TooLarge v)) = v
+value_of (Err NoBlock) = 0
 
 -- the number given back to C
 abbrev pub number_of : Outcome → ℕ
@@ -69,8 +73,8 @@ and_then o next = cond (answers o) next o
 
 -- a test of document 01's order: passed (with value 0), or refused so
 abbrev pub unless : Bool → Outcome → Outcome
-unless bad o = cond bad o (Answered 0)
+unless bad o = cond bad o (Ok 0)
 
 -- an output of `have` elements where `need` are needed
 abbrev pub room : ℕ → ℕ → Outcome
-room need have = unless (ltb have need) (NoRoom need)
+room need have = unless (ltb have need) (Err (NoRoom need))

@@ -1,13 +1,13 @@
-// What an outside call gives back: document 01's table 'Numbers given back', as an enum with one case for each code.
+// What an outside call gives back: document 01's table 'Numbers given back', an answer or one refusal for each other code.
 #![tactic(auto)]
 
 ghost use Rattle.std.specs.Prelude.{◌≡◌, ◌≤◌};
-ghost use Rattle.answer.specs.Numbers.{code_of, value_of, number_of, with_level, answers};
+ghost use Rattle.answer.specs.Numbers.{code_of, value_of, number_of, with_level};
 
-#[derive(Clone, Copy)]
-pub enum Outcome {
-    // The call was answered.
-    Answered { value: u32 },
+use std::fmt;
+
+#[derive(Clone, Copy, Debug, PartialEq, Eq)]
+pub enum Refusal {
     // n is above the highest level; in a file, at the place of that byte.
     BadLevel { place: u32 },
     // A slice has the wrong length: 0 the table, 1 the other.
@@ -42,68 +42,70 @@ pub enum Outcome {
     NoBlock,
 }
 
-// The code of an outcome.
-pub fn code(o: Outcome) -> u32
-    ensures { result ≡ code_of o }
-{
-    match o {
-        Outcome::Answered { value: _ } => 0,
-        Outcome::BadLevel { place: _ } => 1,
-        Outcome::WrongLength { which: _ } => 2,
-        Outcome::BadNode { node: _ } => 3,
-        Outcome::TooDeep { at: _ } => 4,
-        Outcome::NeedlessFork { at: _ } => 5,
-        Outcome::NoNode { node: _ } => 6,
-        Outcome::BadDirection { given: _ } => 7,
-        Outcome::BadPixel { place: _ } => 8,
-        Outcome::NoRoom { needed: _ } => 9,
-        Outcome::BadPlace => 10,
-        Outcome::OutOfRange { which: _ } => 11,
-        Outcome::BadByte { place: _ } => 12,
-        Outcome::Absent { place: _ } => 13,
-        Outcome::BadCount { place: _ } => 14,
-        Outcome::TooLarge { place: _ } => 15,
-        Outcome::NoBlock => 20,
+// What a call gives: its value where it answers, which is 0 where there is nothing to tell.
+pub type Outcome = Result<u32, Refusal>;
+
+impl Refusal {
+    // The code of a refusal.
+    pub fn code(self) -> u32
+        ensures { result ≡ code_of (Err self) }
+    {
+        match self {
+            Refusal::BadLevel { .. } => 1,
+            Refusal::WrongLength { .. } => 2,
+            Refusal::BadNode { .. } => 3,
+            Refusal::TooDeep { .. } => 4,
+            Refusal::NeedlessFork { .. } => 5,
+            Refusal::NoNode { .. } => 6,
+            Refusal::BadDirection { .. } => 7,
+            Refusal::BadPixel { .. } => 8,
+            Refusal::NoRoom { .. } => 9,
+            Refusal::BadPlace => 10,
+            Refusal::OutOfRange { .. } => 11,
+            Refusal::BadByte { .. } => 12,
+            Refusal::Absent { .. } => 13,
+            Refusal::BadCount { .. } => 14,
+            Refusal::TooLarge { .. } => 15,
+            Refusal::NoBlock => 20,
+        }
+    }
+
+    // The value of a refusal: the place, the node, the number or the length that is wrong, or how much is needed.
+    pub fn value(self) -> u32
+        ensures { result ≡ value_of (Err self) }
+    {
+        match self {
+            Refusal::BadLevel { place }
+            | Refusal::BadPixel { place }
+            | Refusal::BadByte { place }
+            | Refusal::Absent { place }
+            | Refusal::BadCount { place }
+            | Refusal::TooLarge { place } => place,
+            Refusal::WrongLength { which } | Refusal::OutOfRange { which } => which,
+            Refusal::BadNode { node } | Refusal::NoNode { node } => node,
+            Refusal::TooDeep { at } | Refusal::NeedlessFork { at } => at,
+            Refusal::BadDirection { given } => given,
+            Refusal::NoRoom { needed } => needed,
+            Refusal::BadPlace | Refusal::NoBlock => 0,
+        }
     }
 }
 
-// The value of an outcome.
-pub fn value(o: Outcome) -> u32
-    ensures { result ≡ value_of o }
-{
-    match o {
-        Outcome::Answered { value } => value,
-        Outcome::BadLevel { place } => place,
-        Outcome::WrongLength { which } => which,
-        Outcome::BadNode { node } => node,
-        Outcome::TooDeep { at } => at,
-        Outcome::NeedlessFork { at } => at,
-        Outcome::NoNode { node } => node,
-        Outcome::BadDirection { given } => given,
-        Outcome::BadPixel { place } => place,
-        Outcome::NoRoom { needed } => needed,
-        Outcome::BadPlace => 0,
-        Outcome::OutOfRange { which } => which,
-        Outcome::BadByte { place } => place,
-        Outcome::Absent { place } => place,
-        Outcome::BadCount { place } => place,
-        Outcome::TooLarge { place } => place,
-        Outcome::NoBlock => 0,
+// `CODE VALUE`, as the programs print a refusal.
+impl fmt::Display for Refusal {
+    fn fmt<W: fmt::Write>(&self, f: &mut fmt::Formatter<W>) -> fmt::Result {
+        write!(f, "{} {}", self.code(), self.value())
     }
-}
-
-// Whether it is an answer, and no refusal.
-pub fn answered(o: Outcome) -> bool
-    ensures { result ≡ answers o }
-{
-    code(o) == 0
 }
 
 // The one number that a C caller gets: code + 256 × value.
 pub fn number(o: Outcome) -> u64
     ensures { result ≡ number_of o }
 {
-    (code(o) as u64) + 256 * (value(o) as u64)
+    match o {
+        Ok(value) => 256 * u64::from(value),
+        Err(refusal) => u64::from(refusal.code()) + 256 * u64::from(refusal.value()),
+    }
 }
 
 // A level is below it.

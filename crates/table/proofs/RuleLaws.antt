@@ -1,16 +1,18 @@
 -- The six rules turn by turn, as the check's functions go through them.
+use Rattle.std.specs.Prelude.{Ok, Err}
 use mathlib.Core.Bool.{Bool, true, false, not, ◌&&◌}
 use mathlib.Core.List.{List}
 use mathlib.Core.Logic.{⊎_elim}
 use mathlib.Core.Path.{◌≡◌, refl, ap, sym, ◌∙◌}
 use Prim.Native.Nat.{ℕ, zero, suc, ◌+◌, ◌-◌, ◌*◌, ◌≤◌, ◌<◌}
-use native.Mathlib.Nat.{add-zero, zero-add, eq-or-lt_of_le, not-suc-le-zero}
+use native.Mathlib.Nat.{add-zero, zero-add, eq-or-lt_of_le, not-suc-le-zero, eq-zero-or-pos}
 use native.Mathlib.Omega.{arith}
 use lib.Dec.{leb, ltb, eqb}
 use lib.ListN.{length}
 use borrow.Author.Tests.{eq-eqb, ne_eqb, eqb-true, ltb-true, lt-ltb, le-ltb, le-leb}
 use Rattle.base.proofs.BoolLaws.{and_left, and_right, or_true, on, off}
-use Rattle.answer.specs.declared.Outcome.TheVariants.{Answered, BadLevel, WrongLength}
+use Rattle.answer.specs.declared.Refusal.{Refusal}
+use Rattle.answer.specs.declared.Refusal.TheVariants.{BadLevel, WrongLength}
 use Rattle.quad.specs.Numbers.{none, top_level, top_colour, fork_type, max_words}
 use Rattle.table.specs.Table.{nodes, father, son, node_type, is_fork}
 use Rattle.table.specs.Links.{Rising, SonIn, SonsIn}
@@ -29,6 +31,8 @@ use Rattle.table.specs.Rules.{
   first_failed,
   fault_at,
   faulty,
+  fault_named,
+  obeyed,
   fault_from,
   length_ok,
   sizes_of,
@@ -198,7 +202,7 @@ module _ (n : ℕ) (T : List ℕ) (p : ℕ) where
 
 -- the first fault, node by node
 module _ (n : ℕ) (T : List ℕ) where
-  pub from_none : (k p : ℕ) → k ≡ 0 → fault_from n T k p ≡ Answered p
+  pub from_none : (k p : ℕ) → k ≡ 0 → fault_from n T k p ≡ Ok p
   unfolding fault_from
   from_none k p e = rw e
 
@@ -213,6 +217,18 @@ module _ (n : ℕ) (T : List ℕ) where
   from_fault N p c lt e h =
       let s : N - p ≡ suc (N - (p + 1)) = omega arith in
       rw (s, fault_from, ← e, ne_eqb c 0 h)
+
+-- what a node's rules tell of its fault
+pub obeyed_ok : (code p : ℕ) (u : Unit) → Ok u ≡ obeyed code p → code ≡ 0
+obeyed_ok code p u e =
+    ⊎_elim (λ (z : code ≡ 0). z) (λ (z : 0 < code). let f : Ok u ≡ Err (fault_named code p) = rw (ne_eqb code 0 (λ q. omega arith)) at e in cc) (eq-zero-or-pos code)
+
+pub obeyed_err : (code p : ℕ) (r : Refusal) → Err r ≡ obeyed code p → (code ≡ 0 → ⊥) × (r ≡ fault_named code p)
+obeyed_err code p r e =
+    ⊎_elim
+    (λ (z : code ≡ 0). let f : Err r ≡ Ok tt = rw (eq-eqb code 0 z) at e in cc)
+    (λ (z : 0 < code). let f : Err r ≡ Err (fault_named code p) = rw (ne_eqb code 0 (λ q. omega arith)) at e in (λ q. omega arith, cc))
+    (eq-zero-or-pos code)
 
 -- the length, test by test
 module _ (T : List ℕ) where
@@ -230,15 +246,15 @@ module _ (T : List ℕ) where
   unfolding length_ok
   length_whole count e h w = rw (length_ok, ne_eqb (length T) 0 h, eq-eqb (length T) (6 * nodes T) (w ∙ ap (λ (k : ℕ). 6 * k) e))
 
-  pub size_level : (n : ℕ) → top_level < n → BadLevel 0 ≡ sizes_of n T
+  pub size_level : (n : ℕ) → top_level < n → Err (BadLevel 0) ≡ sizes_of n T
   unfolding sizes_of
   size_level n h = rw (sizes_of, lt-ltb top_level n h)
 
-  pub size_length : (n : ℕ) (u : Bool) → n ≤ top_level → u ≡ length_ok T → not u ≡ true → WrongLength 0 ≡ sizes_of n T
+  pub size_length : (n : ℕ) (u : Bool) → n ≤ top_level → u ≡ length_ok T → not u ≡ true → Err (WrongLength 0) ≡ sizes_of n T
   unfolding sizes_of
   size_length n u h e f = rw (sizes_of, le-ltb top_level n h, off u (length_ok T) e f)
 
-  pub size_good : (n : ℕ) (u : Bool) → n ≤ top_level → u ≡ length_ok T → not u ≡ false → Answered 0 ≡ sizes_of n T
+  pub size_good : (n : ℕ) (u : Bool) → n ≤ top_level → u ≡ length_ok T → not u ≡ false → Ok 0 ≡ sizes_of n T
   unfolding sizes_of
   size_good n u h e f = rw (sizes_of, le-ltb top_level n h, on u (length_ok T) e f)
 

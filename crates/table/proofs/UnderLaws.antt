@@ -1,6 +1,6 @@
 -- A property of every node in or under a node: from the sons to their father, and from the root to every node, since a
 -- node is a son of its father.
-use mathlib.Core.Bool.{true, false, false≢true}
+use mathlib.Core.Bool.{false, false≢true}
 use mathlib.Core.List.{List}
 use mathlib.Core.Logic.{⊎_elim}
 use mathlib.Core.Path.{◌≡◌, sym, ◌∙◌}

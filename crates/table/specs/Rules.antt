@@ -1,9 +1,9 @@
 -- The check (document 01, 'Sheets and node tables'): the length, the six rules of a node in their order, and the first
 -- fault in rising node number.
-use Rattle.std.specs.Prelude.{Bool, true, false, not, cond, ◌&&◌, ◌||◌, List, ◌≡◌, ℕ, zero, suc, ◌+◌, ◌*◌, ◌≤◌, ◌<◌, leb, ltb, eqb, length}
-use Rattle.answer.specs.declared.Outcome.{Outcome}
-use Rattle.answer.specs.declared.Outcome.TheVariants.{Answered, BadLevel, WrongLength, BadNode, TooDeep, NeedlessFork, NoNode}
-use Rattle.answer.specs.Numbers.{and_then, unless}
+use Rattle.std.specs.Prelude.{Result, Ok, Err, Bool, true, false, not, cond, ◌&&◌, ◌||◌, List, ◌≡◌, ℕ, zero, suc, ◌+◌, ◌*◌, ◌≤◌, ◌<◌, leb, ltb, eqb, length}
+use Rattle.answer.specs.declared.Refusal.{Refusal}
+use Rattle.answer.specs.declared.Refusal.TheVariants.{BadLevel, WrongLength, BadNode, TooDeep, NeedlessFork, NoNode}
+use Rattle.answer.specs.Numbers.{Outcome, and_then, unless}
 use Rattle.quad.specs.Numbers.{top_level, top_colour, none, max_words}
 use Rattle.table.specs.Table.{nodes, father, son, node_type, is_fork}
 
@@ -69,12 +69,19 @@ unfoldable pub fault_at : ℕ → List ℕ → ℕ → ℕ
 fault_at n T p = first_failed (type_ok T p) (father_ok T p) (once_ok T p) (sons_ok T p) (depth_ok n T p) (mixed_ok T p)
 
 -- a node's fault, by its code
+abbrev pub fault_named : ℕ → ℕ → Refusal
+fault_named code p = cond (eqb code 3) (BadNode p) (cond (eqb code 4) (TooDeep p) (NeedlessFork p))
+
 abbrev pub faulty : ℕ → ℕ → Outcome
-faulty code p = cond (eqb code 3) (BadNode p) (cond (eqb code 4) (TooDeep p) (NeedlessFork p))
+faulty code p = Err (fault_named code p)
+
+-- whether a node obeys the rules, by its fault's code, and which it breaks first
+abbrev pub obeyed : ℕ → ℕ → Result Unit Refusal
+obeyed code p = cond (eqb code 0) (Ok tt) (Err (fault_named code p))
 
 -- the first fault among the k nodes from p on; where there is none, the node after them
 unfoldable pub fault_from : ℕ → List ℕ → ℕ → ℕ → Outcome
-fault_from n T zero p = Answered p
+fault_from n T zero p = Ok p
 fault_from n T (suc k) p = cond (eqb (fault_at n T p) 0) (fault_from n T k (p + 1)) (faulty (fault_at n T p) p)
 
 -- the six rules over all nodes: the first fault decides
@@ -87,7 +94,7 @@ length_ok T = not (eqb (length T) 0) && (eqb (length T) (6 * nodes T) && leb (le
 
 -- the tests for 1 and 2
 unfoldable pub sizes_of : ℕ → List ℕ → Outcome
-sizes_of n T = and_then (unless (ltb top_level n) (BadLevel 0)) (unless (not (length_ok T)) (WrongLength 0))
+sizes_of n T = and_then (unless (ltb top_level n) (Err (BadLevel 0))) (unless (not (length_ok T)) (Err (WrongLength 0)))
 
 -- the whole check
 unfoldable pub check_of : ℕ → List ℕ → Outcome
@@ -95,11 +102,11 @@ check_of n T = and_then (sizes_of n T) (faults_of n T)
 
 -- the tests of a call that is lent one word for each node: 1, 2 (the table, then the `words`), the check
 unfoldable pub each_node_of : ℕ → List ℕ → ℕ → Outcome
-each_node_of n T words = and_then (sizes_of n T) (and_then (unless (not (eqb words (nodes T))) (WrongLength 1)) (faults_of n T))
+each_node_of n T words = and_then (sizes_of n T) (and_then (unless (not (eqb words (nodes T))) (Err (WrongLength 1))) (faults_of n T))
 
 -- the tests that every question about a node begins with: 1, 2, the check, 6
 unfoldable pub asked_of : ℕ → List ℕ → ℕ → Outcome
-asked_of n T p = and_then (check_of n T) (unless (leb (nodes T) p) (NoNode p))
+asked_of n T p = and_then (check_of n T) (unless (leb (nodes T) p) (Err (NoNode p)))
 
 -- level and length are good
 pub record Sized (n : ℕ) (T : List ℕ) : Type 0 where

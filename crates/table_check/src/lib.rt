@@ -5,7 +5,7 @@
 ghost use Rattle.std.specs.Prelude.{◌≡◌};
 ghost use Rattle.table.specs.Rules.{faults_of, length_ok, sizes_of, check_of, each_node_of, asked_of, Sized};
 
-use answer::Outcome;
+use answer::{Outcome, Refusal};
 use table_node::node_count;
 use table_rules::first_fault;
 
@@ -16,24 +16,17 @@ pub fn faults(n: u32, table: &[u32]) -> Outcome
     ensures { result ≡ faults_of n table.now }
 {
     if table_seen::sound(n, table) {
-        return Outcome::Answered {
-            value: node_count(table) as u32,
-        };
+        return Ok(node_count(table) as u32);
     }
     first_fault(n, table)
 }
 
 // Whether the length is a positive multiple of 6, at most the longest table's.
+#[tactic(auto, unfolding(table::specs::Rules::length_ok))]
 fn length_ok(table: &[u32]) -> bool
     ensures { result ≡ length_ok table.now }
 {
-    if table.len() == 0 {
-        return false;
-    }
-    if table.len() != 6 * node_count(table) {
-        return false;
-    }
-    table.len() <= quad::MAX_WORDS
+    !table.is_empty() && table.len() == 6 * node_count(table) && table.len() <= quad::MAX_WORDS
 }
 
 // The tests for 1 and 2.
@@ -41,22 +34,19 @@ pub fn sizes(n: u32, table: &[u32]) -> Outcome
     ensures { result ≡ sizes_of n table.now }
 {
     if quad::TOP_LEVEL < n {
-        return Outcome::BadLevel { place: 0 };
+        return Err(Refusal::BadLevel { place: 0 });
     }
     if !length_ok(table) {
-        return Outcome::WrongLength { which: 0 };
+        return Err(Refusal::WrongLength { which: 0 });
     }
-    Outcome::Answered { value: 0 }
+    Ok(0)
 }
 
 // The check: for any level and any words, the node count or the first refusal.
 pub fn check(n: u32, table: &[u32]) -> Outcome
     ensures { result ≡ check_of n table.now }
 {
-    let sized = sizes(n, table);
-    if !answer::answered(sized) {
-        return sized;
-    }
+    sizes(n, table)?;
     faults(n, table)
 }
 
@@ -64,12 +54,9 @@ pub fn check(n: u32, table: &[u32]) -> Outcome
 pub fn each_node(n: u32, table: &[u32], words: usize) -> Outcome
     ensures { result ≡ each_node_of n table.now words }
 {
-    let sized = sizes(n, table);
-    if !answer::answered(sized) {
-        return sized;
-    }
+    sizes(n, table)?;
     if words != node_count(table) {
-        return Outcome::WrongLength { which: 1 };
+        return Err(Refusal::WrongLength { which: 1 });
     }
     faults(n, table)
 }
@@ -78,12 +65,9 @@ pub fn each_node(n: u32, table: &[u32], words: usize) -> Outcome
 pub fn asked(n: u32, table: &[u32], node: u32) -> Outcome
     ensures { result ≡ asked_of n table.now node }
 {
-    let checked = check(n, table);
-    if !answer::answered(checked) {
-        return checked;
-    }
+    check(n, table)?;
     if node_count(table) <= node as usize {
-        return Outcome::NoNode { node };
+        return Err(Refusal::NoNode { node });
     }
-    Outcome::Answered { value: 0 }
+    Ok(0)
 }

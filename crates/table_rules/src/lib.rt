@@ -5,10 +5,10 @@ ghost use Rattle.std.specs.Prelude.{◌≡◌, true, ◌+◌, ◌<◌, ◌≤◌
 ghost use Rattle.quad.specs.Numbers.{max_words};
 ghost use Rattle.table.specs.Table.{nodes, father, son};
 ghost use Rattle.table.specs.Rules.{all_of, one, type_ok, father_ok, once_ok, son_ok, word_ok, sons_ok, depth_ok, son_alike};
-ghost use Rattle.table.specs.Rules.{mixed_ok, fault_at, faulty, faults_of};
+ghost use Rattle.table.specs.Rules.{mixed_ok, fault_at, obeyed, faults_of};
 ghost use Rattle.table.specs.Links.{Rising, SonsIn};
 
-use answer::Outcome;
+use answer::{Outcome, Refusal};
 use table_node::{depth_to, node_count, word_at};
 
 // Rule 1.
@@ -20,15 +20,17 @@ fn type_ok(table: &[u32], p: usize) -> bool
 }
 
 // Rule 2.
+#[tactic(auto, unfolding(table::specs::Rules::father_ok))]
 fn father_ok(table: &[u32], p: usize) -> bool
     requires { p < nodes table.now }
     ensures { result ≡ father_ok table.now p }
 {
     let father = word_at(table, p, 0);
     if p == 0 {
-        return father == quad::NONE;
+        father == quad::NONE
+    } else {
+        father < p
     }
-    father < p
 }
 
 // 1 where son q of father is p, else 0.
@@ -36,10 +38,7 @@ fn names(table: &[u32], father: usize, q: usize, p: usize) -> u32
     requires { (father < nodes table.now) × (q < 4) }
     ensures { (result ≡ one (eqb (son table.now father q) p)) × (result ≤ 1) }
 {
-    if word_at(table, father, 1 + q) == p {
-        return 1;
-    }
-    0
+    (word_at(table, father, 1 + q) == p) as u32
 }
 
 // Rule 3.
@@ -59,29 +58,26 @@ fn once_ok(table: &[u32], p: usize) -> bool
 }
 
 // Rule 4 for one son of a fork.
+#[tactic(auto, unfolding(table::specs::Rules::son_ok))]
 fn son_ok(table: &[u32], p: usize, q: usize) -> bool
     requires { (p < nodes table.now) × (q < 4) }
     ensures { result ≡ son_ok table.now p q }
 {
     let son = word_at(table, p, 1 + q);
-    if son <= p {
-        return false;
-    }
-    if node_count(table) <= son {
-        return false;
-    }
-    word_at(table, son, 0) == p
+    p < son && son < node_count(table) && word_at(table, son, 0) == p
 }
 
 // Rule 4 for one son word.
+#[tactic(auto, unfolding(table::specs::Rules::word_ok))]
 fn word_ok(table: &[u32], p: usize, q: usize) -> bool
     requires { (p < nodes table.now) × (q < 4) }
     ensures { result ≡ word_ok table.now p q }
 {
     if word_at(table, p, 5) == quad::FORK {
-        return son_ok(table, p, q);
+        son_ok(table, p, q)
+    } else {
+        word_at(table, p, 1 + q) == quad::NONE
     }
-    word_at(table, p, 1 + q) == quad::NONE
 }
 
 // Rule 4.
@@ -89,25 +85,21 @@ fn sons_ok(table: &[u32], p: usize) -> bool
     requires { p < nodes table.now }
     ensures { result ≡ sons_ok table.now p }
 {
-    let mut q = 0;
-    while q < 4 {
+    for q in 0..4 {
         if !word_ok(table, p, q) {
             return false;
         }
-        q += 1;
     }
     true
 }
 
 // Rule 5.
+#[tactic(auto, unfolding(table::specs::Rules::depth_ok))]
 fn depth_ok(n: u32, table: &[u32], p: usize) -> bool
     requires { (p < nodes table.now) × Rising table.now (p + 1) }
     ensures { result ≡ depth_ok n table.now p }
 {
-    if word_at(table, p, 5) != quad::FORK {
-        return true;
-    }
-    depth_to(table, n, p) < n
+    word_at(table, p, 5) != quad::FORK || depth_to(table, n, p) < n
 }
 
 // Whether the four sons of a fork have the type of the first.
@@ -117,13 +109,11 @@ fn sons_alike(table: &[u32], p: usize) -> bool
 {
     let first = word_at(table, p, 1);
     let kind = word_at(table, first, 5);
-    let mut q = 0;
-    while q < 4 {
+    for q in 0..4 {
         let son = word_at(table, p, 1 + q);
         if word_at(table, son, 5) != kind {
             return false;
         }
-        q += 1;
     }
     true
 }
@@ -143,43 +133,31 @@ fn mixed_ok(table: &[u32], p: usize) -> bool
     quad::TOP_COLOUR < word_at(table, first, 5)
 }
 
-// The code of node p's first fault, or 0: rules 1 to 6 in their order.
-fn fault_at(n: u32, table: &[u32], p: usize) -> u32
-    requires { (p < nodes table.now) × Rising table.now p }
-    ensures { result ≡ fault_at n table.now p }
+// Rules 1 to 6 in their order: node p's first fault, if it has one.
+fn obey(n: u32, table: &[u32], p: usize) -> Result<(), Refusal>
+    requires { (p < nodes table.now) × Rising table.now p × (length table.now ≤ max_words) }
+    ensures { result ≡ obeyed (fault_at n table.now p) p }
 {
+    let node = p as u32;
     if !type_ok(table, p) {
-        return 3;
+        return Err(Refusal::BadNode { node });
     }
     if !father_ok(table, p) {
-        return 3;
+        return Err(Refusal::BadNode { node });
     }
     if !once_ok(table, p) {
-        return 3;
+        return Err(Refusal::BadNode { node });
     }
     if !sons_ok(table, p) {
-        return 3;
+        return Err(Refusal::BadNode { node });
     }
     if !depth_ok(n, table, p) {
-        return 4;
+        return Err(Refusal::TooDeep { at: node });
     }
     if !mixed_ok(table, p) {
-        return 5;
+        return Err(Refusal::NeedlessFork { at: node });
     }
-    0
-}
-
-// A node's fault, by its code.
-fn fault(code: u32, node: u32) -> Outcome
-    ensures { result ≡ faulty code node }
-{
-    if code == 3 {
-        return Outcome::BadNode { node };
-    }
-    if code == 4 {
-        return Outcome::TooDeep { at: node };
-    }
-    Outcome::NeedlessFork { at: node }
+    Ok(())
 }
 
 // The six rules over all nodes in rising number: the first fault, or the node count.
@@ -188,13 +166,8 @@ pub fn first_fault(n: u32, table: &[u32]) -> Outcome
     ensures { result ≡ faults_of n table.now }
 {
     let count = node_count(table);
-    let mut p = 0;
-    while p < count {
-        let code = fault_at(n, table, p);
-        if code != 0 {
-            return fault(code, p as u32);
-        }
-        p += 1;
+    for p in 0..count {
+        obey(n, table, p)?;
     }
-    Outcome::Answered { value: p as u32 }
+    Ok(count as u32)
 }

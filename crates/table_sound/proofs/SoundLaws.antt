@@ -1,6 +1,7 @@
 -- A table that is seen whole from its root is faultless, and a faultless one is seen whole (`sound_exactly`). The nodes
 -- that are seen are one family: each climbs to the root by links that go back down. So what is seen from the root
 -- numbers them, and where that is N, every node is one of them.
+use Rattle.std.specs.Prelude.{Ok}
 use mathlib.Core.Bool.{Bool, true, false, not, cond, ◌&&◌, ◌||◌, true≢false}
 use mathlib.Core.List.{List}
 use mathlib.Core.Logic.{⊎_elim}
@@ -13,7 +14,6 @@ use borrow.Author.Tests.{eq-eqb, ne_eqb, eqb-true, eqb-false, ltb-false, lt-ltb,
 use Rattle.base.proofs.BoolLaws.{by_bool, or_true}
 use Rattle.base.proofs.SumLaws.{sum_full}
 use Rattle.quad.proofs.TreeLaws.{by_quadrant}
-use Rattle.answer.specs.declared.Outcome.TheVariants.{Answered}
 use Rattle.quad.specs.Tree.{like_types}
 use Rattle.base.proofs.CaseLaws.{past, through}
 use Rattle.quad.specs.Numbers.{top_colour, fork_type, none}
@@ -305,8 +305,8 @@ module _ (n : ℕ) (T : List ℕ) (sz : Sized n T) (whole : sound_of n T ≡ tru
       (by_bool (is_fork T p))
 
 -- the check's answer to a table that is seen whole
-pub sound_answered : (n : ℕ) (T : List ℕ) (u : Bool) (N : ℕ) → Sized n T → u ≡ sound_of n T → u ≡ true → N ≡ nodes T → Answered N ≡ faults_of n T
+pub sound_answered : (n : ℕ) (T : List ℕ) (u : Bool) (N : ℕ) → Sized n T → u ≡ sound_of n T → u ≡ true → N ≡ nodes T → Ok N ≡ faults_of n T
 unfolding faults_of
 sound_answered n T u N sz e h d =
     let s = from_sound_all n T (nodes T) 0 (λ i le lt. sound_faultless n T sz (sym e ∙ h) i (omega arith)) in
-    ap Answered (d ∙ sym (zero-add (nodes T))) ∙ sym s
+    ap Ok (d ∙ sym (zero-add (nodes T))) ∙ sym s

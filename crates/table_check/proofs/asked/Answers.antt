@@ -5,9 +5,9 @@ use Rattle.answer.proofs.OutcomeLaws.{thens}
 use borrow.Author.Rules.{rules}
 use Rattle.table_check.proofs.asked.Goals as goal
 
-pub returns-then-not-answered : goal.returns-then-not-answered
+pub returns-in_err-check : goal.returns-in_err-check
 unfolding asked_of
-returns-then-not-answered c = search (thens, rules)
+returns-in_err-check c = search (thens, rules)
 
 pub returns-then-node_count-node : goal.returns-then-node_count-node
 returns-then-node_count-node c = search (asked_none, rules)

@@ -1,21 +1,19 @@
 -- `table_check::each_node`: the tests for 1 and 2, the words' length, then the six rules.
-use Rattle.table.proofs.CheckLaws.{sized_call, each_node_words, each_node_faults}
+use Rattle.table.proofs.CheckLaws.{sized_ok, each_node_words, each_node_faults}
 use Rattle.table.specs.Rules.{each_node_of}
 use Rattle.answer.proofs.OutcomeLaws.{thens}
 use borrow.Author.Rules.{rules}
-use mathlib.Core.Path.{ap}
-use mathlib.Core.Bool.{not}
 use Rattle.table_check.proofs.each_node.Goals as goal
 
-pub returns-then-not-answered : goal.returns-then-not-answered
+pub returns-in_err-sizes : goal.returns-in_err-sizes
 unfolding each_node_of
-returns-then-not-answered c = search (thens, rules)
+returns-in_err-sizes c = search (thens, rules)
 
 pub returns-then-words-node_count : goal.returns-then-words-node_count
 returns-then-words-node_count c = search (each_node_words, rules)
 
 pub faults-requires : goal.faults-requires
-faults-requires c = sized_call _ _ _ _ c.sizes-sized.ensures c.answered.ensures (ap not c.if-not-answered.false)
+faults-requires c = search (sized_ok, rules)
 
 pub returns : goal.returns
 returns c = search (each_node_faults, rules)

@@ -16,9 +16,6 @@ word_at-kind-requires c = (rw c.word_at-first.ensures (c.requires.1 0 (omega ari
 pub loop-q-init : goal.loop-q-init
 loop-q-init c = (omega arith, refl, c.word_at-kind.ensures ∙ ap (node_type c.args.table.now) c.word_at-first.ensures)
 
-pub overflow_add-q : goal.overflow_add-q
-overflow_add-q c = omega arith
-
 pub word_at-son-requires : goal.word_at-son-requires
 word_at-son-requires c = omega arith
 
@@ -33,12 +30,6 @@ returns-then-word_at-kind c =
     let T = s.table.now in
     let t : c.word_at.result ≡ node_type T (son T s.p l.q) = c.word_at.ensures ∙ ap (node_type T) c.word_at-son.ensures in
     rw (← l.invariant.1) (sym (all_fails (son_alike T s.p) 4 l.q (omega arith) (ne_eqb _ _ (λ e. c.if-word_at-kind.true (t ∙ e ∙ sym l.invariant.2)))))
-
-pub overflow_add-q-in-loop-q : goal.overflow_add-q-in-loop-q
-overflow_add-q-in-loop-q c = omega arith
-
-pub loop-q-smaller : goal.loop-q-smaller
-loop-q-smaller c = omega arith
 
 pub loop-q-preserved : goal.loop-q-preserved
 unfolding son_alike

@@ -8,6 +8,3 @@ use Rattle.table_rules.proofs.sons_alike.Given as goal
 
 abbrev pub invariant-loop-q : goal.invariant-loop-q
 invariant-loop-q l = (l.q ≤ 4) × (all_of (son_alike l.table l.p) (4 - l.q) l.q ≡ all_of (son_alike l.table l.p) 4 0) × (l.kind ≡ node_type l.table (son l.table l.p 0))
-
-abbrev pub decreases-loop-q : goal.decreases-loop-q
-decreases-loop-q l = 4 - l.q

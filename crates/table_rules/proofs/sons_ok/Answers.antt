@@ -20,12 +20,6 @@ returns-then-not-word_ok c =
     let l = c.loop-q in
     rw (← l.invariant.1) (sym (all_fails (word_ok _ _) 4 l.q (omega arith) (sym c.word_ok.ensures ∙ not-true _ (ap not c.if-not-word_ok.true))))
 
-pub overflow_add-q : goal.overflow_add-q
-overflow_add-q c = omega arith
-
-pub loop-q-smaller : goal.loop-q-smaller
-loop-q-smaller c = omega arith
-
 pub loop-q-preserved : goal.loop-q-preserved
 loop-q-preserved c =
     let l = c.loop-q in

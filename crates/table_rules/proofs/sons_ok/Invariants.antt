@@ -7,6 +7,3 @@ use Rattle.table_rules.proofs.sons_ok.Given as goal
 
 abbrev pub invariant-loop-q : goal.invariant-loop-q
 invariant-loop-q l = (l.q ≤ 4) × (all_of (word_ok l.table l.p) (4 - l.q) l.q ≡ all_of (word_ok l.table l.p) 4 0)
-
-abbrev pub decreases-loop-q : goal.decreases-loop-q
-decreases-loop-q l = 4 - l.q

@@ -1,4 +1,4 @@
--- `table_rules::fault_at` tries the rules in their order; rule 2 makes the nodes as far as p rise.
+-- `table_rules::obey` tries the rules in their order; rule 2 makes the nodes as far as p rise.
 use Rattle.table.proofs.RuleLaws.{rising_on}
 use Rattle.table.specs.Rules.{fault_at}
 use Rattle.base.proofs.BoolLaws.{on}
@@ -7,7 +7,7 @@ use native.Mathlib.Omega.{arith}
 use borrow.Author.Rules.{rules}
 use mathlib.Core.Path.{ap}
 use mathlib.Core.Bool.{not}
-use Rattle.table_rules.proofs.fault_at.Goals as goal
+use Rattle.table_rules.proofs.obey.Goals as goal
 
 pub returns-then-not-type_ok : goal.returns-then-not-type_ok
 unfolding fault_at
