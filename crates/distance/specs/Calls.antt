@@ -1,6 +1,6 @@
 -- What the call owes for any level, words and slice, as its contract says.
 use Rattle.std.specs.Prelude.{List, ◌≡◌, ℕ, length}
-use Rattle.answer.specs.declared.Outcome.{Outcome}
+use Rattle.answer.specs.Numbers.{Outcome}
 use Rattle.distance.specs.Distance.{distance_of, distances_after}
 
 -- for level n, the words T and a slice that holds `before`, the call gives r and leaves `after` in the slice

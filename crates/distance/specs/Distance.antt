@@ -1,11 +1,9 @@
 -- The chessboard distance, in half pixels, from a black block's centre to the nearest white pixel of the whole raster
 -- (document 01, 'Distance'; document 001). It is the least over all pixels, and says nothing of trees or neighbours.
 -- The outside's colour is named: the plain call's is BLACK.
-use Rattle.std.specs.Prelude.{cond, ◌||◌, List, ℕ, ◌+◌, ◌-◌, ◌*◌, ◌^◌, min, max, eqb, length}
+use Rattle.std.specs.Prelude.{Ok, cond, ◌||◌, List, ℕ, ◌+◌, ◌-◌, ◌*◌, ◌^◌, min, max, eqb, length}
 use Rattle.base.specs.Tab.{tab, least}
-use Rattle.answer.specs.declared.Outcome.{Outcome}
-use Rattle.answer.specs.declared.Outcome.TheVariants.{Answered}
-use Rattle.answer.specs.Numbers.{and_then, answers}
+use Rattle.answer.specs.Numbers.{Outcome, and_then, answers}
 use Rattle.quad.specs.Numbers.{white, black, none}
 use Rattle.table.specs.Table.{nodes, node_type, is_fork}
 use Rattle.table.specs.Rules.{each_node_of}
@@ -44,7 +42,7 @@ distances_of outside n T = tab (distance_at outside n T) (nodes T)
 
 -- the call: refusals 1, 2 (table first), 3, 4, 5; `words` is the length of the slice that is lent
 unfoldable pub distance_of : ℕ → List ℕ → ℕ → Outcome
-distance_of n T words = and_then (each_node_of n T words) (Answered 0)
+distance_of n T words = and_then (each_node_of n T words) (Ok 0)
 
 -- the slice as the call leaves it
 unfoldable pub distances_after : ℕ → List ℕ → List ℕ → List ℕ

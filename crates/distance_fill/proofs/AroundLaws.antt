@@ -1,14 +1,19 @@
 -- The eight directions turn by turn, and the word of a node, as the code goes through them.
 use mathlib.Core.Bool.{Bool, true, false, false≢true}
-use mathlib.Core.List.{List}
+use mathlib.Core.List.{List, [], ◌∷◌}
 use mathlib.Core.Logic.{⊎_elim}
 use mathlib.Core.Path.{◌≡◌, refl, ap, sym, ◌∙◌}
-use Prim.Native.Nat.{ℕ, ◌+◌, ◌-◌, ◌*◌, ◌^◌, ◌≤◌, ◌<◌, min}
+use Prim.Native.Nat.{ℕ, suc, ◌+◌, ◌-◌, ◌*◌, ◌^◌, ◌≤◌, ◌<◌, min}
 use native.Mathlib.Nat.{min-eq_left, min-eq_right}
 use native.Mathlib.Omega.{arith}
-use lib.ListN.{get_or}
+use lib.Dec.{eqb}
+use lib.ListN.{get_or, length}
+use Rattle.std.specs.List.{list_any}
+use Rattle.std.proofs.Common.{All}
+use Rattle.std.proofs.lemmas.List.Elements.{All-from_get_or}
 use lib.Pow.{pow_mono}
-use borrow.Author.Tests.{eq-eqb, ne_eqb}
+use borrow.Author.Tests.{eq-eqb, ne_eqb, eqb-true}
+use Rattle.std.proofs.Common.{Option, Some, None}
 use Rattle.base.specs.Tab.{least}
 use Rattle.base.proofs.BoolLaws.{by_bool}
 use Rattle.base.proofs.LeastLaws.{least_next, least_less, least_le, least_same}
@@ -19,7 +24,6 @@ use Rattle.table.specs.Rules.{Accepted}
 use Rattle.table.specs.Nodes.{pixel, level_of, centre_across, centre_down}
 use Rattle.table.proofs.AcceptedLaws.{depth_le, level_top, level_is}
 use Rattle.neighbour.specs.declared.Found.{Found}
-use Rattle.neighbour.specs.declared.Found.TheVariants.{At, Off}
 use Rattle.neighbour.specs.Neighbour.{neighbour_found}
 use Rattle.neighbour.specs.Search.{stay}
 use Rattle.neighbour_around.specs.Surround.{node_or, Surrounds}
@@ -30,6 +34,22 @@ use Rattle.distance_seek.specs.Around.{offset_found, offset_beside, offset_aroun
 use Rattle.distance_fill.specs.Handed.{Land}
 use Rattle.distance_seek.proofs.SearchLaws.{offset_leaf}
 use Rattle.distance_fill.proofs.LeafLaws.{side_small, father_small, leaf_nearest, root_nearest}
+
+-- the white one that a test of all found
+white_at : (T near : List ℕ) → list_any (λ w. eqb (node_type T w) white) near ≡ true → (k : ℕ) × (k < length near) × (node_type T (get_or near k 0) ≡ white)
+white_at T [] e = absurd (false≢true e)
+white_at T (w ∷ near) e =
+    ⊎_elim
+    (λ (h : eqb (node_type T w) white ≡ true). (0, omega arith, eqb-true (node_type T w) white h))
+    (λ (h : eqb (node_type T w) white ≡ false). let s = white_at T near (rw h at e) in (suc s.0, omega (arith, s.1), s.2))
+    (by_bool (eqb (node_type T w) white))
+
+some_white : (T near : List ℕ) → length near ≡ stay → list_any (λ w. eqb (node_type T w) white) near ≡ true → SomeWhite T near
+some_white T near eight e = let s = white_at T near e in record { way = s.0; below = rw eight at s.1; is = s.2 }
+
+-- all of them are nodes, as the test of all asks
+pub all_nodes : (T : List ℕ) (l : ℕ) (near : List ℕ) → length near ≡ stay → AllBeside T l near → All (λ w. w < nodes T) near
+all_nodes T l near eight b = All-from_get_or (λ (w : ℕ). w < nodes T) near 0 (λ D d. (b D (omega arith)).node)
 
 -- the loop over the directions: the best so far is the least offset in those passed, or one less than the side
 module _ (T : List ℕ) (l : ℕ) (near : List ℕ) where
@@ -52,9 +72,9 @@ module _ (T : List ℕ) (l : ℕ) (near : List ℕ) where
       e ∙ ap (least_around T l near) q
 
   -- a white leaf is at offset 0
-  pub around_white : (u : Bool) → (u ≡ true → SomeWhite T near) → u ≡ true → 0 ≡ least_around T l near stay
-  around_white u told h =
-      let s = told h in
+  pub around_white : (u : Bool) → length near ≡ stay → u ≡ list_any (λ w. eqb (node_type T w) white) near → u ≡ true → 0 ≡ least_around T l near stay
+  around_white u eight told h =
+      let s = some_white T near eight (sym told ∙ h) in
       let w : ℕ = get_or near s.way 0 in
       let leaf : is_fork T w ≡ false = ne_eqb (node_type T w) fork_type (λ e. omega (arith, s.is, e)) in
       let here : offset_at s.way ≡ 0 = offset_leaf T (east_step s.way) (south_step s.way) l w 0 0 leaf ∙ rw (eq-eqb (node_type T w) white s.is) in
@@ -62,11 +82,13 @@ module _ (T : List ℕ) (l : ℕ) (near : List ℕ) where
 
 -- the nodes around a leaf that is not white: the least offset in them is the least in its eight neighbours
 module _ {n : ℕ} {T : List ℕ} {p l x : ℕ} {near : List ℕ} (s : Inner n T p l) (land : Land T x) (a : Surrounds n T x p near) where
-  offset_same : (D : ℕ) → D < stay → (g : Found) → neighbour_found n T p D ≡ g → offset_from T D l (node_or x g) 0 ≡ offset_found T D g
+  offset_same : (D : ℕ) → D < stay → (g : Option Found) → neighbour_found n T p D ≡ g → offset_from T D l (node_or x g) 0 ≡ offset_found T D g
   unfolding offset_found node_or
-  offset_same D d Off e =
+  offset_same D d None e =
       offset_leaf T (east_step D) (south_step D) l x 0 0 land.leaf ∙ rw (ne_eqb (node_type T x) white (land.dark p s.place.node s.leaf s.dark))
-  offset_same D d (At m k) e =
+  offset_same D d (Some g) e =
+      let m : ℕ = g.node in
+      let k : ℕ = g.level in
       let facts : FoundAt n T p m k = found_facts n T s.place.accepted p D s.place.node (omega arith) m k e in
       ⊎_elim
       (λ (f : is_fork T m ≡ true).
@@ -88,10 +110,12 @@ module _ {n : ℕ} {T : List ℕ} {p l x : ℕ} {near : List ℕ} (s : Inner n T
       ap (min (2 ^ l - 1)) (least_same none (λ D. offset_from T D l (get_or near D 0) 0) (offset_beside n T p) stay all_same) ∙ min-eq_right (omega arith)
 
   -- what is searched: nodes, and forks only of the leaf's own level
-  found_beside : (D : ℕ) → D < stay → (g : Found) → neighbour_found n T p D ≡ g → Beside T l (node_or x g)
+  found_beside : (D : ℕ) → D < stay → (g : Option Found) → neighbour_found n T p D ≡ g → Beside T l (node_or x g)
   unfolding node_or
-  found_beside D d Off e = record { node = a.off; spot = λ f. absurd (false≢true (sym a.leaf ∙ f)) }
-  found_beside D d (At m k) e =
+  found_beside D d None e = record { node = a.off; spot = λ f. absurd (false≢true (sym a.leaf ∙ f)) }
+  found_beside D d (Some g) e =
+      let m : ℕ = g.node in
+      let k : ℕ = g.level in
       let acc = s.place.accepted in
       let facts : FoundAt n T p m k = found_facts n T acc p D s.place.node (omega arith) m k e in
       record {

@@ -12,6 +12,7 @@ use lib.Dec.{ltb, eqb}
 use lib.ListN.{length}
 use lib.Pow.{shr_lt}
 use borrow.Author.Tests.{ltb-true, eqb-true, eq-eqb}
+use Rattle.std.proofs.Common.{Option, Some, None}
 use Rattle.base.specs.All.{all}
 use Rattle.base.proofs.AllLaws.{all_at}
 use Rattle.base.proofs.BoolLaws.{by_bool, lt_or_ge, and_left, and_right}
@@ -28,7 +29,7 @@ use Rattle.table.proofs.NodeLaws.{path_root}
 use Rattle.table.proofs.HolderLaws.{held, own_quadrants, own_path, own_depth}
 use Rattle.table.proofs.BlockPixels.{pixel_block}
 use Rattle.neighbour.specs.declared.Found.{Found}
-use Rattle.neighbour.specs.declared.Found.TheVariants.{At, Off}
+use Rattle.neighbour.specs.Found.{At}
 use Rattle.neighbour.specs.Neighbour.{neighbour_found}
 use Rattle.neighbour.specs.Search.{stay}
 use Rattle.neighbour.proofs.SearchLaws.{must_move}
@@ -151,9 +152,9 @@ module _ (n : ℕ) (T : List ℕ) (acc : Accepted n T) (p : ℕ) (lt : p < nodes
   unfolding offset_beside offset_found
   none_or_near D = go (neighbour_found n T p D) refl
     where
-      go : (f : Found) → neighbour_found n T p D ≡ f → (offset_found T D f ≡ none) ⊎ ((B : ℕ) × (C : ℕ) × Near D B C)
-      go Off e = inl refl
-      go (At m k) e = inr (found_block D m k e)
+      go : (f : Option Found) → neighbour_found n T p D ≡ f → (offset_found T D f ≡ none) ⊎ ((B : ℕ) × (C : ℕ) × Near D B C)
+      go None e = inl refl
+      go (Some f) e = inr (found_block D f.node f.level e)
 
   -- from the centre of p's block
   abbrev pub far : ℕ → ℕ → ℕ

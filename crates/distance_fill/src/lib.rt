@@ -1,15 +1,15 @@
 // Every leaf's distance: a pass from the root down hands each fork its eight neighbours (`sheet_distance`).
 #![tactic(auto)]
 
-ghost use Rattle.std.specs.Prelude.{◌≡◌, true, false, length, ◌+◌, ◌*◌, ◌^◌, ◌<◌, ◌≤◌};
-ghost use Rattle.quad.specs.Numbers.{top_level};
-ghost use Rattle.table.specs.Table.{nodes, son, is_fork};
+ghost use Rattle.std.specs.Prelude.{◌≡◌, true, false, length, ◌+◌, ◌*◌, ◌^◌, ◌<◌, ◌≤◌, All, eqb};
+ghost use Rattle.std.specs.List.{list_any};
+ghost use Rattle.quad.specs.Numbers.{white, top_level};
+ghost use Rattle.table.specs.Table.{nodes, son, node_type, is_fork};
 ghost use Rattle.table.specs.Rules.{Accepted};
 ghost use Rattle.neighbour.specs.Search.{stay};
-ghost use Rattle.neighbour_around.specs.Surround.{InNodes};
 ghost use Rattle.distance.specs.Calls.{Distances};
 ghost use Rattle.distance.specs.Distance.{plain_outside, distance_at, distances_of};
-ghost use Rattle.distance_seek.specs.Around.{least_around, AllBeside, SomeWhite};
+ghost use Rattle.distance_seek.specs.Around.{least_around, AllBeside};
 ghost use Rattle.distance_fill.specs.Handed.{Land, Fork, Handed, Fills};
 
 use answer::Outcome;
@@ -22,17 +22,11 @@ const MARK: u32 = quad::NONE as u32;
 
 // Whether one of eight nodes is a white leaf.
 fn some_white(table: &[u32], near: &[u32; 8]) -> bool
-    requires { InNodes table.now near.now }
-    ensures { result ≡ true → SomeWhite table.now near.now }
+    requires { All (λ w. w < nodes table.now) near.now }
+    ensures { result ≡ list_any (λ w. eqb (node_type table.now w) white) near.now }
 {
-    let mut way = 0;
-    while way < 8 {
-        if word_at(table, near[way] as usize, 5) == 0 {
-            return true;
-        }
-        way += 1;
-    }
-    false
+    near.iter()
+        .any(|node| word_at(table, *node as usize, 5) == 0)
 }
 
 // The least offset of a white pixel in the eight nodes around a block, or one less than the side, where there is none
@@ -45,13 +39,11 @@ fn around(table: &[u32], level: u32, near: &[u32; 8]) -> u32
         return 0;
     }
     let mut best = quad::side(level) - 1;
-    let mut direction = 0;
-    while direction < 8 {
+    for (direction, &node) in near.iter().enumerate() {
         if best == 0 {
             return best;
         }
-        best = beside(table, near[direction], level, direction, best);
-        direction += 1;
+        best = beside(table, node, level, direction, best);
     }
     best
 }
@@ -92,11 +84,9 @@ fn four_pixels(n: u32, table: &[u32], p: usize, out: &mut [u32])
     ensures { Fills n table.now out.old out.new 1 p }
 {
     out[p] = 0;
-    let mut q = 0;
-    while q < 4 {
+    for q in 0..4 {
         let pixel = word_at(table, p, 1 + q);
         out[pixel] = table[6 * pixel + 5];
-        q += 1;
     }
 }
 
@@ -135,10 +125,7 @@ fn sons(n: u32, table: &[u32], p: usize, level: u32, near: &[u32; 8], out: &mut 
 {
     out[p] = 0;
     let half = level - 1;
-    let mut q = 0;
-    while q < 4 {
-        let quadrant = q;
-        q += 1;
+    for quadrant in 0..4 {
         let son = word_at(table, p, 1 + quadrant);
         if word_at(table, son, 5) == quad::FORK {
             below(n, table, p, quadrant, half, near, out);
@@ -155,14 +142,12 @@ fn outside(n: u32, table: &[u32]) -> u32
     ensures { Land table.now result }
 {
     let last = table_node::node_count(table) - 1;
-    let mut p = 0;
-    while p < last {
+    for p in 0..last {
         if word_at(table, p, 5) == quad::BLACK {
             return p as u32;
         }
-        p += 1;
     }
-    p as u32
+    last as u32
 }
 
 // Writes the distance of every node. A black root is the whole sheet: nothing is white.
@@ -176,11 +161,7 @@ fn fill(n: u32, table: &[u32], out: &mut [u32])
         sons(n, table, 0, n, &near, out);
         return;
     }
-    if kind == 0 {
-        out[0] = 0;
-        return;
-    }
-    out[0] = MARK;
+    out[0] = if kind == 0 { 0 } else { MARK };
 }
 
 // The distance of every node, for any level, words and slice: the slice has one word for each node, and on a refusal it
@@ -188,10 +169,7 @@ fn fill(n: u32, table: &[u32], out: &mut [u32])
 pub fn distances(n: u32, table: &[u32], out: &mut [u32]) -> Outcome
     ensures { Distances n table.now out.old result out.new }
 {
-    let tested = table_check::each_node(n, table, out.len());
-    if !answer::answered(tested) {
-        return tested;
-    }
+    table_check::each_node(n, table, out.len())?;
     fill(n, table, out);
-    Outcome::Answered { value: 0 }
+    Ok(0)
 }

@@ -1,10 +1,12 @@
--- The code's digits of directions, one by one: the nearest quarter, the next one, and the directions in which the
+-- The code's tables by direction, one by one: the nearest quarter, the next one, and the directions in which the
 -- quarters are searched.
 use mathlib.Core.Bool.{Bool, true, false, cond, ◌&&◌}
 use mathlib.Core.Path.{◌≡◌, refl}
-use Prim.Native.Nat.{ℕ, zero, suc, ◌*◌, ◌/◌, ◌%◌, ◌^◌, ◌<◌}
+use Prim.Native.Nat.{ℕ, zero, suc, ◌<◌}
 use native.Mathlib.Omega.{arith}
 use lib.Dec.{eqb, ltb}
+use lib.ListN.{get_or}
+use mathlib.Core.List.{[], ◌∷◌}
 use borrow.Author.Tests.{eqb-true, ltb-true}
 use Rattle.base.specs.All.{all}
 use Rattle.base.proofs.AllLaws.{all_at}
@@ -13,19 +15,21 @@ use Rattle.quad.specs.Direction.{east_step, south_step}
 use Rattle.neighbour.specs.Search.{stay}
 use Rattle.distance_seek.specs.Search.{near_quarter, next_quarter, NextWay, OtherWay}
 
--- the digit of direction D
-abbrev digit : ℕ → ℕ → ℕ
-digit digits D = digits / 2 ^ (4 * D) % 16
+abbrev near : ℕ → ℕ
+near D = get_or (2 ∷ 0 ∷ 0 ∷ 1 ∷ 3 ∷ 2 ∷ 1 ∷ 0 ∷ []) D 0
 
-pub near_rule : (D : ℕ) → D < stay → digit 19075074 D ≡ near_quarter (east_step D) (south_step D)
+abbrev next : ℕ → ℕ
+next D = get_or (3 ∷ 2 ∷ 1 ∷ 3 ∷ 1 ∷ 0 ∷ 3 ∷ 2 ∷ []) D 0
+
+pub near_rule : (D : ℕ) → D < stay → near D ≡ near_quarter (east_step D) (south_step D)
 unfolding east_step south_step near_quarter
 near_rule D d =
-    eqb-true _ _ (all_at (λ (D : ℕ). eqb (digit 19075074 D) (near_quarter (east_step D) (south_step D))) 8 refl D d)
+    eqb-true _ _ (all_at (λ (D : ℕ). eqb (near D) (near_quarter (east_step D) (south_step D))) 8 refl D d)
 
-pub next_rule : (D : ℕ) → D < stay → digit 587280675 D ≡ next_quarter (east_step D) (south_step D)
+pub next_rule : (D : ℕ) → D < stay → next D ≡ next_quarter (east_step D) (south_step D)
 unfolding east_step south_step next_quarter
 next_rule D d =
-    eqb-true _ _ (all_at (λ (D : ℕ). eqb (digit 587280675 D) (next_quarter (east_step D) (south_step D))) 8 refl D d)
+    eqb-true _ _ (all_at (λ (D : ℕ). eqb (next D) (next_quarter (east_step D) (south_step D))) 8 refl D d)
 
 -- a direction that goes by two given steps
 abbrev by_steps : ℕ → ℕ → ℕ → Bool
@@ -45,10 +49,10 @@ module _ (way east south : ℕ) (h : by_steps way east south ≡ true) where
   by_down = eqb-true (south_step way) south (and_right (eqb (east_step way) east) (eqb (south_step way) south) steps)
 
 abbrev next_way : ℕ → ℕ
-next_way D = digit 570438160 D
+next_way D = get_or (0 ∷ 1 ∷ 2 ∷ 3 ∷ 0 ∷ 0 ∷ 2 ∷ 2 ∷ []) D 0
 
 abbrev other_way : ℕ → ℕ
-other_way D = digit 320025104 D
+other_way D = get_or (0 ∷ 1 ∷ 2 ∷ 3 ∷ 3 ∷ 1 ∷ 3 ∷ 1 ∷ []) D 0
 
 next_steps : all (λ D. by_steps (next_way D) (cond (ltb D 4) (east_step D) 1) (south_step D)) 8 ≡ true
 unfolding east_step south_step

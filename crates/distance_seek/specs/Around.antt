@@ -1,21 +1,20 @@
 -- The eight neighbours of a leaf as the code goes through them (document 001, section V: CHESSBOARD-DIST). Inner
 -- definitions: no outside call's statement cites them.
-use Rattle.std.specs.Prelude.{true, false, List, ◌≡◌, ℕ, ◌-◌, ◌^◌, ◌<◌, min, get_or}
+use Rattle.std.specs.Prelude.{true, false, Option, Some, None, List, ◌≡◌, ℕ, ◌-◌, ◌^◌, ◌<◌, min, get_or}
 use Rattle.base.specs.Tab.{least}
 use Rattle.quad.specs.Numbers.{white, none}
 use Rattle.table.specs.Table.{nodes, node_type, is_fork}
 use Rattle.table.specs.Rules.{AtLevel}
 use Rattle.neighbour.specs.declared.Found.{Found}
-use Rattle.neighbour.specs.declared.Found.TheVariants.{At, Off}
 use Rattle.neighbour.specs.Neighbour.{neighbour_found}
 use Rattle.neighbour.specs.Search.{stay}
 use Rattle.distance_seek.specs.Search.{offset_from, Spot}
 
 -- the least offset of a white pixel under the node that a search in direction D ended on; off the sheet nothing is
 -- white
-unfoldable pub offset_found : List ℕ → ℕ → Found → ℕ
-offset_found T D Off = none
-offset_found T D (At m l) = offset_from T D l m 0
+unfoldable pub offset_found : List ℕ → ℕ → Option Found → ℕ
+offset_found T D None = none
+offset_found T D (Some f) = offset_from T D f.level f.node 0
 
 -- in the neighbour of p in direction D
 unfoldable pub offset_beside : ℕ → List ℕ → ℕ → ℕ → ℕ

@@ -1,5 +1,6 @@
 -- The centre's call, computed: on sheet A, at the ends of the ground's ranges, and where zeros, halves and roundings
 -- come in.
+use Rattle.std.specs.Prelude.{Ok, Err}
 use mathlib.Core.Bool.{true, false}
 use mathlib.Core.List.{List, [], ◌∷◌}
 use mathlib.Core.Path.{◌≡◌, refl, sym, ap, ◌∙◌}
@@ -10,7 +11,7 @@ use lib.IntN.{negsuc}
 use lib.Ieee as Ieee
 use lib.Ieee.{Float, binary64, in_float, to_unsigned, nan, inf, fin, of_int, units, round, odd, size, climb, span, neg, sum, add, sub, mul, div, lt, eq, le, fits}
 use lib.Ieee.Back.{unsigned_back}
-use Rattle.answer.specs.declared.Outcome.TheVariants.{Answered, OutOfRange}
+use Rattle.answer.specs.declared.Refusal.TheVariants.{OutOfRange}
 use Rattle.quad.specs.Block.{column, row}
 use Rattle.table.specs.Rules.{depth_to, all_of, type_ok, father_ok, once_ok, son_ok, word_ok, sons_ok, depth_ok, son_alike, mixed_ok, fault_at, fault_from, faults_of, length_ok, sizes_of, check_of, asked_of}
 use Rattle.table.specs.Nodes.{first_quadrant, son_type, path_to}
@@ -28,8 +29,8 @@ lent = whole 0 ∷ whole 0 ∷ whole 7 ∷ []
 
 -- nodes 1 and 2 of sheet A: answered, at (1005, 1995) and (1025, 1995), and the rest of the slice stays
 pub record OnA : Type 0 where
-  pub answered : centre_of 2 table_a 1 place 3 ≡ Answered 0
-  pub answered_2 : centre_of 2 table_a 2 place 3 ≡ Answered 0
+  pub answered : centre_of 2 table_a 1 place 3 ≡ Ok 0
+  pub answered_2 : centre_of 2 table_a 2 place 3 ≡ Ok 0
   pub node_1 : centre_after 2 table_a 1 place lent ≡ whole 1005 ∷ whole 1995 ∷ whole 7 ∷ []
   pub node_2 : centre_after 2 table_a 2 place lent ≡ whole 1025 ∷ whole 1995 ∷ whole 7 ∷ []
 
@@ -67,26 +68,26 @@ pub record Edges : Type 0 where
   pub too_far_is : Ieee.fits binary64 too_far ≡ true
   pub too_fine_is : Ieee.fits binary64 too_fine ≡ true
   pub too_coarse_is : Ieee.fits binary64 too_coarse ≡ true
-  pub ends : range_of (at (Ieee.neg far) far finest) ≡ Answered 0
-  pub others : range_of (at far (Ieee.neg far) coarsest) ≡ Answered 0
-  pub zeros : range_of (at (whole 0) (Ieee.neg (whole 0)) (whole 1)) ≡ Answered 0
-  pub subnormals : range_of (at least (Ieee.neg least) (whole 1)) ≡ Answered 0
-  pub nan_east : range_of (at nan nan nan) ≡ OutOfRange 0
-  pub nan_north : range_of (at (whole 0) nan nan) ≡ OutOfRange 1
-  pub nan_step : range_of (at (whole 0) (whole 0) nan) ≡ OutOfRange 2
-  pub inf_east : range_of (at (inf false) (whole 0) (whole 1)) ≡ OutOfRange 0
-  pub minus_inf_east : range_of (at (inf true) (whole 0) (whole 1)) ≡ OutOfRange 0
-  pub inf_north : range_of (at (whole 0) (inf false) (whole 1)) ≡ OutOfRange 1
-  pub minus_inf_north : range_of (at (whole 0) (inf true) (whole 1)) ≡ OutOfRange 1
-  pub inf_step : range_of (at (whole 0) (whole 0) (inf false)) ≡ OutOfRange 2
-  pub minus_inf_step : range_of (at (whole 0) (whole 0) (inf true)) ≡ OutOfRange 2
-  pub far_east : range_of (at too_far (whole 0) (whole 1)) ≡ OutOfRange 0
-  pub far_west : range_of (at (Ieee.neg too_far) (whole 0) (whole 1)) ≡ OutOfRange 0
-  pub far_north : range_of (at (whole 0) too_far (whole 1)) ≡ OutOfRange 1
-  pub far_south : range_of (at (whole 0) (Ieee.neg too_far) (whole 1)) ≡ OutOfRange 1
-  pub fine_step : range_of (at (whole 0) (whole 0) too_fine) ≡ OutOfRange 2
-  pub coarse_step : range_of (at (whole 0) (whole 0) too_coarse) ≡ OutOfRange 2
-  pub zero_step : range_of (at (whole 0) (whole 0) (whole 0)) ≡ OutOfRange 2
+  pub ends : range_of (at (Ieee.neg far) far finest) ≡ Ok 0
+  pub others : range_of (at far (Ieee.neg far) coarsest) ≡ Ok 0
+  pub zeros : range_of (at (whole 0) (Ieee.neg (whole 0)) (whole 1)) ≡ Ok 0
+  pub subnormals : range_of (at least (Ieee.neg least) (whole 1)) ≡ Ok 0
+  pub nan_east : range_of (at nan nan nan) ≡ Err (OutOfRange 0)
+  pub nan_north : range_of (at (whole 0) nan nan) ≡ Err (OutOfRange 1)
+  pub nan_step : range_of (at (whole 0) (whole 0) nan) ≡ Err (OutOfRange 2)
+  pub inf_east : range_of (at (inf false) (whole 0) (whole 1)) ≡ Err (OutOfRange 0)
+  pub minus_inf_east : range_of (at (inf true) (whole 0) (whole 1)) ≡ Err (OutOfRange 0)
+  pub inf_north : range_of (at (whole 0) (inf false) (whole 1)) ≡ Err (OutOfRange 1)
+  pub minus_inf_north : range_of (at (whole 0) (inf true) (whole 1)) ≡ Err (OutOfRange 1)
+  pub inf_step : range_of (at (whole 0) (whole 0) (inf false)) ≡ Err (OutOfRange 2)
+  pub minus_inf_step : range_of (at (whole 0) (whole 0) (inf true)) ≡ Err (OutOfRange 2)
+  pub far_east : range_of (at too_far (whole 0) (whole 1)) ≡ Err (OutOfRange 0)
+  pub far_west : range_of (at (Ieee.neg too_far) (whole 0) (whole 1)) ≡ Err (OutOfRange 0)
+  pub far_north : range_of (at (whole 0) too_far (whole 1)) ≡ Err (OutOfRange 1)
+  pub far_south : range_of (at (whole 0) (Ieee.neg too_far) (whole 1)) ≡ Err (OutOfRange 1)
+  pub fine_step : range_of (at (whole 0) (whole 0) too_fine) ≡ Err (OutOfRange 2)
+  pub coarse_step : range_of (at (whole 0) (whole 0) too_coarse) ≡ Err (OutOfRange 2)
+  pub zero_step : range_of (at (whole 0) (whole 0) (whole 0)) ≡ Err (OutOfRange 2)
 
 pub edges : Edges
 unfolding range_of within far finest coarsest of_int units round odd size climb span neg div lt eq le fits

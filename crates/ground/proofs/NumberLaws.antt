@@ -1,5 +1,6 @@
 -- No NaN is ever written: a place in range has finite numbers and a step that is not zero, so neither number of a
 -- centre is a NaN. A number that is no NaN has one pattern of bits, so the statement fixes the bits of both.
+use Rattle.std.specs.Prelude.{Ok, Err}
 use mathlib.Core.Bool.{Bool, true, false, not, cond, ◌&&◌, ◌||◌, false≢true, beq}
 use mathlib.Core.Logic.{◌⊎◌, inl, inr}
 use mathlib.Core.Path.{◌≡◌, refl, ap, sym, ◌∙◌}
@@ -15,9 +16,8 @@ use lib.Ieee.Bits.{to_bits-of_bits}
 use borrow.Author.Tests.{ne_eqb, le-ltb}
 use Rattle.base.proofs.BoolLaws.{and_left, and_false}
 use Rattle.base.proofs.CaseLaws.{cond_case}
-use Rattle.answer.specs.declared.Outcome.{Outcome}
-use Rattle.answer.specs.declared.Outcome.TheVariants.{Answered, OutOfRange}
-use Rattle.answer.specs.Numbers.{and_then, unless}
+use Rattle.answer.specs.declared.Refusal.TheVariants.{OutOfRange}
+use Rattle.answer.specs.Numbers.{Outcome, and_then, unless}
 use Rattle.ground.specs.declared.Ground.{Ground}
 use Rattle.ground.specs.Ground.{whole, within, far, finest, coarsest, unit, two, range_of, offset, reach_of, east_of, north_of}
 
@@ -159,19 +159,19 @@ pub record Good (g : Ground) : Type 0 where
   pub step : Positive g.step
 
 -- a test of the range that let the call go on held
-held : (w : Bool) (which : ℕ) (next : Outcome) → and_then (unless (not w) (OutOfRange which)) next ≡ Answered 0 → (w ≡ true) × (next ≡ Answered 0)
+held : (w : Bool) (which : ℕ) (next : Outcome) → and_then (unless (not w) (Err (OutOfRange which))) next ≡ Ok 0 → (w ≡ true) × (next ≡ Ok 0)
 held true which next e = (refl, e)
 held false which next e = absurd (let z : ◌≡◌ {A = ℕ} 0 1 = cc in omega arith)
 
-pub good : (g : Ground) → range_of g ≡ Answered 0 → Good g
+pub good : (g : Ground) → range_of g ≡ Ok 0 → Good g
 unfolding range_of
 good g e =
     let a = held (within (Ieee.neg far) far g.east) 0 _ e in
     let b = held (within (Ieee.neg far) far g.north) 1 _ a.1 in
-    let c = held (within finest coarsest g.step) 2 (Answered 0) (go (within finest coarsest g.step) b.1) in
+    let c = held (within finest coarsest g.step) 2 (Ok 0) (go (within finest coarsest g.step) b.1) in
     record { east = east_finite g.east a.0; north = east_finite g.north b.0; step = step_positive g.step c.0 }
   where
-    go : (w : Bool) → unless (not w) (OutOfRange 2) ≡ Answered 0 → and_then (unless (not w) (OutOfRange 2)) (Answered 0) ≡ Answered 0
+    go : (w : Bool) → unless (not w) (Err (OutOfRange 2)) ≡ Ok 0 → and_then (unless (not w) (Err (OutOfRange 2))) (Ok 0) ≡ Ok 0
     go true e = e
     go false e = e
 
@@ -186,7 +186,7 @@ unfolding reach_of
 reach_number g h z = mul_number (offset h) g.step (offset_number h) z
 
 -- neither number of a centre is a NaN
-pub no_nan : (g : Ground) (h k : ℕ) → range_of g ≡ Answered 0 → Number (east_of g h) × Number (north_of g k)
+pub no_nan : (g : Ground) (h k : ℕ) → range_of g ≡ Ok 0 → Number (east_of g h) × Number (north_of g k)
 unfolding east_of north_of sub
 no_nan g h k e =
     let o = good g e in (

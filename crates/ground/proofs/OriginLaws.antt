@@ -1,6 +1,7 @@
 -- The origin is the centre of the top left pixel. An offset is (h - 1) / 2 exactly; the centre of a pixel lies as many
 -- steps from the place that was given as the pixel has columns and rows before it, and that of the top left pixel is
 -- the place itself, but that -0 + 0 is +0.
+use Rattle.std.specs.Prelude.{Ok}
 use mathlib.Core.Bool.{true, false, true≢false}
 use mathlib.Core.List.{List}
 use mathlib.Core.Path.{◌≡◌, refl, sym, ap, ◌∙◌}
@@ -16,7 +17,6 @@ use lib.Ieee.Back.{round_whole}
 use lib.Ieee.Scale.{round_same}
 use lib.Ieee.Fits.{down_pos}
 use borrow.Author.Tests.{le-ltb}
-use Rattle.answer.specs.declared.Outcome.TheVariants.{Answered}
 use Rattle.quad.specs.Block.{column, row}
 use Rattle.table.specs.Rules.{Asked}
 use Rattle.table.specs.Nodes.{path_to, side_of, left_of, top_of, centre_across, centre_down}
@@ -93,7 +93,7 @@ no_steps nan k = absurd k
 no_steps (inf s) k = absurd k
 no_steps (fin s n d) k = rw (k.0, zero-mul (n * up d)) (zero_round false (1 * down d) (mul-pos (lit< tt) (down_pos d)))
 
-module _ (g : Ground) (e : range_of g ≡ Answered 0) where
+module _ (g : Ground) (e : range_of g ≡ Ok 0) where
   at_origin : reach_of g 1 ≡ fin false 0 (pos 0)
   unfolding reach_of
   at_origin = rw (offset_pixel 0 (lit< tt), whole_zero) (no_steps g.step (good g e).step)

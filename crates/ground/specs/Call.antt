@@ -1,6 +1,6 @@
 -- The statement of the centre's call, which its contract cites.
 use Rattle.std.specs.Prelude.{List, ◌≡◌, ℕ, length, Float}
-use Rattle.answer.specs.declared.Outcome.{Outcome}
+use Rattle.answer.specs.Numbers.{Outcome}
 use Rattle.ground.specs.declared.Ground.{Ground}
 use Rattle.ground.specs.Ground.{centre_of, centre_after}
 

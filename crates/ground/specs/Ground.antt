@@ -1,12 +1,11 @@
 -- A block's centre on the ground (document 01, 'Ground'; its origin by document 02, No. 2), as IEEE 754 operations,
 -- each rounded once.
-use Rattle.std.specs.Prelude.{Bool, not, cond, ◌&&◌, List, [], ◌∷◌, ℕ, pos, length, Float}
+use Rattle.std.specs.Prelude.{Ok, Err, Bool, not, cond, ◌&&◌, List, [], ◌∷◌, ℕ, pos, length, Float}
 use Rattle.std.specs.Float.Ieee as Ieee
 use Rattle.std.specs.Float.{binary64}
 use Rattle.base.specs.Tab.{overlay}
-use Rattle.answer.specs.declared.Outcome.{Outcome}
-use Rattle.answer.specs.declared.Outcome.TheVariants.{Answered, OutOfRange}
-use Rattle.answer.specs.Numbers.{and_then, unless, room, answers}
+use Rattle.answer.specs.declared.Refusal.TheVariants.{OutOfRange}
+use Rattle.answer.specs.Numbers.{Outcome, and_then, unless, room, answers}
 use Rattle.table.specs.Rules.{asked_of}
 use Rattle.table.specs.Nodes.{centre_across, centre_down}
 use Rattle.ground.specs.declared.Ground.{Ground}
@@ -38,9 +37,9 @@ two = whole 2
 -- code 11 with the first number that is out of range: 0 east, 1 north, 2 step
 unfoldable pub range_of : Ground → Outcome
 range_of g =
-    and_then (unless (not (within (Ieee.neg far) far g.east)) (OutOfRange 0))
-    (and_then (unless (not (within (Ieee.neg far) far g.north)) (OutOfRange 1))
-    (unless (not (within finest coarsest g.step)) (OutOfRange 2)))
+    and_then (unless (not (within (Ieee.neg far) far g.east)) (Err (OutOfRange 0)))
+    (and_then (unless (not (within (Ieee.neg far) far g.north)) (Err (OutOfRange 1)))
+    (unless (not (within finest coarsest g.step)) (Err (OutOfRange 2))))
 
 -- how many pixels from the origin, along one axis, a place h half pixels from the sheet's edge lies: (h - 1) / 2,
 -- since the origin is the centre of the top left pixel, one half pixel from the edge
@@ -60,7 +59,7 @@ north_of g k = Ieee.sub binary64 g.north (reach_of g k)
 
 -- the call: refusals 1, 2, 3, 4, 5, 6, 11, 9; `numbers` is the length of the slice that is lent
 unfoldable pub centre_of : ℕ → List ℕ → ℕ → Ground → ℕ → Outcome
-centre_of n T p g numbers = and_then (asked_of n T p) (and_then (range_of g) (and_then (room 2 numbers) (Answered 0)))
+centre_of n T p g numbers = and_then (asked_of n T p) (and_then (range_of g) (and_then (room 2 numbers) (Ok 0)))
 
 -- the slice as the call leaves it: east first, and the rest as it was
 unfoldable pub centre_after : ℕ → List ℕ → ℕ → Ground → List Float → List Float

@@ -1,6 +1,6 @@
 -- The centre's call, return by return: the middle of the block that the climb found, the refusals in their order, and
 -- the two numbers written.
-use mathlib.Core.Bool.{Bool, true, false, not}
+use Rattle.std.specs.Prelude.{Ok, Err}
 use mathlib.Core.List.{List, [], ◌∷◌}
 use mathlib.Core.Path.{◌≡◌, refl, ◌∙◌}
 use Prim.Native.Nat.{ℕ, ◌≤◌, ◌<◌, ◌^◌}
@@ -9,11 +9,11 @@ use lib.Ieee.{Float}
 use lib.ListN.{length, set}
 use borrow.Author.Tests.{lt-ltb, le-ltb}
 use Rattle.base.specs.Tab.{overlay}
-use Rattle.base.proofs.BoolLaws.{off}
-use Rattle.answer.specs.declared.Outcome.{Outcome}
-use Rattle.answer.specs.declared.Outcome.TheVariants.{Answered, NoRoom}
-use Rattle.answer.specs.Numbers.{answers, and_then, room}
-use Rattle.answer.proofs.OutcomeLaws.{then_stop, then_go}
+use Rattle.answer.specs.declared.Refusal.TheVariants.{NoRoom}
+use Rattle.answer.specs.Numbers.{Outcome, and_then, room}
+use Rattle.answer.proofs.OutcomeLaws.{refusal_refuses, given_back}
+use Rattle.std.specs.Result.{IsErr, IsErrAnd}
+use Rattle.answer.specs.declared.Refusal.{Refusal}
 use Rattle.quad.specs.Numbers.{top_level}
 use Rattle.table.specs.Rules.{asked_of, Asked}
 use Rattle.table.specs.declared.Block.{Block}
@@ -48,33 +48,33 @@ two_stored x y (a ∷ b ∷ more) h = refl
 
 module _ (n : ℕ) (T : List ℕ) (p : ℕ) (g : Ground) (old : List Float) where
   -- a refusal leaves the slice alone
-  refuses : (r : Outcome) → r ≡ centre_of n T p g (length old) → answers r ≡ false → Centres n T p g old r old
+  refuses : (e : Refusal) → Err e ≡ centre_of n T p g (length old) → Centres n T p g old (Err e) old
   unfolding centre_after
-  refuses r e f = record { gives = e; leaves = rw (centre_after, ← e, f) }
+  refuses e h = record { gives = h; leaves = rw (centre_after, ← h, refusal_refuses e) }
 
-  module _ (s : Outcome) (u : Bool) (es : s ≡ asked_of n T p) (eu : u ≡ answers s) where
-    pub centre_asked : not u ≡ true → Centres n T p g old s old
+  refused : (r : Outcome) (e : Refusal) → IsErr r × IsErrAnd r (λ x. x ≡ e) → Err e ≡ centre_of n T p g (length old) → Centres n T p g old r old
+  refused r e given h = rw (given_back r e given) (refuses e h)
+
+  pub centre_asked : (r : Outcome) (e : Refusal) → IsErr r × IsErrAnd r (λ x. x ≡ e) → Err e ≡ asked_of n T p → Centres n T p g old r old
+  unfolding centre_of
+  centre_asked r e given h = refused r e given (rw (centre_of, ← h, refusal_refuses e))
+
+  module _ (a : ℕ) (ea : Ok a ≡ asked_of n T p) where
+    pub centre_range : (r : Outcome) (e : Refusal) → IsErr r × IsErrAnd r (λ x. x ≡ e) → Err e ≡ range_of g → Centres n T p g old r old
     unfolding centre_of
-    centre_asked h = refuses s (then_stop (asked_of n T p) s _ u es eu h) (off u (answers s) eu h)
+    centre_range r e given h = refused r e given (rw (centre_of, ← ea, ← h, refusal_refuses e))
 
-    module _ (hu : not u ≡ false) where
-      module _ (o : Outcome) (v : Bool) (eo : o ≡ range_of g) (ev : v ≡ answers o) where
-        pub centre_range : not v ≡ true → Centres n T p g old o old
-        unfolding centre_of
-        centre_range h =
-            refuses o (then_go (asked_of n T p) s _ u es eu o hu (then_stop (range_of g) o _ v eo ev h)) (off v (answers o) ev h)
+    module _ (b : ℕ) (eb : Ok b ≡ range_of g) where
+      passed : (r : Outcome) → r ≡ and_then (room 2 (length old)) (Ok 0) → r ≡ centre_of n T p g (length old)
+      unfolding centre_of
+      passed r e = rw (centre_of, ← ea, ← eb) e
 
-        module _ (hv : not v ≡ false) where
-          passed : (r : Outcome) → r ≡ and_then (room 2 (length old)) (Answered 0) → r ≡ centre_of n T p g (length old)
-          unfolding centre_of
-          passed r e = then_go (asked_of n T p) s _ u es eu r hu (then_go (range_of g) o _ v eo ev r hv e)
+      pub centre_room : length old < 2 → Centres n T p g old (Err (NoRoom 2)) old
+      centre_room h = refuses (NoRoom 2) (passed (Err (NoRoom 2)) (rw (lt-ltb (length old) 2 h)))
 
-          pub centre_room : length old < 2 → Centres n T p g old (NoRoom 2) old
-          centre_room h = refuses (NoRoom 2) (passed (NoRoom 2) (rw (lt-ltb (length old) 2 h))) refl
-
-          pub centre_put : (m : Middle) (x y : Float) → 2 ≤ length old → m ≡ middle_of n T p → x ≡ east_of g m.h → y ≡ north_of g m.k
-              → Centres n T p g old (Answered 0) (set (set old 0 x) 1 y)
-          unfolding middle_of centre_after
-          centre_put m x y l em ex ey =
-              let e : Answered 0 ≡ centre_of n T p g (length old) = passed (Answered 0) (rw (le-ltb (length old) 2 l)) in
-              record { gives = e; leaves = two_stored x y old l ∙ rw (centre_after, ← e, ex, ey, em) }
+      pub centre_put : (m : Middle) (x y : Float) → 2 ≤ length old → m ≡ middle_of n T p → x ≡ east_of g m.h → y ≡ north_of g m.k
+          → Centres n T p g old (Ok 0) (set (set old 0 x) 1 y)
+      unfolding middle_of centre_after
+      centre_put m x y l em ex ey =
+          let e : Ok 0 ≡ centre_of n T p g (length old) = passed (Ok 0) (rw (le-ltb (length old) 2 l)) in
+          record { gives = e; leaves = two_stored x y old l ∙ rw (centre_after, ← e, ex, ey, em) }

@@ -8,7 +8,7 @@ ghost use Rattle.ground_centre.specs.HalfPixels.{half_pixels, middle_of};
 ghost use Rattle.ground.specs.Ground.{within, range_of, reach_of, east_of, north_of};
 ghost use Rattle.ground.specs.Call.{Centres};
 
-use answer::Outcome;
+use answer::{Outcome, Refusal};
 use ground::{Ground, Middle};
 
 // The middle of a block along one axis, in half pixels: that of the block with this index among those of its level.
@@ -31,10 +31,11 @@ fn middle_of(n: u32, table: &[u32], p: usize) -> Middle
 }
 
 // low ≤ x ≤ high, never of a NaN.
+#[tactic(auto, unfolding(ground::specs::Ground::within))]
 fn in_range(low: f64, high: f64, x: f64) -> bool
     ensures { result ≡ within low high x }
 {
-    if low <= x { x <= high } else { false }
+    low <= x && x <= high
 }
 
 // The first number of a ground place that is out of range, if any is.
@@ -42,15 +43,15 @@ fn range(g: Ground) -> Outcome
     ensures { result ≡ range_of g }
 {
     if !in_range(-16777216.0, 16777216.0, g.east) {
-        return Outcome::OutOfRange { which: 0 };
+        return Err(Refusal::OutOfRange { which: 0 });
     }
     if !in_range(-16777216.0, 16777216.0, g.north) {
-        return Outcome::OutOfRange { which: 1 };
+        return Err(Refusal::OutOfRange { which: 1 });
     }
     if !in_range(0.0009765625, 16384.0, g.step) {
-        return Outcome::OutOfRange { which: 2 };
+        return Err(Refusal::OutOfRange { which: 2 });
     }
-    Outcome::Answered { value: 0 }
+    Ok(0)
 }
 
 // How far from the origin, in ground units, a place h half pixels from the sheet's edge lies: the origin is one half
@@ -58,10 +59,11 @@ fn range(g: Ground) -> Outcome
 fn reach(g: Ground, h: u32) -> f64
     ensures { result ≡ reach_of g h }
 {
-    ((h as f64 - 1.0) / 2.0) * g.step
+    ((f64::from(h) - 1.0) / 2.0) * g.step
 }
 
 // How far east the centre h half pixels across lies.
+#[tactic(auto, unfolding(ground::specs::Ground::east_of))]
 fn east_of(g: Ground, h: u32) -> f64
     ensures { result ≡ east_of g h }
 {
@@ -69,6 +71,7 @@ fn east_of(g: Ground, h: u32) -> f64
 }
 
 // How far north the centre k half pixels down lies.
+#[tactic(auto, unfolding(ground::specs::Ground::north_of))]
 fn north_of(g: Ground, k: u32) -> f64
     ensures { result ≡ north_of g k }
 {
@@ -80,19 +83,13 @@ fn north_of(g: Ground, k: u32) -> f64
 pub fn centre(n: u32, table: &[u32], node: u32, g: Ground, place: &mut [f64]) -> Outcome
     ensures { Centres n table.now node g place.old result place.new }
 {
-    let asked = table_check::asked(n, table, node);
-    if !answer::answered(asked) {
-        return asked;
-    }
-    let ranged = range(g);
-    if !answer::answered(ranged) {
-        return ranged;
-    }
+    table_check::asked(n, table, node)?;
+    range(g)?;
     if place.len() < 2 {
-        return Outcome::NoRoom { needed: 2 };
+        return Err(Refusal::NoRoom { needed: 2 });
     }
     let middle = middle_of(n, table, node as usize);
     place[0] = east_of(g, middle.h);
     place[1] = north_of(g, middle.k);
-    Outcome::Answered { value: 0 }
+    Ok(0)
 }

@@ -1,4 +1,5 @@
 -- Neighbours both ways: where the neighbour has p's own level, p is its neighbour back.
+use Rattle.std.specs.Prelude.{Ok}
 use mathlib.Core.Path.{◌≡◌, refl, ap, sym, ◌∙◌}
 use mathlib.Core.List.{List}
 use Prim.Native.Nat.{ℕ, ◌+◌, ◌-◌, ◌^◌, ◌<◌}
@@ -11,7 +12,6 @@ use mathlib.Core.Bool.{Bool, true, ◌&&◌}
 use Rattle.base.specs.All.{all}
 use Rattle.base.proofs.AllLaws.{all_at}
 use Rattle.base.proofs.BoolLaws.{and_left, and_right}
-use Rattle.answer.specs.declared.Outcome.TheVariants.{Answered}
 use Rattle.answer.specs.Numbers.{with_level, node_in, level_in}
 use Rattle.quad.specs.Block.{path_of, column, row}
 use Rattle.quad.specs.Direction.{east_step, south_step}
@@ -21,7 +21,7 @@ use Rattle.table.specs.Nodes.{path_to, holder, level_of}
 use Rattle.table.proofs.AcceptedLaws.{depth_le}
 use Rattle.table.proofs.BlockLaws.{column_below, row_below}
 use Rattle.table.proofs.HolderLaws.{own_quadrants, own_path, own_depth}
-use Rattle.neighbour.specs.declared.Found.TheVariants.{At}
+use Rattle.neighbour.specs.Found.{At}
 use Rattle.neighbour.specs.Neighbour.{neighbour_found, neighbour_of}
 use Rattle.neighbour.specs.Containing.{opposite}
 use Rattle.neighbour.proofs.NeighbourLaws.{lies_found, neighbour_is, beside_p, neighbour_answer}
@@ -49,8 +49,8 @@ cancels D h =
     let es = and_right w (e && s) v in
     record { way = ltb-true _ _ (and_left w (e && s) v); east = eqb-true _ _ (and_left e s es); south = eqb-true _ _ (and_right e s es) }
 
-pub neighbour_back : (n : ℕ) (T : List ℕ) (p D v : ℕ) → neighbour_of n T p D ≡ Answered v → level_in v ≡ level_of n T p
-    → neighbour_of n T (node_in v) (opposite D) ≡ Answered (with_level p (level_in v))
+pub neighbour_back : (n : ℕ) (T : List ℕ) (p D v : ℕ) → neighbour_of n T p D ≡ Ok v → level_in v ≡ level_of n T p
+    → neighbour_of n T (node_in v) (opposite D) ≡ Ok (with_level p (level_in v))
 unfolding neighbour_found
 neighbour_back n T p D v e same =
     let m : ℕ = node_in v in

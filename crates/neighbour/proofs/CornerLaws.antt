@@ -12,6 +12,7 @@ use lib.Dec.{eqb}
 use lib.ListN.{length}
 use lib.Pow.{pow_pos}
 use borrow.Author.Tests.{lt-ltb, eqb-true}
+use Rattle.std.proofs.Common.{Some, None}
 use Rattle.base.proofs.AllLaws.{all_at}
 use Rattle.base.proofs.BoolLaws.{by_bool}
 use Rattle.quad.specs.Block.{column, row, Quadrants}
@@ -23,8 +24,9 @@ use Rattle.table.proofs.AcceptedLaws.{depth_le, depth_son, fork_deep}
 use Rattle.table.proofs.HolderLaws.{held, own_quadrants, own_depth}
 use Rattle.neighbour.specs.Neighbour.{neighbour_found, leaf_beyond}
 use Rattle.neighbour.specs.declared.Found.{Found}
-use Rattle.neighbour.specs.declared.Found.TheVariants.{At, Off}
+use Rattle.neighbour.specs.Found.{found_at, At}
 use Rattle.neighbour.specs.Search.{onward_of, mirror_of, Where, off, block, inner, moved, step_to, corner_down, corner_under, corner_at, Cornered}
+use Rattle.neighbour.proofs.AtLaws.{one_node}
 use Rattle.neighbour.proofs.SearchLaws.{MovedTo, moved_to, steers, held_by, beside_moved}
 
 -- the path of the block at corner C of the block at the end of π, k levels down
@@ -106,7 +108,7 @@ module _ (n : ℕ) (T : List ℕ) (acc : Accepted n T) (q p : ℕ) where
   unfolding corner_under
   corner_fork lt q4 f = rw (level_down lt q4 f, down_first T q (level_of n T (son T p q)) p, f)
 
-  pub corner_leaf : (m its : ℕ) → is_fork T p ≡ false → its ≡ level_of n T p → corner_under n T q p ≡ m → At p its ≡ At m (level_of n T m)
+  pub corner_leaf : (m its : ℕ) → is_fork T p ≡ false → its ≡ level_of n T p → corner_under n T q p ≡ m → found_at p its ≡ found_at m (level_of n T m)
   unfolding corner_under
   corner_leaf m its f e u =
       let is : p ≡ m = sym (down_still T q (level_of n T p) p f) ∙ u in
@@ -160,24 +162,24 @@ module _ (n : ℕ) (T : List ℕ) (p D C : ℕ) (z : Cornered n T p D C) where
 
   -- what the corner calls owe, from what the search found
   down_at : (w : Where) → MovedTo D (path_to T n p) w → (m l : ℕ) → held_by n T w ≡ At m l
-      → corner_at n T (mirror_of D C) m ≡ held_by n T (deepen (mirror_of D C) (level_of n T p) w)
+      → Some (corner_at n T (mirror_of D C) m) ≡ held_by n T (deepen (mirror_of D C) (level_of n T p) w)
   unfolding MovedTo held_by
-  down_at off d m l e = absurd (let z : ◌≡◌ {A = ℕ} 0 1 = cc in omega arith)
+  down_at off d m l e = cc
   down_at (block ρ) d m l e =
       let c : ℕ = mirror_of D C in
       let k : ℕ = level_of n T p in
-      let em : holder T ρ ≡ m = cc in
+      let em : holder T ρ ≡ m = one_node e in
       rw (deepen_block c k ρ, held_by, corners_holder T c k ρ, ← em) (ap (λ (m : ℕ). At m (level_of n T m)) (as_deep ρ d.quadrants d.size))
 
-  pub beyond_at : (m l q : ℕ) (r : Found) → neighbour_found n T p D ≡ At m l → q ≡ mirror_of D C → r ≡ corner_at n T q m → r ≡ leaf_beyond n T p C D
-  beyond_at m l q r e eq er = er ∙ rw eq (down_at (moved D (path_to T n p)) landed m l (sym found_moved ∙ e) ∙ sym beyond_moved)
+  pub beyond_at : (m l q : ℕ) (r : Found) → neighbour_found n T p D ≡ At m l → q ≡ mirror_of D C → r ≡ corner_at n T q m → Some r ≡ leaf_beyond n T p C D
+  beyond_at m l q r e eq er = rw (er, eq) (down_at (moved D (path_to T n p)) landed m l (sym found_moved ∙ e) ∙ sym beyond_moved)
 
-  off_at : (w : Where) → held_by n T w ≡ Off → Off ≡ held_by n T (deepen (mirror_of D C) (level_of n T p) w)
+  off_at : (w : Where) → held_by n T w ≡ None → None ≡ held_by n T (deepen (mirror_of D C) (level_of n T p) w)
   unfolding held_by
   off_at off e = rw (deepen_off (mirror_of D C) (level_of n T p))
-  off_at (block ρ) e = absurd (let z : ◌≡◌ {A = ℕ} 0 1 = cc in omega arith)
+  off_at (block ρ) e = cc
 
-  pub beyond_off : neighbour_found n T p D ≡ Off → Off ≡ leaf_beyond n T p C D
+  pub beyond_off : neighbour_found n T p D ≡ None → None ≡ leaf_beyond n T p C D
   beyond_off e = off_at (moved D (path_to T n p)) (sym found_moved ∙ e) ∙ sym beyond_moved
 
   pub mirror_small : mirror_of D C < 4
@@ -186,11 +188,11 @@ module _ (n : ℕ) (T : List ℕ) (p D C : ℕ) (z : Cornered n T p D C) where
   -- where the neighbour is a leaf, it is the leaf beyond the corner too
   leaf_at_lem : (w : Where) (m l : ℕ) → is_fork T m ≡ false → held_by n T w ≡ At m l → held_by n T (deepen (mirror_of D C) (level_of n T p) w) ≡ At m l
   unfolding held_by
-  leaf_at_lem off m l f e = absurd (let z : ◌≡◌ {A = ℕ} 0 1 = cc in omega arith)
+  leaf_at_lem off m l f e = cc
   leaf_at_lem (block ρ) m l f e =
       let c : ℕ = mirror_of D C in
       let k : ℕ = level_of n T p in
-      let em : holder T ρ ≡ m = cc in
+      let em : holder T ρ ≡ m = one_node e in
       let still : corner_down T c k (holder T ρ) ≡ holder T ρ = down_still T c k (holder T ρ) (rw em f) in
       rw (deepen_block c k ρ, held_by, corners_holder T c k ρ, still) e
 

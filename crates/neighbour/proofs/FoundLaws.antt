@@ -1,11 +1,12 @@
 -- What the search gives, by name: the neighbour of document 01 and its level, in an accepted table.
+use Rattle.std.specs.Prelude.{Ok}
 use mathlib.Core.Bool.{Bool, true, false, cond, ◌&&◌}
 use mathlib.Core.List.{List}
 use mathlib.Core.Path.{◌≡◌, refl, ap, sym, ◌∙◌}
 use Prim.Native.Nat.{ℕ, ◌+◌, ◌-◌, ◌^◌, ◌≤◌, ◌<◌}
 use native.Mathlib.Omega.{arith}
 use lib.ListN.{length}
-use Rattle.answer.specs.declared.Outcome.TheVariants.{Answered}
+use Rattle.std.proofs.Common.{Option, Some, None}
 use Rattle.answer.specs.Numbers.{value_of, with_level, node_in, level_in}
 use Rattle.answer.proofs.OutcomeLaws.{level_apart}
 use Rattle.quad.specs.Block.{path_of, column, row}
@@ -17,9 +18,10 @@ use Rattle.table.specs.Nodes.{path_to, holder, level_of}
 use Rattle.table.proofs.AcceptedLaws.{depth_le}
 use Rattle.table.proofs.HolderLaws.{held, own_quadrants, own_depth}
 use Rattle.neighbour.specs.declared.Found.{Found}
-use Rattle.neighbour.specs.declared.Found.TheVariants.{At, Off}
+use Rattle.neighbour.specs.Found.{At}
 use Rattle.neighbour.specs.Neighbour.{held_at, beside, neighbour_found, outcome_of}
 use Rattle.neighbour.specs.Search.{stay, Where, off, block, moved, found_in, Sought, Small}
+use Rattle.neighbour.proofs.AtLaws.{one_node, one_level}
 use Rattle.neighbour.proofs.SearchLaws.{MovedTo, moved_to, Beside, held_by, beside_moved}
 
 -- what is known of the node m of level l that was found for p
@@ -51,11 +53,11 @@ module _ (n : ℕ) (T : List ℕ) (acc : Accepted n T) (p D : ℕ) (lt : p < nod
   -- what is found: a node, at p's level or above it, and a fork only at p's own
   facts : (w : Where) → MovedTo D (path_to T n p) w → (m l : ℕ) → found_in n T (level_of n T p) w ≡ At m l → FoundAt n T p m l
   unfolding MovedTo found_in
-  facts off d m l e = absurd (let z : ◌≡◌ {A = ℕ} 0 1 = cc in omega arith)
+  facts off d m l e = cc
   facts (block ρ) d m l e =
       let h = held n T acc ρ d.quadrants in
-      let em : holder T ρ ≡ m = cc in
-      let el : level_of n T p + (length ρ - depth_to T n (holder T ρ)) ≡ l = cc in
+      let em : holder T ρ ≡ m = one_node e in
+      let el : level_of n T p + (length ρ - depth_to T n (holder T ρ)) ≡ l = one_level e in
       let k = block_level ρ d in
       let s = d.size in
       let o = own_depth n T acc p lt in
@@ -85,7 +87,7 @@ beside_small n T acc d x y D = go (stays (2 ^ d) x (east_step D) && stays (2 ^ d
     π : List ℕ
     π = path_of d (x + east_step D - 1) (y + south_step D - 1)
 
-    go : (b : Bool) → Small (cond b (held_at n T π) Off)
+    go : (b : Bool) → Small (cond b (held_at n T π) None)
     go true =
         let below = (held n T acc π (path_quadrants d (x + east_step D - 1) (y + south_step D - 1))).below in
         (omega (arith, acc.sized.few, acc.sized.level), omega (arith, acc.sized.level))
@@ -96,14 +98,16 @@ unfolding neighbour_found
 neighbour_small n T acc p D = let π = path_to T n p in beside_small n T acc (length π) (column π) (row π) D
 
 -- so node and level are read off the value
-apart_at : (f : Found) (v : ℕ) → Small f → outcome_of f ≡ Answered v → f ≡ At (node_in v) (level_in v)
+apart_at : (f : Option Found) (v : ℕ) → Small f → outcome_of f ≡ Ok v → f ≡ At (node_in v) (level_in v)
 unfolding Small
-apart_at Off v s e = absurd (let z : ◌≡◌ {A = ℕ} 0 1 = cc in omega arith)
-apart_at (At m l) v s e =
+apart_at None v s e = cc
+apart_at (Some f) v s e =
+    let m : ℕ = f.node in
+    let l : ℕ = f.level in
     let is : with_level m l ≡ v = ap value_of e in
     let a = level_apart m l s.1 in
     rw (← is, a.0, a.1)
 
-pub answered_apart : (n : ℕ) (T : List ℕ) → Accepted n T → (d x y D v : ℕ) → outcome_of (beside n T d x y D) ≡ Answered v
+pub answered_apart : (n : ℕ) (T : List ℕ) → Accepted n T → (d x y D v : ℕ) → outcome_of (beside n T d x y D) ≡ Ok v
     → beside n T d x y D ≡ At (node_in v) (level_in v)
 answered_apart n T acc d x y D v = apart_at (beside n T d x y D) v (beside_small n T acc d x y D)

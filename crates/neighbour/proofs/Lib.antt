@@ -1,3 +1,4 @@
+pub mod AtLaws
 pub mod SearchLaws
 pub mod FoundLaws
 pub mod CornerLaws

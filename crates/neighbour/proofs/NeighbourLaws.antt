@@ -1,6 +1,7 @@
 -- What the calls' definitions mean on an accepted sheet: the neighbour is the smallest node that contains the block
 -- beside p's own, the corner leaf is the leaf that holds the pixel beyond; each is a node of the table, and the level
 -- beside it in the answer is its own.
+use Rattle.std.specs.Prelude.{Ok, Err}
 use mathlib.Core.Bool.{Bool, true, false, not, cond, ◌&&◌}
 use mathlib.Core.List.{List}
 use mathlib.Core.Path.{◌≡◌, refl, ap, sym, ◌∙◌}
@@ -9,7 +10,8 @@ use native.Mathlib.Omega.{arith}
 use lib.Dec.{ltb}
 use lib.ListN.{length}
 use borrow.Author.Tests.{le-ltb, ltb-false}
-use Rattle.answer.specs.declared.Outcome.TheVariants.{Answered, BadDirection}
+use Rattle.std.proofs.Common.{None}
+use Rattle.answer.specs.declared.Refusal.TheVariants.{BadDirection}
 use Rattle.answer.specs.Numbers.{node_in, level_in, unless}
 use Rattle.answer.proofs.OutcomeLaws.{then_answered, answers_unless}
 use Rattle.quad.specs.Block.{path_of, column, row}
@@ -20,9 +22,10 @@ use Rattle.table.specs.Nodes.{path_to, holder, level_of}
 use Rattle.table.proofs.AcceptedLaws.{fork_deep}
 use Rattle.table.proofs.CheckLaws.{asked_of_lem, asked_good}
 use Rattle.table.proofs.HolderLaws.{own_depth}
-use Rattle.neighbour.specs.declared.Found.TheVariants.{At, Off}
+use Rattle.neighbour.specs.Found.{At}
 use Rattle.neighbour.specs.Neighbour.{held_at, beside, neighbour_found, outcome_of, neighbour_of, leaf_beyond, corner_column, corner_row, corner_leaf_of, diagonal_leaf_of}
 use Rattle.neighbour.specs.Containing.{Contains, Smallest}
+use Rattle.neighbour.proofs.AtLaws.{one_node, one_level}
 use Rattle.neighbour.proofs.SearchLaws.{Stays, stays_of, stays_both}
 use Rattle.neighbour.proofs.SmallestLaws.{holder_contains, holder_smallest, fork_size}
 use Rattle.neighbour.proofs.FoundLaws.{found_facts, answered_apart}
@@ -40,13 +43,13 @@ lies n T d x y D m l e =
     go (stays (2 ^ d) x (east_step D)) (stays (2 ^ d) y (south_step D)) refl refl e
   where
     go : (a b : Bool) → stays (2 ^ d) x (east_step D) ≡ a → stays (2 ^ d) y (south_step D) ≡ b
-        → cond (a && b) (held_at n T (path_of d (x + east_step D - 1) (y + south_step D - 1))) Off ≡ At m l → Lies n T d x y D m l
+        → cond (a && b) (held_at n T (path_of d (x + east_step D - 1) (y + south_step D - 1))) None ≡ At m l → Lies n T d x y D m l
     go true true p q e =
-        let em : holder T (path_of d (x + east_step D - 1) (y + south_step D - 1)) ≡ m = cc in
-        let el : level_of n T (holder T (path_of d (x + east_step D - 1) (y + south_step D - 1))) ≡ l = cc in
+        let em : holder T (path_of d (x + east_step D - 1) (y + south_step D - 1)) ≡ m = one_node e in
+        let el : level_of n T (holder T (path_of d (x + east_step D - 1) (y + south_step D - 1))) ≡ l = one_level e in
         record { across = stays_of d x (east_step D) p; down = stays_of d y (south_step D) q; node = sym em; level = sym el ∙ ap (level_of n T) em }
-    go true false p q e = absurd (let z : ◌≡◌ {A = ℕ} 0 1 = cc in omega arith)
-    go false b p q e = absurd (let z : ◌≡◌ {A = ℕ} 0 1 = cc in omega arith)
+    go true false p q e = cc
+    go false b p q e = cc
 
 -- and the other way round
 pub lies_found : (n : ℕ) (T : List ℕ) (d x y D : ℕ) → Stays d x (east_step D) → Stays d y (south_step D)
@@ -92,13 +95,13 @@ pub record NeighbourAnswer (n : ℕ) (T : List ℕ) (p D v : ℕ) : Type 0 where
   pub large : level_of n T p ≤ level_in v
   pub full : is_fork T (node_in v) ≡ true → level_in v ≡ level_of n T p
 
-pub neighbour_answer : (n : ℕ) (T : List ℕ) (p D v : ℕ) → neighbour_of n T p D ≡ Answered v → NeighbourAnswer n T p D v
+pub neighbour_answer : (n : ℕ) (T : List ℕ) (p D v : ℕ) → neighbour_of n T p D ≡ Ok v → NeighbourAnswer n T p D v
 unfolding neighbour_of neighbour_found
 neighbour_answer n T p D v e =
     let t = then_answered (asked_of n T p) _ v e in
-    let u = then_answered (unless (ltb 7 D) (BadDirection D)) _ v t.1 in
+    let u = then_answered (unless (ltb 7 D) (Err (BadDirection D))) _ v t.1 in
     let z = asked_of_lem n T p t.0 in
-    let way : D ≤ 7 = ltb-false _ _ (answers_unless (ltb 7 D) (BadDirection D) refl u.0) in
+    let way : D ≤ 7 = ltb-false _ _ (answers_unless (ltb 7 D) (Err (BadDirection D)) refl u.0) in
     let π = path_to T n p in
     let found = answered_apart n T z.accepted (length π) (column π) (row π) D v u.1 in
     let k = found_facts n T z.accepted p D z.node (omega arith) (node_in v) (level_in v) found in
@@ -120,7 +123,7 @@ pub record LeafAnswer (n : ℕ) (T : List ℕ) (p D C v : ℕ) : Type 0 where
   pub leaf : is_fork T (node_in v) ≡ false
   pub level : level_in v ≡ level_of n T (node_in v)
 
-module _ (n : ℕ) (T : List ℕ) (p D C v : ℕ) (z : Asked n T p) (e : outcome_of (leaf_beyond n T p C D) ≡ Answered v) where
+module _ (n : ℕ) (T : List ℕ) (p D C v : ℕ) (z : Asked n T p) (e : outcome_of (leaf_beyond n T p C D) ≡ Ok v) where
   beyond : Lies n T n (corner_column n T p C) (corner_row n T p C) D (node_in v) (level_in v)
   beyond =
       lies n T n (corner_column n T p C) (corner_row n T p C) D (node_in v) (level_in v)
@@ -150,18 +153,18 @@ module _ (n : ℕ) (T : List ℕ) (p D C v : ℕ) (z : Asked n T p) (e : outcome
   leaf_answer : LeafAnswer n T p D C v
   leaf_answer = record { asked = z; contains = contained; leaf = no_fork; level = beyond.level }
 
-pub corner_leaf_answer : (n : ℕ) (T : List ℕ) (p D C v : ℕ) → corner_leaf_of n T p D C ≡ Answered v → LeafAnswer n T p D C v
+pub corner_leaf_answer : (n : ℕ) (T : List ℕ) (p D C v : ℕ) → corner_leaf_of n T p D C ≡ Ok v → LeafAnswer n T p D C v
 unfolding corner_leaf_of
 corner_leaf_answer n T p D C v e =
     let t = then_answered (asked_of n T p) _ v e in
-    let side = then_answered (unless (ltb 3 D) (BadDirection D)) _ v t.1 in
-    let corner = then_answered (unless (ltb 3 C) (BadDirection C)) _ v side.1 in
-    let joined = then_answered (unless (not (adj_of D C)) (BadDirection C)) _ v corner.1 in
+    let side = then_answered (unless (ltb 3 D) (Err (BadDirection D))) _ v t.1 in
+    let corner = then_answered (unless (ltb 3 C) (Err (BadDirection C))) _ v side.1 in
+    let joined = then_answered (unless (not (adj_of D C)) (Err (BadDirection C))) _ v corner.1 in
     leaf_answer n T p D C v (asked_of_lem n T p t.0) joined.1
 
-pub diagonal_leaf_answer : (n : ℕ) (T : List ℕ) (p C v : ℕ) → diagonal_leaf_of n T p C ≡ Answered v → LeafAnswer n T p (diagonal C) C v
+pub diagonal_leaf_answer : (n : ℕ) (T : List ℕ) (p C v : ℕ) → diagonal_leaf_of n T p C ≡ Ok v → LeafAnswer n T p (diagonal C) C v
 unfolding diagonal_leaf_of
 diagonal_leaf_answer n T p C v e =
     let t = then_answered (asked_of n T p) _ v e in
-    let corner = then_answered (unless (ltb 3 C) (BadDirection C)) _ v t.1 in
+    let corner = then_answered (unless (ltb 3 C) (Err (BadDirection C))) _ v t.1 in
     leaf_answer n T p (diagonal C) C v (asked_of_lem n T p t.0) corner.1

@@ -1,11 +1,11 @@
 -- The three calls on sheet A, with its two ponds: node 6 is black, lies under node 1's eastern neighbour, and is the
 -- leaf at neither end of that side.
+use Rattle.std.specs.Prelude.{Ok, Err}
 use mathlib.Core.Path.{◌≡◌, refl, ap, sym, ◌∙◌}
 use Prim.Native.Nat.{ℕ, ◌<◌}
 use native.Mathlib.Omega.{arith}
-use Rattle.answer.specs.declared.Outcome.{Outcome}
-use Rattle.answer.specs.declared.Outcome.TheVariants.{Answered, BadDirection}
-use Rattle.answer.specs.Numbers.{number_of, with_level, node_in}
+use Rattle.answer.specs.declared.Refusal.TheVariants.{BadDirection}
+use Rattle.answer.specs.Numbers.{Outcome, number_of, with_level, node_in}
 use Rattle.quad.specs.Numbers.{black}
 use Rattle.quad.specs.Block.{path_of, column, row}
 use Rattle.quad.specs.Direction.{east_step, south_step}
@@ -18,14 +18,14 @@ use Rattle.neighbour.specs.Neighbour.{beside, neighbour_found, neighbour_of, cor
 
 -- what the calls owe on document 01's sheet A
 pub record OnSheetA : Type 0 where
-  pub east : neighbour_of 2 table_a 1 1 ≡ Answered (with_level 2 1)
-  pub south : neighbour_of 2 table_a 6 2 ≡ Answered (with_level 8 1)
-  pub upper : corner_leaf_of 2 table_a 1 1 1 ≡ Answered (with_level 3 0)
-  pub lower : corner_leaf_of 2 table_a 1 1 3 ≡ Answered (with_level 5 0)
-  pub apart : (corner_leaf_of 2 table_a 1 1 0 ≡ BadDirection 0) × (corner_leaf_of 2 table_a 1 1 2 ≡ BadDirection 2)
-  pub beyond : diagonal_leaf_of 2 table_a 1 3 ≡ Answered (with_level 8 1)
-  pub across : diagonal_leaf_of 2 table_a 5 1 ≡ Answered (with_level 4 0)
-  pub larger : diagonal_leaf_of 2 table_a 5 2 ≡ Answered (with_level 7 1)
+  pub east : neighbour_of 2 table_a 1 1 ≡ Ok (with_level 2 1)
+  pub south : neighbour_of 2 table_a 6 2 ≡ Ok (with_level 8 1)
+  pub upper : corner_leaf_of 2 table_a 1 1 1 ≡ Ok (with_level 3 0)
+  pub lower : corner_leaf_of 2 table_a 1 1 3 ≡ Ok (with_level 5 0)
+  pub apart : (corner_leaf_of 2 table_a 1 1 0 ≡ Err (BadDirection 0)) × (corner_leaf_of 2 table_a 1 1 2 ≡ Err (BadDirection 2))
+  pub beyond : diagonal_leaf_of 2 table_a 1 3 ≡ Ok (with_level 8 1)
+  pub across : diagonal_leaf_of 2 table_a 5 1 ≡ Ok (with_level 4 0)
+  pub larger : diagonal_leaf_of 2 table_a 5 2 ≡ Ok (with_level 7 1)
   pub under : (father table_a 6 ≡ 2) × (node_type table_a 6 ≡ black)
 
 pub on_sheet_a : OnSheetA
@@ -43,10 +43,10 @@ on_sheet_a = record {
 }
 
 -- two ponds: what lies under a grey neighbour need not touch
-pub two_ponds : (C v : ℕ) → C < 4 → corner_leaf_of 2 table_a 1 1 C ≡ Answered v → node_in v ≡ 6 → ⊥
+pub two_ponds : (C v : ℕ) → C < 4 → corner_leaf_of 2 table_a 1 1 C ≡ Ok v → node_in v ≡ 6 → ⊥
 two_ponds C v lt e six =
     let a = on_sheet_a in
-    by_quadrant (λ (C : ℕ). corner_leaf_of 2 table_a 1 1 C ≡ Answered v → ⊥)
+    by_quadrant (λ (C : ℕ). corner_leaf_of 2 table_a 1 1 C ≡ Ok v → ⊥)
     (λ e. omega (arith, other a.apart.0 e))
     (λ e. omega (arith, other a.upper e))
     (λ e. omega (arith, other a.apart.1 e))

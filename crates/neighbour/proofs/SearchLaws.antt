@@ -18,7 +18,7 @@ use Rattle.quad.specs.Block.{column, row, Quadrants}
 use Rattle.quad.specs.Direction.{east_step, south_step, stays, opquad_of, common_side_of}
 use Rattle.quad.proofs.PathLaws.{column_lt, row_lt, path_back}
 use Rattle.neighbour.specs.declared.Found.{Found}
-use Rattle.neighbour.specs.declared.Found.TheVariants.{Off}
+use Rattle.std.proofs.Common.{Option, None}
 use Rattle.neighbour.specs.Neighbour.{held_at, beside}
 use Rattle.neighbour.specs.Search.{stay, onward_of, mirror_of, Where, off, block, inner, moved}
 
@@ -163,8 +163,8 @@ stays_at : (d x s y : ℕ) → y < 2 ^ d → y + 1 ≡ x + s → stays (2 ^ d) x
 stays_at d x s y lt e = stays_both d x s (record { low = omega arith; high = omega arith })
 
 -- the smallest node that contains a block and its level, or none
-unfoldable pub held_by : ℕ → List ℕ → Where → Found
-held_by n T off = Off
+unfoldable pub held_by : ℕ → List ℕ → Where → Option Found
+held_by n T off = None
 held_by n T (block ρ) = held_at n T ρ
 
 beside_at : (n : ℕ) (T : List ℕ) (D : ℕ) (π : List ℕ) (w : Where) → MovedTo D π w → beside n T (length π) (column π) (row π) D ≡ held_by n T w

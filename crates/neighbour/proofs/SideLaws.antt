@@ -1,5 +1,6 @@
 -- Leaves that share a length of side: the one that is not larger has the other as its neighbour on that side, and as
 -- the leaf at both ends of it.
+use Rattle.std.specs.Prelude.{Ok}
 use mathlib.Core.Bool.{true, false}
 use mathlib.Core.List.{List}
 use mathlib.Core.Logic.{◌⊎◌, inl, inr, ⊎_elim}
@@ -10,7 +11,6 @@ use native.Mathlib.Omega.{arith}
 use lib.Pow.{pow_pos, pow-lt}
 use Rattle.base.proofs.BoolLaws.{lt_or_ge}
 use Rattle.base.proofs.PowLaws.{pow_product, below_pow}
-use Rattle.answer.specs.declared.Outcome.TheVariants.{Answered}
 use Rattle.answer.specs.Numbers.{with_level}
 use Rattle.quad.specs.Block.{path_of, column, row}
 use Rattle.quad.specs.Direction.{east_step, south_step, adj_of}
@@ -21,7 +21,7 @@ use Rattle.table.specs.Nodes.{path_to, holder, level_of, side_of}
 use Rattle.table.proofs.AcceptedLaws.{depth_le}
 use Rattle.table.proofs.BlockLaws.{column_below, row_below}
 use Rattle.table.proofs.HolderLaws.{own_depth, within_leaf}
-use Rattle.neighbour.specs.declared.Found.TheVariants.{At}
+use Rattle.neighbour.specs.Found.{At}
 use Rattle.neighbour.specs.Neighbour.{neighbour_found, outcome_of, neighbour_of, corner_leaf_of}
 use Rattle.neighbour.specs.Containing.{Contains, Touches}
 use Rattle.neighbour.proofs.CornerLaws.{side_on, beyond_leaf_neighbour}
@@ -160,11 +160,11 @@ module _
       rw (own_depth n T acc p t.here.node) (a ∙ rw (ex, ey) (ap (λ (m : ℕ). At m (level_of n T m)) (leaf_holds n T acc m d ((x + east_step D - 1) / w) ((y + south_step D - 1) / w) c leaf-m)))
 
   -- m is p's neighbour on that side
-  pub touching_neighbour : neighbour_of n T p D ≡ Answered (with_level m (level_of n T m))
+  pub touching_neighbour : neighbour_of n T p D ≡ Ok (with_level m (level_of n T m))
   touching_neighbour = neighbour_is n T acc p t.here.node D (omega arith) ∙ ap outcome_of beside_m
 
   -- and the leaf at both ends of it
-  pub touching_corners : (C : ℕ) → C < 4 → adj_of D C ≡ true → corner_leaf_of n T p D C ≡ Answered (with_level m (level_of n T m))
+  pub touching_corners : (C : ℕ) → C < 4 → adj_of D C ≡ true → corner_leaf_of n T p D C ≡ Ok (with_level m (level_of n T m))
   touching_corners C corner a =
       corner_is n T acc p t.here.node D C side corner a
       ∙ ap outcome_of

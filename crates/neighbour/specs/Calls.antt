@@ -1,6 +1,6 @@
 -- What each of the three calls owes for any words and numbers, as its contract says: an outcome r meets it.
 use Rattle.std.specs.Prelude.{List, ◌≡◌, ℕ}
-use Rattle.answer.specs.declared.Outcome.{Outcome}
+use Rattle.answer.specs.Numbers.{Outcome}
 use Rattle.neighbour.specs.Neighbour.{neighbour_of, corner_leaf_of, diagonal_leaf_of}
 
 -- level, table, node, direction

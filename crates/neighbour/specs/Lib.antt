@@ -1,3 +1,4 @@
+pub mod Found
 pub mod Neighbour
 pub mod Calls
 pub mod Containing

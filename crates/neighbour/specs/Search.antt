@@ -1,6 +1,6 @@
 -- The search of document 000, section 3, as the code goes through it: up to the nearest common ancestor, and back by
 -- reflected or opposite moves. Inner definitions: no outside call's statement cites them.
-use Rattle.std.specs.Prelude.{cond, List, [], ◌∷◌, ◌⊎◌, ◌≡◌, ℕ, zero, suc, ◌+◌, ◌-◌, ◌/◌, ◌%◌, ◌^◌, ◌≤◌, ◌<◌, ltb, eqb, length}
+use Rattle.std.specs.Prelude.{cond, Option, Some, None, List, [], ◌∷◌, ◌≡◌, ℕ, zero, suc, ◌+◌, ◌-◌, ◌/◌, ◌%◌, ◌^◌, ◌≤◌, ◌<◌, ltb, eqb, length}
 use Rattle.answer.specs.Numbers.{level_room, with_level}
 use Rattle.quad.specs.Numbers.{none}
 use Rattle.quad.specs.Direction.{adj_of, reflect_of, opquad_of, common_side_of}
@@ -9,11 +9,19 @@ use Rattle.table.specs.Rules.{depth_to, Accepted}
 use Rattle.table.specs.Nodes.{path_to, holder, level_of}
 use Rattle.neighbour.specs.declared.Climb.{Climb}
 use Rattle.neighbour.specs.declared.Found.{Found}
-use Rattle.neighbour.specs.declared.Found.TheVariants.{At, Off}
+use Rattle.neighbour.specs.Found.{found_at, At}
 
 -- no direction: the ninth, which stays
 abbrev pub stay : ℕ
 stay = 8
+
+-- a direction as the code has it, where it has none in place of the ninth; and the number of what it has
+abbrev pub way_to : ℕ → Option ℕ
+way_to D = cond (eqb D stay) None (Some D)
+
+abbrev pub direction_of : Option ℕ → ℕ
+direction_of None = stay
+direction_of (Some D) = D
 
 -- where the block in direction D of quadrant q has its father: in this direction of q's own father
 unfoldable pub onward_of : ℕ → ℕ → ℕ
@@ -43,8 +51,8 @@ moved D (q ∷ qs) = inner (mirror_of D q) (moved (onward_of D q) qs)
 
 -- the node that holds a block, with `level` counted on from a block of that size: one more for each link that the node
 -- stands higher
-unfoldable pub found_in : ℕ → List ℕ → ℕ → Where → Found
-found_in n T level off = Off
+unfoldable pub found_in : ℕ → List ℕ → ℕ → Where → Option Found
+found_in n T level off = None
 found_in n T level (block ρ) = At (holder T ρ) (level + (length ρ - depth_to T n (holder T ρ)))
 
 -- what the search asks of its caller
@@ -59,18 +67,20 @@ unfoldable pub inward : ℕ → ℕ → Where → Where
 inward zero moves w = w
 inward (suc k) moves w = inward k (moves / 4) (inner (moves % 4) w)
 
--- a climb from p, in direction D: what is left to go from its node, and then its moves down, lead where D leads from p
-pub record Climbed (n : ℕ) (T : List ℕ) (p level D : ℕ) (c : Climb) : Type 0 where
-  pub node : c.node < nodes T
-  pub low : level ≤ c.level
-  pub high : c.level + depth_to T n c.node ≡ level + depth_to T n p
-  pub way : c.direction ≤ stay
-  pub few : c.moves < 4 ^ (c.level - level)
-  pub same : moved D (path_to T n p) ≡ inward (c.level - level) c.moves (moved c.direction (path_to T n c.node))
+-- a climb from p, in direction D, at node q of level l: what is left to go from q, and then the moves down, lead where D
+-- leads from p
+pub record Climbed (n : ℕ) (T : List ℕ) (p level D : ℕ) (q l left moves : ℕ) : Type 0 where
+  pub node : q < nodes T
+  pub low : level ≤ l
+  pub high : l + depth_to T n q ≡ level + depth_to T n p
+  pub way : left ≤ stay
+  pub few : moves < 4 ^ (l - level)
+  pub same : moved D (path_to T n p) ≡ inward (l - level) moves (moved left (path_to T n q))
 
--- it has ended: nothing is left to go, or nothing lies above
-abbrev pub Ended : Climb → Type 0
-Ended c = (c.direction ≡ stay) ⊎ (c.node ≡ 0)
+-- it has ended: nothing is left to go; or no block of the sheet lies there
+unfoldable pub Ended : ℕ → List ℕ → ℕ → ℕ → ℕ → Option Climb → Type 0
+Ended n T p level D None = moved D (path_to T n p) ≡ off
+Ended n T p level D (Some c) = Climbed n T p level D c.node c.level stay c.moves
 
 -- what the descent asks of its caller
 pub record Descends (n : ℕ) (T : List ℕ) (c : Climb) (level : ℕ) : Type 0 where
@@ -97,7 +107,7 @@ corner_under n T q p = corner_down T q (level_of n T p) p
 
 -- that leaf and its level
 abbrev pub corner_at : ℕ → List ℕ → ℕ → ℕ → Found
-corner_at n T q p = let m = corner_under n T q p in At m (level_of n T m)
+corner_at n T q p = let m = corner_under n T q p in found_at m (level_of n T m)
 
 -- what the search for the leaf beyond a corner asks of its caller
 pub record Cornered (n : ℕ) (T : List ℕ) (p D C : ℕ) : Type 0 where
@@ -108,6 +118,6 @@ pub record Cornered (n : ℕ) (T : List ℕ) (p D C : ℕ) : Type 0 where
   pub on : onward_of D C ≡ D
 
 -- a node with its level beside it fits a word, and the level its room
-unfoldable pub Small : Found → Type 0
-Small Off = Unit {0}
-Small (At m l) = (with_level m l ≤ none) × (l < level_room)
+unfoldable pub Small : Option Found → Type 0
+Small None = Unit {0}
+Small (Some f) = (with_level f.node f.level ≤ none) × (f.level < level_room)

@@ -8,6 +8,7 @@ use mathlib.Core.Path.{◌≡◌, refl, ap, sym, ◌∙◌}
 use Prim.Native.Nat.{ℕ, ◌-◌, ◌≤◌, ◌<◌}
 use native.Mathlib.Omega.{arith}
 use borrow.Author.Tests.{ne_eqb}
+use Rattle.std.proofs.Common.{None}
 use Rattle.base.proofs.BoolLaws.{by_bool}
 use Rattle.table.specs.Table.{nodes, son, is_fork}
 use Rattle.table.specs.Rules.{Accepted}
@@ -15,7 +16,7 @@ use Rattle.table.specs.Nodes.{path_to, holder, level_of}
 use Rattle.table.proofs.AcceptedLaws.{sons_of, depth_son}
 use Rattle.table.proofs.NodeLaws.{path_root, holder_fork, holder_leaf}
 use Rattle.table.proofs.HolderLaws.{held, own_quadrants, own_path, path_son}
-use Rattle.neighbour.specs.declared.Found.TheVariants.{At, Off}
+use Rattle.neighbour.specs.Found.{At}
 use Rattle.neighbour.specs.Neighbour.{neighbour_found}
 use Rattle.neighbour.specs.Search.{stay, onward_of, mirror_of, Where, off, block, inner, moved}
 use Rattle.neighbour_around.specs.SonBeside.{part_in}
@@ -59,6 +60,6 @@ module _ (n : ℕ) (T : List ℕ) (acc : Accepted n T) where
   unfolding held_by
   stays_own p lt = by_moves p stay lt (omega arith) ∙ rw (moved_stay (path_to T n p), own_path n T acc p lt)
 
-  pub none_beside : (D : ℕ) → D < stay → Off ≡ neighbour_found n T 0 D
+  pub none_beside : (D : ℕ) → D < stay → None ≡ neighbour_found n T 0 D
   unfolding held_by moved
   none_beside D lt = sym (by_moves 0 D acc.sized.some (omega arith) ∙ rw (path_root T n, ne_eqb D stay (λ e. omega arith)))

@@ -8,17 +8,19 @@ use Prim.Native.Nat.{ℕ, zero, suc, ◌+◌, ◌-◌, ◌*◌, ◌/◌, ◌%◌
 use native.Mathlib.Nat.{zero-add}
 use native.Mathlib.Omega.{arith}
 use lib.Dec.{eqb}
+use mir.Val.{bool_byte}
 use lib.ListN.{get_or, set, replicate, get_or-replicate}
-use borrow.Author.Tests.{eq-eqb, ne_eqb, eqb-true, eqb-false}
+use borrow.Author.Tests.{eqb-true, eqb-false}
+use Rattle.std.proofs.Common.{Option, Some, None}
 use Rattle.base.specs.Tab.{tab_from}
 use Rattle.base.proofs.BoolLaws.{by_bool}
 use Rattle.base.proofs.TabLaws.{tab_at}
 use Rattle.quad.specs.Numbers.{fork_type}
 use Rattle.table.specs.Table.{nodes, son, node_type, is_fork}
-use Rattle.table.specs.Rules.{one, Accepted}
+use Rattle.table.specs.Rules.{Accepted}
 use Rattle.table.specs.Nodes.{level_of}
 use Rattle.neighbour.specs.declared.Found.{Found}
-use Rattle.neighbour.specs.declared.Found.TheVariants.{At, Off}
+use Rattle.neighbour.specs.Found.{At}
 use Rattle.neighbour.specs.Neighbour.{neighbour_found}
 use Rattle.neighbour.specs.Search.{stay, onward_of, mirror_of}
 use Rattle.neighbour_around.specs.SonBeside.{part_in}
@@ -27,14 +29,8 @@ use Rattle.neighbour.proofs.FoundLaws.{found_facts}
 use Rattle.neighbour_around.proofs.BesideLaws.{son_beside, stays_own, none_beside}
 use Rattle.neighbour_around.specs.Surround.{node_or, part_of, InNodes, son_near, son_surround, Surrounds}
 
-pub fork_counts : (kind : ℕ) → kind ≡ fork_type → 1 ≡ one (eqb kind fork_type)
-fork_counts kind e = rw (eq-eqb kind fork_type e)
-
-pub leaf_counts : (kind : ℕ) → (kind ≡ fork_type → ⊥) → 0 ≡ one (eqb kind fork_type)
-leaf_counts kind h = rw (ne_eqb kind fork_type h)
-
 -- the one of two that a type picks
-pub quarter_picked : (T : List ℕ) (w k kind which : ℕ) → kind ≡ node_type T w → which ≡ one (eqb kind fork_type) → get_or (w ∷ son T w k ∷ []) which 0 ≡ part_of T k w
+pub quarter_picked : (T : List ℕ) (w k kind which : ℕ) → kind ≡ node_type T w → which ≡ bool_byte (eqb kind fork_type) → get_or (w ∷ son T w k ∷ []) which 0 ≡ part_of T k w
 unfolding part_of
 quarter_picked T w k kind which is e =
     ⊎_elim
@@ -61,11 +57,11 @@ sons_placed T p (suc (suc (suc zero))) near old a b c d e q4 z ea eb ec ed ee = 
 sons_placed T p (suc (suc (suc (suc q)))) near old a b c d e q4 z ea eb ec ed ee = absurd (omega arith)
 
 -- a part of what was found has the part's number
-pub part_number : (T : List ℕ) (x k : ℕ) → is_fork T x ≡ false → (g : Found) → node_or x (part_in T k g) ≡ part_of T k (node_or x g)
+pub part_number : (T : List ℕ) (x k : ℕ) → is_fork T x ≡ false → (g : Option Found) → node_or x (part_in T k g) ≡ part_of T k (node_or x g)
 unfolding node_or part_in part_of
-part_number T x k f Off = rw f
-part_number T x k f (At m l) =
-    ⊎_elim (λ (h : is_fork T m ≡ true). rw h) (λ (h : is_fork T m ≡ false). rw h) (by_bool (is_fork T m))
+part_number T x k f None = rw f
+part_number T x k f (Some g) =
+    ⊎_elim (λ (h : is_fork T g.node ≡ true). rw h) (λ (h : is_fork T g.node ≡ false). rw h) (by_bool (is_fork T g.node))
 
 brother_number : (T : List ℕ) (x p k l : ℕ) → is_fork T p ≡ true → node_or x (part_in T k (At p l)) ≡ son T p k
 unfolding node_or part_in
@@ -81,7 +77,7 @@ module _ {n : ℕ} {T : List ℕ} {x p : ℕ} {near : List ℕ} (acc : Accepted 
       ⊎_elim
       (λ (h : eqb (onward_of D q) stay ≡ true).
       let own : neighbour_found n T p (onward_of D q) ≡ At p (level_of n T p) = ap (neighbour_found n T p) (eqb-true _ _ h) ∙ stays_own n T acc p lt in
-      rw h (sym (ap (node_or x) step ∙ ap (λ (g : Found). node_or x (part_in T k g)) own ∙ brother_number T x p k (level_of n T p) f)))
+      rw h (sym (ap (node_or x) step ∙ ap (λ (g : Option Found). node_or x (part_in T k g)) own ∙ brother_number T x p k (level_of n T p) f)))
       (λ (h : eqb (onward_of D q) stay ≡ false).
       let m = (steers D q (omega arith) q4).way in
       let other : onward_of D q ≡ stay → ⊥ = eqb-false (onward_of D q) stay h in
@@ -98,10 +94,10 @@ module _ {n : ℕ} {T : List ℕ} {x p : ℕ} {near : List ℕ} (acc : Accepted 
   }
 
 -- a number for what was found is a node's
-number_node : (n : ℕ) (T : List ℕ) (x p D : ℕ) → Accepted n T → p < nodes T → D < stay → x < nodes T → (g : Found) → neighbour_found n T p D ≡ g → node_or x g < nodes T
+number_node : (n : ℕ) (T : List ℕ) (x p D : ℕ) → Accepted n T → p < nodes T → D < stay → x < nodes T → (g : Option Found) → neighbour_found n T p D ≡ g → node_or x g < nodes T
 unfolding node_or
-number_node n T x p D acc lt d h Off e = h
-number_node n T x p D acc lt d h (At m l) e = (found_facts n T acc p D lt (omega arith) m l e).below
+number_node n T x p D acc lt d h None e = h
+number_node n T x p D acc lt d h (Some g) e = (found_facts n T acc p D lt (omega arith) g.node g.level e).below
 
 pub surround_nodes : {n : ℕ} {T : List ℕ} {x p : ℕ} {near : List ℕ} → Accepted n T → p < nodes T → Surrounds n T x p near → InNodes T near
 surround_nodes {n} {T} {x} {p} acc lt s D d = rw (s.each D d) (number_node n T x p D acc lt d s.off (neighbour_found n T p D) refl)

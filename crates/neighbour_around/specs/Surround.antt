@@ -1,17 +1,16 @@
 -- The eight neighbours of a fork's son from the fork's own eight. Inner definitions: no outside call's statement cites
 -- them.
-use Rattle.std.specs.Prelude.{false, cond, List, ◌≡◌, ℕ, ◌<◌, eqb, get_or}
+use Rattle.std.specs.Prelude.{false, cond, Option, Some, None, List, ◌≡◌, ℕ, ◌<◌, eqb, get_or}
 use Rattle.base.specs.Tab.{tab}
 use Rattle.table.specs.Table.{nodes, son, is_fork}
 use Rattle.neighbour.specs.declared.Found.{Found}
-use Rattle.neighbour.specs.declared.Found.TheVariants.{At, Off}
 use Rattle.neighbour.specs.Neighbour.{neighbour_found}
 use Rattle.neighbour.specs.Search.{stay, onward_of, mirror_of}
 
 -- what was found as one number: its node, and x where nothing was
-unfoldable pub node_or : ℕ → Found → ℕ
-node_or x Off = x
-node_or x (At m l) = m
+unfoldable pub node_or : ℕ → Option Found → ℕ
+node_or x None = x
+node_or x (Some f) = f.node
 
 -- quadrant k of node w: a fork's son, and a leaf itself
 unfoldable pub part_of : List ℕ → ℕ → ℕ → ℕ

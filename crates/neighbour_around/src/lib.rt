@@ -1,23 +1,11 @@
 // The eight neighbours of a son from those of its father.
 #![tactic(auto)]
 
-ghost use Rattle.std.specs.Prelude.{◌≡◌, ◌<◌, ◌≤◌, eqb, replicate};
-ghost use Rattle.quad.specs.Numbers.{fork_type};
+ghost use Rattle.std.specs.Prelude.{◌≡◌, ◌<◌, replicate};
 ghost use Rattle.table.specs.Table.{nodes};
-ghost use Rattle.table.specs.Rules.{one};
 ghost use Rattle.neighbour_around.specs.Surround.{part_of, InNodes, son_surround};
 
 use table_node::word_at;
-
-// 1 for a fork's type, else 0.
-pub fn fork_one(kind: usize) -> usize
-    ensures { (result ≡ one (eqb kind fork_type)) × (result ≤ 1) }
-{
-    if kind == quad::FORK {
-        return 1;
-    }
-    0
-}
 
 // A quadrant of a node: a fork's son there, and a leaf itself. Both words are read before the type picks one, which is
 // faster than a branch on the type: a processor cannot foretell it.
@@ -28,9 +16,8 @@ fn quarter(table: &[u32], w: u32, quadrant: usize) -> u32
     let node = w as usize;
     let kind = word_at(table, node, 5);
     let son = table[6 * node + (1 + quadrant)];
-    let both: [u32; 2] = [w, son];
-    let which = fork_one(kind);
-    both[which]
+    let both = [w, son];
+    both[usize::from(kind == quad::FORK)]
 }
 
 // Writes what is around the son of fork p in a quadrant over eight zeros: three brothers, and parts of what lies beside

@@ -10,7 +10,7 @@ ghost use Rattle.neighbour.specs.Search.{corner_at, Cornered};
 ghost use Rattle.neighbour.specs.Neighbour.{leaf_beyond};
 ghost use Rattle.neighbour.specs.Calls.{CornerLeaves, DiagonalLeaves};
 
-use answer::Outcome;
+use answer::{Outcome, Refusal};
 use neighbour::Found;
 use neighbour_find::{find, mirror, outcome};
 use table_node::{level_of, word_at};
@@ -28,7 +28,7 @@ fn corner_of(n: u32, table: &[u32], node: usize, level: u32, quadrant: usize) ->
         p = word_at(table, p, 1 + quadrant);
         its -= 1;
     }
-    Found::At {
+    Found {
         node: p,
         level: its,
     }
@@ -36,35 +36,29 @@ fn corner_of(n: u32, table: &[u32], node: usize, level: u32, quadrant: usize) ->
 
 // The leaf that holds the pixel in that direction of p's corner, and its level: the corner stands at an end of that
 // side, or in that diagonal. From the neighbour down by the mirrored corner.
-fn leaf_beyond(n: u32, table: &[u32], p: usize, direction: usize, corner: usize) -> Found
+fn leaf_beyond(n: u32, table: &[u32], p: usize, direction: usize, corner: usize) -> Option<Found>
     requires { Cornered n table.now p direction corner }
     ensures { result ≡ leaf_beyond n table.now p corner direction }
 {
     let level = level_of(n, table, p);
-    let found = find(n, table, p, level, direction);
-    let Found::At { node, level: its } = found else {
-        return Found::Off;
-    };
+    let found = find(n, table, p, level, direction)?;
     let quadrant = mirror(direction, corner);
-    corner_of(n, table, node, its, quadrant)
+    Some(corner_of(n, table, found.node, found.level, quadrant))
 }
 
 // The leaf just outside a side of a node, at the corner that stands at one end of it.
 pub fn corner_leaf(n: u32, table: &[u32], node: u32, side: u32, corner: u32) -> Outcome
     ensures { CornerLeaves n table.now node side corner result }
 {
-    let asked = table_check::asked(n, table, node);
-    if !answer::answered(asked) {
-        return asked;
-    }
+    table_check::asked(n, table, node)?;
     if 3 < side {
-        return Outcome::BadDirection { given: side };
+        return Err(Refusal::BadDirection { given: side });
     }
     if 3 < corner {
-        return Outcome::BadDirection { given: corner };
+        return Err(Refusal::BadDirection { given: corner });
     }
     if !quad::adj(side as usize, corner as usize) {
-        return Outcome::BadDirection { given: corner };
+        return Err(Refusal::BadDirection { given: corner });
     }
     outcome(leaf_beyond(n, table, node as usize, side as usize, corner as usize))
 }
@@ -73,12 +67,9 @@ pub fn corner_leaf(n: u32, table: &[u32], node: u32, side: u32, corner: u32) -> 
 pub fn diagonal_leaf(n: u32, table: &[u32], node: u32, corner: u32) -> Outcome
     ensures { DiagonalLeaves n table.now node corner result }
 {
-    let asked = table_check::asked(n, table, node);
-    if !answer::answered(asked) {
-        return asked;
-    }
+    table_check::asked(n, table, node)?;
     if 3 < corner {
-        return Outcome::BadDirection { given: corner };
+        return Err(Refusal::BadDirection { given: corner });
     }
     outcome(leaf_beyond(
         n,

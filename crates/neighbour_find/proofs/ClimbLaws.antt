@@ -1,14 +1,20 @@
 -- The search in an accepted table: a climb carries the moves back down, so that what is left to go and then those moves
 -- lead where the direction leads from p; the descent takes them, one a link, and stays in a leaf.
-use mathlib.Core.Bool.{true, false}
+use mathlib.Core.Bool.{Bool, true, false}
 use mathlib.Core.List.{List, ◌∷◌}
 use mathlib.Core.Path.{◌≡◌, refl, ap, sym, ◌∙◌}
 use Prim.Native.Nat.{ℕ, zero, suc, ◌+◌, ◌-◌, ◌*◌, ◌/◌, ◌%◌, ◌^◌, ◌≤◌, ◌<◌}
 use native.Mathlib.Nat.{add-zero, pow-succ', pow-le-pow_right}
 use native.Mathlib.Omega.{arith}
 use lib.ListN.{length}
-use borrow.Author.Tests.{ne_eqb}
+use lib.Dec.{eqb}
+use mathlib.Core.Logic.{⊎_elim}
+use borrow.Author.Tests.{ne_eqb, eqb-true, lt-ltb}
+use Rattle.base.proofs.BoolLaws.{by_bool}
+use Rattle.std.proofs.Common.{Option, Some, None}
+use Rattle.std.specs.Bool.{then_some}
 use Rattle.quad.specs.Numbers.{top_level}
+use Rattle.quad.specs.Direction.{adj_of}
 use Rattle.table.specs.Table.{nodes, father, son, is_fork}
 use Rattle.table.specs.Rules.{depth_to, Accepted}
 use Rattle.table.specs.Nodes.{son_type, path_to, holder}
@@ -16,12 +22,28 @@ use Rattle.table.proofs.AcceptedLaws.{father_below, sons_of, son_type_lt, depth_
 use Rattle.table.proofs.NodeLaws.{path_root, holder_fork, holder_leaf}
 use Rattle.table.proofs.HolderLaws.{path_up, own_path, own_depth}
 use Rattle.neighbour.specs.declared.Climb.{Climb}
-use Rattle.neighbour.specs.declared.Found.TheVariants.{At, Off}
-use Rattle.neighbour.specs.Search.{stay, onward_of, mirror_of, Where, off, block, inner, moved, found_in, Sought, inward, Climbed, back_from}
+use Rattle.neighbour.specs.Found.{At}
+use Rattle.neighbour.specs.Search.{stay, way_to, direction_of, onward_of, mirror_of, Where, off, block, inner, moved, found_in, Sought, inward, Climbed, Ended, back_from}
 use Rattle.neighbour.proofs.SearchLaws.{moved_stay, steers}
 
-abbrev pub climb_at : ℕ → ℕ → ℕ → ℕ → Climb
-climb_at node level direction moves = record { node = node; level = level; direction = direction; moves = moves }
+-- a direction as a way
+pub way_is : (D e : ℕ) → D < stay → D ≡ e → Some D ≡ way_to e
+way_is D e lt h = rw (← h, ne_eqb D stay (λ z. omega arith))
+
+pub way_stays : (e : ℕ) → stay ≡ e → None ≡ way_to e
+way_stays e h = rw (← h)
+
+pub way_side : (D q : ℕ) (u : Bool) (r : Option ℕ) → D < 4 → u ≡ adj_of D q → r ≡ then_some u D → r ≡ way_to (onward_of D q)
+unfolding onward_of
+way_side D q true r lt e h = h ∙ rw (onward_of, lt-ltb D 4 lt, ← e, ne_eqb D stay (λ z. omega arith))
+way_side D q false r lt e h = h ∙ rw (onward_of, lt-ltb D 4 lt, ← e)
+
+-- and back: one that goes on is a direction, and no ninth
+way_some : (D : ℕ) → Some D ≡ way_to D → D ≡ stay → ⊥
+way_some D e h = let z : Some D ≡ None = e ∙ ap way_to h in cc
+
+pub its_direction : (D : ℕ) → direction_of (way_to D) ≡ D
+its_direction D = ⊎_elim (λ (h : eqb D stay ≡ true). rw (h, eqb-true D stay h)) (λ (h : eqb D stay ≡ false). rw h) (by_bool (eqb D stay))
 
 -- one more move before the others
 inward_inner : (k moves s : ℕ) (w : Where) → s < 4 → inward (suc k) (4 * moves + s) w ≡ inward k moves (inner s w)
@@ -48,16 +70,28 @@ pub record Turn (n : ℕ) (T : List ℕ) (p level D : ℕ) (node above way moves
   pub high : above < top_level
   pub fits : 4 * moves + mirror_of way q < 4294967296
   pub small : mirror_of way q < 4
-  pub next : Climbed n T p level D (climb_at f (above + 1) (onward_of way q) (4 * moves + mirror_of way q))
+  pub next : Climbed n T p level D f (above + 1) (onward_of way q) (4 * moves + mirror_of way q)
 
 module _ (n : ℕ) (T : List ℕ) (p level D : ℕ) (z : Sought n T p level D) where
-  pub set_out : Climbed n T p level D (climb_at p level D 0)
+  pub set_out : Climbed n T p level D p level D 0
   unfolding inward
   set_out =
       let e : level - level ≡ 0 = omega arith in
       record { node = z.node; low = omega arith; high = refl; way = z.way; few = rw e (omega arith); same = rw e }
 
-  pub turn : (node above way moves q f : ℕ) → Climbed n T p level D (climb_at node above way moves) → (node ≡ 0 → ⊥) → q ≡ son_type T node → f ≡ father T node
+  -- where the code has a direction left
+  pub goes_on : (way : Option ℕ) (q l left moves : ℕ) → (way ≡ way_to (direction_of way)) × Climbed n T p level D q l (direction_of way) moves → way ≡ Some left
+      → (left < stay) × Climbed n T p level D q l left moves
+  goes_on way q l left moves h e =
+      let v = rw e at h.1 in
+      let s = way_some left (rw e at h.0) in
+      (omega (arith, v.way, s), v)
+
+  -- and where it has none
+  pub goes_no_further : (way : Option ℕ) (q l moves : ℕ) → Climbed n T p level D q l (direction_of way) moves → way ≡ None → Climbed n T p level D q l stay moves
+  goes_no_further way q l moves h e = rw e at h
+
+  pub turn : (node above way moves q f : ℕ) → Climbed n T p level D node above way moves → (node ≡ 0 → ⊥) → q ≡ son_type T node → f ≡ father T node
       → Turn n T p level D node above way moves q f
   turn node above way moves q f c up eq ef =
       let acc = z.accepted in
@@ -90,15 +124,23 @@ module _ (n : ℕ) (T : List ℕ) (p level D : ℕ) (z : Sought n T p level D) w
       }
 
   -- nothing lies beside the whole sheet
-  pub none_above : (c : Climb) → Climbed n T p level D c → c.node ≡ 0 → (c.direction ≡ stay → ⊥) → Off ≡ found_in n T level (moved D (path_to T n p))
-  unfolding found_in moved
-  none_above c h e s =
-      let w : moved c.direction (path_to T n c.node) ≡ off = rw (e, path_root T n, moved, ne_eqb c.direction stay s) in
-      rw (h.same, w, inward_off (c.level - level) c.moves, found_in)
+  pub none_above : (q l left moves : ℕ) → Climbed n T p level D q l left moves → q ≡ 0 → (left ≡ stay → ⊥) → moved D (path_to T n p) ≡ off
+  unfolding moved
+  none_above q l left moves h e s =
+      let w : moved left (path_to T n q) ≡ off = rw (e, path_root T n, moved, ne_eqb left stay s) in
+      rw (h.same, w, inward_off (l - level) moves)
+
+  pub none_found : (r : Option Climb) → Ended n T p level D r → r ≡ None → None ≡ found_in n T level (moved D (path_to T n p))
+  unfolding Ended found_in
+  none_found r h e = let z = rw e at h in rw (z, found_in)
+
+  pub some_found : (r : Option Climb) (c : Climb) → Ended n T p level D r → r ≡ Some c → Climbed n T p level D c.node c.level stay c.moves
+  unfolding Ended
+  some_found r c h e = rw e at h
 
   -- from where the climb ended, its moves lead to the block
-  pub leads : (c : Climb) → Climbed n T p level D c → c.direction ≡ stay → back_from n T c level ≡ moved D (path_to T n p)
-  leads c h e = sym (h.same ∙ rw (e, moved_stay (path_to T n c.node)))
+  pub leads : (c : Climb) → Climbed n T p level D c.node c.level stay c.moves → back_from n T c level ≡ moved D (path_to T n p)
+  leads c h = sym (h.same ∙ rw (moved_stay (path_to T n c.node)))
 
 -- a descent under way: at a node, with so many moves left
 pub record Under (n : ℕ) (T : List ℕ) (target : Where) (level node its moves : ℕ) : Type 0 where

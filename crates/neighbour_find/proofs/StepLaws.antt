@@ -1,17 +1,24 @@
 -- What was found, as an outcome, in the code's own values.
-use mathlib.Core.Path.{◌≡◌, ap}
+use Rattle.std.specs.Prelude.{Ok, Err, Option, Some, None, ok_or}
+use Rattle.std.specs.Result.{IsErr, IsErrAnd}
+use mathlib.Core.Path.{◌≡◌, ap, ◌∙◌}
 use Prim.Native.Nat.{ℕ, ◌≤◌}
-use Rattle.answer.specs.declared.Outcome.TheVariants.{Answered}
-use Rattle.answer.specs.Numbers.{with_level}
+use Rattle.answer.specs.declared.Refusal.{Refusal}
+use Rattle.answer.specs.declared.Refusal.TheVariants.{NoBlock}
+use Rattle.answer.specs.Numbers.{Outcome, with_level}
+use Rattle.answer.proofs.OutcomeLaws.{given_back}
 use Rattle.quad.specs.Numbers.{none}
 use Rattle.neighbour.specs.declared.Found.{Found}
-use Rattle.neighbour.specs.declared.Found.TheVariants.{At}
 use Rattle.neighbour.specs.Neighbour.{outcome_of}
 use Rattle.neighbour.specs.Search.{Small}
 
-pub outcome_at : (found : Found) (m l v : ℕ) → found ≡ At m l → v ≡ with_level m l → Answered v ≡ outcome_of found
-outcome_at found m l v e h = rw e (ap Answered h)
+pub outcome_off : (found : Option Found) (r : Outcome) (e : Refusal) → IsErr r × IsErrAnd r (λ x. x ≡ e) → Err e ≡ ok_or found NoBlock → r ≡ outcome_of found
+outcome_off (Some f) r e g h = cc
+outcome_off None r e g h = let z : e ≡ NoBlock = cc in given_back r e g ∙ rw z
 
-pub small_at : (found : Found) (m l : ℕ) → Small found → found ≡ At m l → with_level m l ≤ none
+pub outcome_at : (found : Option Found) (f : Found) (v : ℕ) → found ≡ Some f → v ≡ with_level f.node f.level → Ok v ≡ outcome_of found
+outcome_at found f v h e = rw h (ap Ok e)
+
+pub small_at : (found : Option Found) (f : Found) → Small found → found ≡ Some f → with_level f.node f.level ≤ none
 unfolding Small
-small_at found m l h e = (rw e at h).0
+small_at found f s h = (rw h at s).0

@@ -6,17 +6,14 @@ ghost use Rattle.quad.specs.Direction.{common_side_of};
 ghost use Rattle.table.specs.Table.{nodes};
 ghost use Rattle.table.specs.Rules.{Accepted};
 ghost use Rattle.table.specs.Nodes.{level_of};
-ghost use Rattle.neighbour.specs.Search.{stay, onward_of, mirror_of, found_in, Sought, Climbed, Ended, Descends, back_from};
+ghost use Rattle.neighbour.specs.Search.{stay, way_to, onward_of, mirror_of, found_in, Sought, Ended, Descends, back_from};
 ghost use Rattle.neighbour.specs.Search.{Small};
 ghost use Rattle.neighbour.specs.Neighbour.{neighbour_found, outcome_of};
 ghost use Rattle.neighbour.specs.Calls.{Neighbours};
 
-use answer::Outcome;
+use answer::{Outcome, Refusal};
 use neighbour::{Climb, Found};
 use table_node::{level_of, son_type, word_at};
-
-// After the eight directions: no move.
-const STAY: usize = 8;
 
 // The side that two quadrants share. Asked only where document 000's table defines it.
 fn shared_side(quadrant: usize, corner: usize) -> usize
@@ -26,25 +23,23 @@ fn shared_side(quadrant: usize, corner: usize) -> usize
     quad::common_side(quadrant, corner)
 }
 
-// In which direction from a quadrant's father the block that lies in that direction of the quadrant has its own father.
-fn onward(direction: usize, quadrant: usize) -> usize
+// In which direction from a quadrant's father the block that lies in that direction of the quadrant has its own father;
+// none where that is the quadrant's father too.
+fn onward(direction: usize, quadrant: usize) -> Option<usize>
     requires { (direction < stay) × (quadrant < 4) }
-    ensures { result ≡ onward_of direction quadrant }
+    ensures { result ≡ way_to (onward_of direction quadrant) }
 {
     if direction < 4 {
-        if quad::adj(direction, quadrant) {
-            return direction;
-        }
-        return STAY;
+        return quad::adj(direction, quadrant).then_some(direction);
     }
     let corner = direction - 4;
     if quadrant == quad::opquad(corner) {
-        return STAY;
+        return None;
     }
     if quadrant == corner {
-        return direction;
+        return Some(direction);
     }
-    shared_side(quadrant, corner)
+    Some(shared_side(quadrant, corner))
 }
 
 // Which quadrant of that father it is.
@@ -58,83 +53,70 @@ pub fn mirror(direction: usize, quadrant: usize) -> usize
     quad::opquad(quadrant)
 }
 
-// Up from p, a father link and a level at a time, until the way leads no further than the node itself, or off the
-// sheet.
-fn ascend(n: u32, table: &[u32], p: usize, level: u32, direction: usize) -> Climb
-    requires { Sought n table.now p level direction }
-    ensures { Climbed n table.now p level direction result × Ended result }
+// Up from p, a father link and a level at a time, until the way leads no further than the node itself; none where it
+// leads off the sheet.
+fn ascend(n: u32, table: &[u32], p: usize, level: u32, direction: usize) -> Option<Climb>
+    requires { Sought n table.now p level direction × (direction < stay) }
+    ensures { Ended n table.now p level direction result }
 {
     let mut node = p;
     let mut above = level;
-    let mut way = direction;
+    let mut way = Some(direction);
     let mut moves = 0;
-    while way != STAY {
+    while let Some(ahead) = way {
         if node == 0 {
-            return Climb {
-                node,
-                level: above,
-                direction: way,
-                moves,
-            };
+            return None;
         }
         let quadrant = son_type(table, node);
-        moves = 4 * moves + mirror(way, quadrant);
-        way = onward(way, quadrant);
+        moves = 4 * moves + mirror(ahead, quadrant);
+        way = onward(ahead, quadrant);
         node = word_at(table, node, 0);
         above += 1;
     }
-    Climb {
+    Some(Climb {
         node,
         level: above,
-        direction: way,
         moves,
-    }
+    })
 }
 
 // Back down from where a climb ended, a son link and a level at a time, to that level or the leaf in which the block
 // lies.
 fn descend(n: u32, table: &[u32], from: Climb, level: u32) -> Found
     requires { Descends n table.now from level }
-    ensures { result ≡ found_in n table.now level (back_from n table.now from level) }
+    ensures { Some result ≡ found_in n table.now level (back_from n table.now from level) }
 {
     let mut node = from.node;
     let mut its = from.level;
     let mut moves = from.moves;
     while level < its {
         if word_at(table, node, 5) != quad::FORK {
-            return Found::At { node, level: its };
+            return Found { node, level: its };
         }
         node = word_at(table, node, 1 + moves % 4);
         moves = moves / 4;
         its -= 1;
     }
-    Found::At { node, level: its }
+    Found { node, level: its }
 }
 
 // The neighbour of p and the neighbour's level, from p and p's level.
-pub fn find(n: u32, table: &[u32], p: usize, level: u32, direction: usize) -> Found
+pub fn find(n: u32, table: &[u32], p: usize, level: u32, direction: usize) -> Option<Found>
     requires { Accepted n table.now × (p < nodes table.now) × (level ≡ level_of n table.now p)
         × (direction < stay) }
     ensures { result ≡ neighbour_found n table.now p direction }
 {
-    let top = ascend(n, table, p, level, direction);
-    if top.direction != STAY {
-        return Found::Off;
-    }
-    descend(n, table, top, level)
+    let top = ascend(n, table, p, level, direction)?;
+    Some(descend(n, table, top, level))
 }
 
 // The outcome of a search: the node with its level beside it, or code 20.
-pub fn outcome(found: Found) -> Outcome
+pub fn outcome(found: Option<Found>) -> Outcome
     requires { Small found }
     ensures { result ≡ outcome_of found }
 {
-    let Found::At { node, level } = found else {
-        return Outcome::NoBlock;
-    };
-    Outcome::Answered {
-        value: answer::with_level(node as u32, level),
-    }
+    let found = found.ok_or(Refusal::NoBlock)?;
+    Ok(answer::with_level(found.node as u32, found.level))
 }
 
 // The neighbour of a node in a direction: the smallest node, at least as large, that contains the block of its size
@@ -143,12 +125,9 @@ pub fn outcome(found: Found) -> Outcome
 pub fn neighbour(n: u32, table: &[u32], node: u32, direction: u32) -> Outcome
     ensures { Neighbours n table.now node direction result }
 {
-    let asked = table_check::asked(n, table, node);
-    if !answer::answered(asked) {
-        return asked;
-    }
+    table_check::asked(n, table, node)?;
     if 7 < direction {
-        return Outcome::BadDirection { given: direction };
+        return Err(Refusal::BadDirection { given: direction });
     }
     let level = level_of(n, table, node as usize);
     outcome(find(n, table, node as usize, level, direction as usize))

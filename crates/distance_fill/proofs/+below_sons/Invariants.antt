@@ -1,8 +1,7 @@
 -- `distance_fill::below` and `sons`: a fork's own word, then a son's after the other; a word that is written is right.
--- The measure is twice the level, and one more where a son's nodes around it are still to be found; the loop's, the
--- sons left.
+-- The measure is twice the level, and one more where a son's nodes around it are still to be found.
 use Rattle.distance_fill.proofs.HandedLaws.{Filling}
-use Prim.Native.Nat.{◌+◌, ◌-◌, ◌*◌}
+use Prim.Native.Nat.{◌+◌, ◌*◌}
 use Rattle.distance_fill.proofs.+below_sons.Given as goal
 
 abbrev pub decreases-below : goal.decreases-below
@@ -11,8 +10,5 @@ decreases-below l = 2 * l.level + 1
 abbrev pub decreases-sons : goal.decreases-sons
 decreases-sons l = 2 * l.level
 
-abbrev pub invariant-sons-loop-q : goal.invariant-sons-loop-q
-invariant-sons-loop-q l = Filling l.n l.table l.initial.out l.out l.level l.p l.q
-
-abbrev pub decreases-sons-loop-q : goal.decreases-sons-loop-q
-decreases-sons-loop-q l = 4 - l.q
+abbrev pub invariant-sons-loop-quadrant : goal.invariant-sons-loop-quadrant
+invariant-sons-loop-quadrant l = Filling l.n l.table l.initial.out l.out l.level l.p l.quadrant

@@ -1,16 +1,15 @@
-use Prim.Native.Nat.{◌-◌}
 use native.Mathlib.Omega.{arith}
 use lib.Pow.{pow_pos}
-use Rattle.distance_fill.proofs.AroundLaws.{around_none, around_more, around_zero, around_all, around_white}
+use Rattle.distance_fill.proofs.AroundLaws.{around_none, around_more, around_zero, around_all, around_white, all_nodes}
 use Rattle.distance_fill.proofs.around.Goals as goal
 
 pub some_white-requires : goal.some_white-requires
-some_white-requires c = λ D d. (c.requires.1 D d).node
+some_white-requires c = let s = c in all_nodes s.args.table.now s.args.level s.args.near.now c.told-near c.requires.1
 
 pub returns-then-some_white : goal.returns-then-some_white
 returns-then-some_white c =
     let s = c in
-    around_white s.args.table.now s.args.level s.args.near.now _ c.some_white.ensures c.if-some_white.true
+    around_white s.args.table.now s.args.level s.args.near.now _ c.told-near c.some_white.ensures c.if-some_white.true
 
 pub side-best-requires : goal.side-best-requires
 side-best-requires c = c.requires.0
@@ -36,12 +35,6 @@ bounds-near-direction c = omega arith
 
 pub beside-best-requires : goal.beside-best-requires
 beside-best-requires c = (c.requires.1 c.loop-direction.direction (omega arith), omega arith)
-
-pub overflow_add-direction : goal.overflow_add-direction
-overflow_add-direction c = omega arith
-
-pub loop-direction-smaller : goal.loop-direction-smaller
-loop-direction-smaller c = omega arith
 
 pub loop-direction-preserved : goal.loop-direction-preserved
 loop-direction-preserved c =

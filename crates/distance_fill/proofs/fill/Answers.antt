@@ -5,7 +5,9 @@ use borrow.Author.Tests.{eq-eqb}
 use Rattle.table.proofs.TypeLaws.{told_leaf}
 use Rattle.distance_fill.proofs.AroundLaws.{white_word, root_word}
 use Rattle.distance_fill.proofs.HandedLaws.{root_handed, whole_filled, leaf_filled}
-use borrow.Author.Rules.{rules}
+use mathlib.Core.Path.{◌≡◌}
+use Rattle.distance.specs.Distance.{plain_outside, distance_at}
+use Rattle.distance_fill.proofs.fill.Goals.{then-kind-eq0, else-kind-eq0}
 use Rattle.distance_fill.proofs.fill.Goals as goal
 
 pub sons-requires : goal.sons-requires
@@ -18,12 +20,12 @@ returns-then-kind-eq-FORK c =
     let s = c in
     whole_filled _ _ s.requires.0 s.args.out.now s.requires.1 _ c.sons.ensures
 
-pub returns-then-kind-eq0 : goal.returns-then-kind-eq0
-returns-then-kind-eq0 c =
-    let s = c in
-    leaf_filled _ _ s.requires.0 s.args.out.now s.requires.1 _ (told_leaf s.args.table.now 0 _ c.word_at-kind.ensures c.if-kind-eq-FORK.false) (white_word _ _ _ _ c.word_at-kind.ensures c.if-kind-eq0.true)
-
 pub returns : goal.returns
 returns c =
     let s = c in
-    leaf_filled _ _ s.requires.0 s.args.out.now s.requires.1 _ (told_leaf s.args.table.now 0 _ c.word_at-kind.ensures c.if-kind-eq-FORK.false) (root_word _ _ _ _ c.word_at-kind.ensures s.requires.0 s.requires.0.sized.some c.if-kind-eq0.false c.if-kind-eq-FORK.false refl)
+    let word : c.if-kind-eq0.out ≡ distance_at plain_outside s.args.n s.args.table.now 0 =
+    elim c.if-kind-eq0.branch [
+      | then-kind-eq0 w ↦ w.out-is ∙ white_word _ _ _ _ c.word_at-kind.ensures w.if-kind-eq0.true
+      | else-kind-eq0 w ↦ w.out-is ∙ root_word _ _ _ _ c.word_at-kind.ensures s.requires.0 s.requires.0.sized.some w.if-kind-eq0.false c.if-kind-eq-FORK.false refl
+    ] in
+    leaf_filled _ _ s.requires.0 s.args.out.now s.requires.1 _ (told_leaf s.args.table.now 0 _ c.word_at-kind.ensures c.if-kind-eq-FORK.false) word

@@ -1,4 +1,3 @@
-use Prim.Native.Nat.{◌-◌}
 use native.Mathlib.Omega.{arith}
 use Rattle.distance_fill.proofs.HandedLaws.{filling_none, filling_all, fork_son, filling_pixel}
 use Rattle.distance_fill.proofs.four_pixels.Goals as goal
@@ -11,9 +10,6 @@ bounds-out-p c = omega (arith, c.requires.0.place.node, c.requires.1)
 
 pub loop-q-init : goal.loop-q-init
 loop-q-init c = filling_none _ _ c.args.out.now _ _ c.requires.0 c.requires.1
-
-pub overflow_add-q : goal.overflow_add-q
-overflow_add-q c = omega arith
 
 pub word_at-pixel-requires : goal.word_at-pixel-requires
 word_at-pixel-requires c = (c.requires.0.place.node, omega arith)
@@ -35,12 +31,6 @@ offset_bounds-out-pixel c = omega (arith, fork_son c.requires.0 c.loop-q.q _ (om
 
 pub bounds-out-pixel : goal.bounds-out-pixel
 bounds-out-pixel c = omega (arith, fork_son c.requires.0 c.loop-q.q _ (omega arith) c.word_at-pixel.ensures, c.loop-q.invariant.long)
-
-pub overflow_add-q-in-loop-q : goal.overflow_add-q-in-loop-q
-overflow_add-q-in-loop-q c = omega arith
-
-pub loop-q-smaller : goal.loop-q-smaller
-loop-q-smaller c = omega arith
 
 pub loop-q-preserved : goal.loop-q-preserved
 loop-q-preserved c = filling_pixel c.requires.0 c.loop-q.invariant (omega arith) _ c.word_at-pixel.ensures

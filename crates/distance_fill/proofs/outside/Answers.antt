@@ -1,5 +1,6 @@
-use Prim.Native.Nat.{◌-◌}
 use native.Mathlib.Omega.{arith}
+use mathlib.Core.Path.{◌≡◌}
+use Prim.Native.Nat.{◌-◌}
 use Rattle.distance_fill.proofs.HandedLaws.{land_black, land_last, none_more}
 use Rattle.distance_fill.proofs.outside.Goals as goal
 
@@ -18,12 +19,6 @@ overflow_cast-result c = omega (arith, c.node_count-last.ensures, c.requires.siz
 pub returns-then-word_at-eq-BLACK : goal.returns-then-word_at-eq-BLACK
 returns-then-word_at-eq-BLACK c = land_black _ _ c.requires _ _ (omega (arith, c.node_count-last.ensures)) c.word_at.ensures c.if-word_at-eq-BLACK.true
 
-pub overflow_add-p : goal.overflow_add-p
-overflow_add-p c = omega arith
-
-pub loop-p-smaller : goal.loop-p-smaller
-loop-p-smaller c = omega arith
-
 pub loop-p-preserved : goal.loop-p-preserved
 loop-p-preserved c = (omega arith, none_more c.args.table.now c.loop-p.p c.loop-p.invariant.1 _ c.word_at.ensures c.if-word_at-eq-BLACK.false)
 
@@ -31,4 +26,6 @@ pub overflow_cast-result-2 : goal.overflow_cast-result-2
 overflow_cast-result-2 c = omega (arith, c.node_count-last.ensures, c.requires.sized.few)
 
 pub returns : goal.returns
-returns c = land_last _ _ c.requires _ (omega (arith, c.node_count-last.ensures, c.requires.sized.some, c.loop-p.invariant.0)) c.loop-p.invariant.1
+returns c =
+    let whole : c.node_count-last.result - 1 ≡ c.loop-p.p = omega (arith, c.loop-p.invariant.0) in
+    land_last _ _ c.requires _ (omega (arith, c.node_count-last.ensures, c.requires.sized.some)) (rw whole c.loop-p.invariant.1)

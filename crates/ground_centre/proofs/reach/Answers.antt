@@ -3,4 +3,4 @@ use Rattle.ground_centre.proofs.GroundLaws.{reach_is}
 use Rattle.ground_centre.proofs.reach.Goals as goal
 
 pub returns : goal.returns
-returns c = reach_is _ _
+returns c = reach_is _ _ _ c.from.ensures

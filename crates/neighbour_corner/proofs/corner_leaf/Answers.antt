@@ -3,8 +3,8 @@
 use Rattle.base.proofs.BoolLaws.{on}
 use mathlib.Core.Path.{ap, ◌∙◌}
 use native.Mathlib.Omega.{arith}
-use Rattle.answer.proofs.OutcomeLaws.{thens, then_go}
-use Rattle.table.proofs.CheckLaws.{asked_call}
+use Rattle.answer.proofs.OutcomeLaws.{thens, then_ok}
+use Rattle.table.proofs.CheckLaws.{asked_ok}
 use Rattle.neighbour.specs.Neighbour.{outcome_of, corner_leaf_of}
 use Rattle.neighbour_find.proofs.CallLaws.{bounds, good_within, good_joined}
 use Rattle.neighbour.proofs.CornerLaws.{side_on}
@@ -13,9 +13,9 @@ use borrow.Author.Rules.{rules}
 use mathlib.Core.Bool.{not}
 use Rattle.neighbour_corner.proofs.corner_leaf.Goals as goal
 
-pub returns-then-not-answered : goal.returns-then-not-answered
+pub returns-in_err-asked : goal.returns-in_err-asked
 unfolding corner_leaf_of
-returns-then-not-answered c = search (thens, bounds, rules)
+returns-in_err-asked c = search (thens, bounds, rules)
 
 pub returns-then-side-gt3 : goal.returns-then-side-gt3
 unfolding corner_leaf_of
@@ -32,13 +32,12 @@ returns-then-not-adj c = search (thens, bounds, rules)
 pub leaf_beyond-requires : goal.leaf_beyond-requires
 leaf_beyond-requires c =
     let s = c.args in
-    let k = asked_call _ _ _ _ _ c.asked-asked.ensures c.answered.ensures (ap not c.if-not-answered.false) in
+    let k = asked_ok _ _ _ _ c.in_ok-asked.ensures in
     record { accepted = k.accepted; node = k.node; way = omega arith; corner = omega arith; on = side_on s.side s.corner (omega arith) (on _ _ c.adj.ensures (ap not c.if-not-adj.false)) }
 
 pub outcome-requires : goal.outcome-requires
 outcome-requires c =
-    let t = c in
-    let k = asked_call _ _ _ _ _ t.asked-asked.ensures t.answered.ensures (ap not t.if-not-answered.false) in
+    let k = asked_ok _ _ _ _ c.in_ok-asked.ensures in
     rw c.leaf_beyond.ensures (beside_small _ _ k.accepted _ _ _ _)
 
 pub returns : goal.returns
@@ -46,7 +45,7 @@ unfolding corner_leaf_of
 returns c =
     let t = c in
     let s = t.args in
-    then_go _ _ _ _ t.asked-asked.ensures t.answered.ensures _ (ap not t.if-not-answered.false)
+    then_ok _ _ _ _ t.in_ok-asked.ensures
     (good_within 3 s.side _ _ (omega arith)
     (good_within 3 s.corner _ _ (omega arith)
     (good_joined _ _ _ _ t.adj.ensures _ (ap not t.if-not-adj.false) (c.outcome.ensures ∙ ap outcome_of c.leaf_beyond.ensures))))

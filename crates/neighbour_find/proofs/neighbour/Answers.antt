@@ -2,33 +2,32 @@
 use mathlib.Core.Path.{◌≡◌, ap, ◌∙◌}
 use native.Mathlib.Omega.{arith}
 use Rattle.answer.proofs.OutcomeLaws.{thens}
-use Rattle.table.proofs.CheckLaws.{asked_call}
+use Rattle.table.proofs.CheckLaws.{asked_ok}
 use Rattle.neighbour.specs.Neighbour.{neighbour_found, outcome_of, neighbour_of}
 use Rattle.neighbour_find.proofs.CallLaws.{bounds}
 use Rattle.neighbour.proofs.FoundLaws.{neighbour_small}
 use borrow.Author.Rules.{rules}
-use mathlib.Core.Bool.{not}
 use Rattle.neighbour_find.proofs.neighbour.Goals as goal
 
-pub returns-then-not-answered : goal.returns-then-not-answered
+pub returns-in_err-asked : goal.returns-in_err-asked
 unfolding neighbour_of
-returns-then-not-answered c = search (thens, bounds, rules)
+returns-in_err-asked c = search (thens, bounds, rules)
 
 pub returns-then-direction-gt7 : goal.returns-then-direction-gt7
 unfolding neighbour_of
 returns-then-direction-gt7 c = search (thens, bounds, rules)
 
 pub level_of-level-requires : goal.level_of-level-requires
-level_of-level-requires c = search (asked_call, rules)
+level_of-level-requires c = search (asked_ok, rules)
 
 pub find-requires : goal.find-requires
 find-requires c =
-    let k = asked_call _ _ _ _ _ c.asked-asked.ensures c.answered.ensures (ap not c.if-not-answered.false) in
+    let k = asked_ok _ _ _ _ c.in_ok-asked.ensures in
     (k.accepted, k.node, c.level_of-level.ensures, omega arith)
 
 pub outcome-requires : goal.outcome-requires
 outcome-requires c =
-    let k = asked_call _ _ _ _ _ c.asked-asked.ensures c.answered.ensures (ap not c.if-not-answered.false) in
+    let k = asked_ok _ _ _ _ c.in_ok-asked.ensures in
     rw c.find.ensures (neighbour_small _ _ k.accepted _ _)
 
 pub returns : goal.returns
