@@ -1,10 +1,8 @@
 -- What the call owes for any level, words and slices (document 02, No. 1): the outcome, the numbers and the register.
 -- The register is of words, or of structs: they differ in how an entry is written and in what an entry takes.
-use Rattle.std.specs.Prelude.{true, false, List, ◌≡◌, ℕ, ◌*◌, eqb, length}
+use Rattle.std.specs.Prelude.{Ok, true, false, List, ◌≡◌, ℕ, ◌*◌, eqb, length}
 use Rattle.base.specs.Tab.{sum, overlay}
-use Rattle.answer.specs.declared.Outcome.{Outcome}
-use Rattle.answer.specs.declared.Outcome.TheVariants.{Answered}
-use Rattle.answer.specs.Numbers.{and_then, room, answers}
+use Rattle.answer.specs.Numbers.{Outcome, and_then, room, answers}
 use Rattle.quad.specs.Numbers.{black}
 use Rattle.table.specs.Table.{nodes, node_type}
 use Rattle.table.specs.Rules.{one, each_node_of}
@@ -32,7 +30,7 @@ pub record Finds {A : Type 0} (n : ℕ) (T : List ℕ) (written : List Pond → 
   pub refused : answers (ponds_test n T (length numbers) (wide * black_leaves T) (length reg)) ≡ false
       → (o ≡ ponds_test n T (length numbers) (wide * black_leaves T) (length reg)) × (numbers' ≡ numbers) × (reg' ≡ reg)
   pub answered : answers (ponds_test n T (length numbers) (wide * black_leaves T) (length reg)) ≡ true
-      → (count : ℕ) × (o ≡ Answered count) × Answers n T written reg count numbers' reg'
+      → (count : ℕ) × (o ≡ Ok count) × Answers n T written reg count numbers' reg'
 
 -- the call on words, five for each entry: level, table, the numbers and the register before, the outcome, the numbers
 -- and the register after

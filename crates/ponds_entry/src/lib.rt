@@ -1,10 +1,10 @@
 // An entry of the register, by value and in words.
 #![tactic(auto)]
 
-ghost use Rattle.std.specs.Prelude.{◌≡◌, length, ◌+◌, ◌*◌, ◌≤◌, ◌<◌, min, max};
+ghost use Rattle.std.specs.Prelude.{◌≡◌, length, ◌+◌, ◌*◌, ◌≤◌, ◌<◌};
 ghost use Rattle.ponds_entry.specs.Gathered.{empty_pond, grown_of, Fitting};
 ghost use Rattle.ponds_entry.specs.Words.{pond_at, put_at};
-ghost use Rattle.ponds_entry.specs.Under.{block_from, quarter_of, Parted};
+ghost use Rattle.ponds_entry.specs.Under.{quarter_of, Parted};
 
 use ponds::Pond;
 use table::Block;
@@ -23,25 +23,6 @@ pub fn empty() -> Pond
     }
 }
 
-// The lower and the higher of two numbers.
-pub fn lower(a: u32, b: u32) -> u32
-    ensures { result ≡ min a b }
-{
-    if a < b {
-        return a;
-    }
-    b
-}
-
-pub fn higher(a: u32, b: u32) -> u32
-    ensures { result ≡ max a b }
-{
-    if a < b {
-        return b;
-    }
-    a
-}
-
 // The entry with one block more.
 pub fn grown(e: Pond, b: Block) -> Pond
     requires { Fitting e b }
@@ -52,14 +33,15 @@ pub fn grown(e: Pond, b: Block) -> Pond
     let left = b.column * side;
     Pond {
         pixels: e.pixels + side * side,
-        top: lower(e.top, top),
-        bottom: higher(e.bottom, top + (side - 1)),
-        left: lower(e.left, left),
-        right: higher(e.right, left + (side - 1)),
+        top: e.top.min(top),
+        bottom: e.bottom.max(top + (side - 1)),
+        left: e.left.min(left),
+        right: e.right.max(left + (side - 1)),
     }
 }
 
 // Entry i of the register.
+#[tactic(auto, unfolding(crate::specs::Words::pond_at))]
 pub fn entry_at(reg: &[u32], i: usize) -> Pond
     requires { 5 * i + 5 ≤ length reg.now }
     ensures { result ≡ pond_at reg.now i }
@@ -96,14 +78,14 @@ pub fn grow_at(reg: &mut [u32], i: usize, b: Block)
     put_entry(reg, i, e);
 }
 
-// Quadrant q of the block of that column, row and level.
-pub fn part(column: u32, row: u32, level: u32, q: usize) -> Block
-    requires { Parted (block_from column row level) × (q < 4) }
-    ensures { result ≡ quarter_of (block_from column row level) q }
+// Quadrant q of a block.
+pub fn part(b: Block, q: usize) -> Block
+    requires { Parted b × (q < 4) }
+    ensures { result ≡ quarter_of b q }
 {
     Block {
-        column: 2 * column + (q % 2) as u32,
-        row: 2 * row + (q / 2) as u32,
-        level: level - 1,
+        column: 2 * b.column + (q % 2) as u32,
+        row: 2 * b.row + (q / 2) as u32,
+        level: b.level - 1,
     }
 }

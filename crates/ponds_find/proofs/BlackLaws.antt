@@ -1,4 +1,5 @@
 -- The black leaves are counted node by node; the register has room for as many.
+use Rattle.std.specs.Prelude.{Ok, Err}
 use mathlib.Core.List.{List}
 use mathlib.Core.Path.{◌≡◌, refl}
 use Prim.Native.Nat.{ℕ, suc, ◌+◌, ◌*◌, ◌≤◌, ◌<◌}
@@ -8,7 +9,7 @@ use lib.Dec.{eqb}
 use borrow.Author.Tests.{lt-ltb, le-ltb}
 use Rattle.base.specs.Tab.{sum}
 use Rattle.base.proofs.CaseLaws.{cond_case}
-use Rattle.answer.specs.declared.Outcome.TheVariants.{Answered, NoRoom}
+use Rattle.answer.specs.declared.Refusal.TheVariants.{NoRoom}
 use Rattle.answer.specs.Numbers.{room}
 use Rattle.quad.specs.Numbers.{black}
 use Rattle.table.specs.Table.{nodes, node_type}
@@ -47,11 +48,11 @@ need_few T wide count most w e = mul-le-mul {n₂ = 5} {m₂ = most_black} w (rw
 
 -- the test for room; where there is room for the most that a sheet can have, it passes whatever their count
 module _ (T : List ℕ) (wide have : ℕ) where
-  pub room_for_most : black_leaves T ≤ most_black → wide * most_black ≤ have → Answered 0 ≡ room (wide * black_leaves T) have
+  pub room_for_most : black_leaves T ≤ most_black → wide * most_black ≤ have → Ok 0 ≡ room (wide * black_leaves T) have
   room_for_most most l = rw (le-ltb have (wide * black_leaves T) (le_trans (mul-le-mul_left wide most) l))
 
-  pub no_room : (count : ℕ) → count ≡ black_leaves T → have < wide * count → NoRoom (wide * count) ≡ room (wide * black_leaves T) have
+  pub no_room : (count : ℕ) → count ≡ black_leaves T → have < wide * count → Err (NoRoom (wide * count)) ≡ room (wide * black_leaves T) have
   no_room count e l = rw (← e, lt-ltb have (wide * count) l)
 
-  pub all_passed : (count : ℕ) → count ≡ black_leaves T → wide * count ≤ have → Answered 0 ≡ room (wide * black_leaves T) have
+  pub all_passed : (count : ℕ) → count ≡ black_leaves T → wide * count ≤ have → Ok 0 ≡ room (wide * black_leaves T) have
   all_passed count e l = rw (← e, le-ltb have (wide * count) l)

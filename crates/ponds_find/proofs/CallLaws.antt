@@ -1,6 +1,7 @@
 -- The call, on words and on structs alike: a refusal leaves both slices, an answer fills them, and there is no second
 -- outcome.
-use mathlib.Core.Bool.{Bool, true, false, not, true≢false, false≢true}
+use Rattle.std.specs.Prelude.{Ok, Err}
+use mathlib.Core.Bool.{true, false, true≢false, false≢true}
 use mathlib.Core.List.{List}
 use mathlib.Core.Logic.{⊎_elim}
 use mathlib.Core.Path.{◌≡◌, refl, ap, sym, ◌∙◌}
@@ -11,11 +12,12 @@ use lib.Dec.{eqb}
 use lib.ListN.{length}
 use borrow.Author.Tests.{eqb-true, eqb-false, ltb-false}
 use Rattle.base.specs.Tab.{overlay}
-use Rattle.base.proofs.BoolLaws.{by_bool, on, off}
-use Rattle.answer.specs.declared.Outcome.{Outcome}
-use Rattle.answer.specs.declared.Outcome.TheVariants.{Answered, NoRoom}
-use Rattle.answer.specs.Numbers.{answers, value_of, room}
-use Rattle.answer.proofs.OutcomeLaws.{both_answer, answers_unless}
+use Rattle.base.proofs.BoolLaws.{by_bool}
+use Rattle.std.specs.Result.{IsErr, IsErrAnd}
+use Rattle.answer.specs.declared.Refusal.{Refusal}
+use Rattle.answer.specs.declared.Refusal.TheVariants.{NoRoom}
+use Rattle.answer.specs.Numbers.{Outcome, answers, value_of, room}
+use Rattle.answer.proofs.OutcomeLaws.{refusal_refuses, given_back, both_answer, answers_unless}
 use Rattle.quad.specs.Numbers.{black, fork_type}
 use Rattle.table.specs.Table.{nodes, node_type}
 use Rattle.table.specs.Rules.{each_node_of, Accepted}
@@ -50,70 +52,66 @@ unfolding ponds_test
 passed n T words need have e =
     let h = both_answer (each_node_of n T words) (room need have) e in
     let a = each_node_of_lem n T words h.0 in
-    (a.0, a.1, ltb-false _ _ (answers_unless _ (NoRoom need) refl h.1))
+    (a.0, a.1, ltb-false _ _ (answers_unless _ (Err (NoRoom need)) refl h.1))
 
 -- the tests and the numbering
-module _ (n : ℕ) (T : List ℕ) (wide have : ℕ) (numbers : List ℕ) (s : Outcome) (u : Bool)
-    (e : s ≡ ponds_test n T (length numbers) (wide * black_leaves T) have) (a : u ≡ answers s) where
-  pub not_numbered : not u ≡ true → Finding n T wide have numbers s numbers
-  not_numbered h = record {
-    refused = λ bad. (e, refl);
-    answered = λ good. absurd (false≢true (sym (off u (answers s) a h) ∙ ap answers e ∙ good));
+module _ (n : ℕ) (T : List ℕ) (wide have : ℕ) (numbers : List ℕ) where
+  abbrev tests : Outcome
+  tests = ponds_test n T (length numbers) (wide * black_leaves T) have
+
+  pub not_numbered : (e : Refusal) → Err e ≡ tests → (o : Outcome) → IsErr o × IsErrAnd o (λ x. x ≡ e) → Finding n T wide have numbers o numbers
+  not_numbered e t o g = record {
+    refused = λ bad. (given_back o e g ∙ t, refl);
+    answered = λ good. absurd (false≢true (sym (refusal_refuses e) ∙ ap answers t ∙ good));
   }
 
-  pub passed_call : not u ≡ false → Accepted n T × (length numbers ≡ nodes T) × (wide * black_leaves T ≤ have)
-  passed_call h = passed n T (length numbers) (wide * black_leaves T) have (ap answers (sym e) ∙ on u (answers s) a h)
+  module _ (v : ℕ) (t : Ok v ≡ tests) where
+    pub passed_call : Accepted n T × (length numbers ≡ nodes T) × (wide * black_leaves T ≤ have)
+    passed_call = passed n T (length numbers) (wide * black_leaves T) have (sym (ap answers t))
 
-  pub numbered : not u ≡ false → (count : ℕ) (numbers' : List ℕ) → Numbered n T numbers' count → Finding n T wide have numbers (Answered count) numbers'
-  numbered h count numbers' m =
-      let p = passed_call h in
-      record {
-        refused = λ bad. absurd (false≢true (sym bad ∙ ap answers (sym e) ∙ on u (answers s) a h));
-        answered = λ good. (
-          count,
-          refl,
-          record {
-            numbered = m;
-            filling = numbers_of n T numbers' count p.0 m;
-            room = le_trans (mul-le-mul_left wide (few_ponds n T numbers' count m)) p.2;
-          },
-        );
-      }
+    pub numbered : (count : ℕ) (numbers' : List ℕ) → Numbered n T numbers' count → Finding n T wide have numbers (Ok count) numbers'
+    numbered count numbers' m =
+        let p = passed_call in
+        record {
+          refused = λ bad. absurd (true≢false (ap answers t ∙ bad));
+          answered = λ good. (
+            count,
+            refl,
+            record {
+              numbered = m;
+              filling = numbers_of n T numbers' count p.0 m;
+              room = le_trans (mul-le-mul_left wide (few_ponds n T numbers' count m)) p.2;
+            },
+          );
+        }
 
 -- and the register
-module _ {A : Type 0} (n : ℕ) (T : List ℕ) (written : List Pond → List A) (wide : ℕ) (numbers : List ℕ) (reg : List A) (o : Outcome) (numbers' : List ℕ)
-    (f : Finding n T wide (length reg) numbers o numbers') (u : Bool) (a : u ≡ answers o) where
-  abbrev test : Outcome
-  test = ponds_test n T (length numbers) (wide * black_leaves T) (length reg)
-
-  pub found_none : not u ≡ true → Finds n T written wide numbers reg o numbers' reg
-  found_none h = record {
-    refused = λ e. ((f.refused e).0, (f.refused e).1, refl);
-    answered = λ e. absurd (true≢false (sym (ap answers (f.answered e).1) ∙ off u (answers o) a h));
+module _ {A : Type 0} (n : ℕ) (T : List ℕ) (written : List Pond → List A) (wide : ℕ) (numbers : List ℕ) (reg : List A) (numbers' : List ℕ) where
+  pub found_none : (e : Refusal) → Finding n T wide (length reg) numbers (Err e) numbers' → (o : Outcome) → IsErr o × IsErrAnd o (λ x. x ≡ e)
+      → Finds n T written wide numbers reg o numbers' reg
+  found_none e f o g = record {
+    refused = λ bad. (given_back o e g ∙ (f.refused bad).0, (f.refused bad).1, refl);
+    answered = λ good. absurd (false≢true (sym (refusal_refuses e) ∙ ap answers (f.answered good).1));
   }
 
-  module _ (h : not u ≡ false) where
-    tested : answers test ≡ true
+  module _ (count : ℕ) (f : Finding n T wide (length reg) numbers (Ok count) numbers') where
+    tested : answers (ponds_test n T (length numbers) (wide * black_leaves T) (length reg)) ≡ true
     tested =
         ⊎_elim (λ e. e)
-        (λ (bad : answers test ≡ false). absurd (true≢false (sym (on u (answers o) a h) ∙ ap answers (f.refused bad).0 ∙ bad)))
-        (by_bool (answers test))
+        (λ (bad : answers (ponds_test n T (length numbers) (wide * black_leaves T) (length reg)) ≡ false). absurd (true≢false (ap answers (f.refused bad).0 ∙ bad)))
+        (by_bool (answers (ponds_test n T (length numbers) (wide * black_leaves T) (length reg))))
 
-    is : o ≡ Answered (f.answered tested).0
-    is = (f.answered tested).1
+    counts : Counts n T wide (length reg) numbers' count
+    counts = rw (ap value_of (f.answered tested).1) (f.answered tested).2
 
-    module _ (count : ℕ) (c : count ≡ value_of o) where
-      counts : Counts n T wide (length reg) numbers' count
-      counts = rw (c ∙ ap value_of is) (f.answered tested).2
+    pub found_ready : Numbers n T numbers' count × (wide * count ≤ length reg)
+    found_ready = (counts.filling, counts.room)
 
-      pub found_ready : Numbers n T numbers' count × (wide * count ≤ length reg)
-      found_ready = (counts.filling, counts.room)
-
-      pub found_all : (reg' : List A) → reg' ≡ overlay (written (entries n T numbers' count)) reg → Finds n T written wide numbers reg o numbers' reg'
-      found_all reg' r = record {
-        refused = λ bad. absurd (true≢false (sym tested ∙ bad));
-        answered = λ good. (count, is ∙ ap Answered (sym (c ∙ ap value_of is)), record { numbered = counts.numbered; register = r });
-      }
+    pub found_all : (reg' : List A) → reg' ≡ overlay (written (entries n T numbers' count)) reg → Finds n T written wide numbers reg (Ok count) numbers' reg'
+    found_all reg' r = record {
+      refused = λ bad. absurd (true≢false (sym tested ∙ bad));
+      answered = λ good. (count, refl, record { numbered = counts.numbered; register = r });
+    }
 
 -- no second outcome
 pub one_finding : {A : Type 0} (n : ℕ) (T : List ℕ) (written : List Pond → List A) (wide : ℕ) (numbers : List ℕ) (reg : List A) (o o' : Outcome)
@@ -126,7 +124,7 @@ one_finding n T written wide numbers reg o o' a a' b b' f g =
     let y = g.answered good in
     let acc = (passed n T (length numbers) (wide * black_leaves T) (length reg) good).0 in
     let same = one_numbering n T acc a a' x.0 y.0 x.2.numbered y.2.numbered in (
-      x.1 ∙ ap Answered same.1 ∙ sym y.1,
+      x.1 ∙ ap Ok same.1 ∙ sym y.1,
       same.0,
       x.2.register ∙ ap (λ (m : List ℕ). overlay (written (entries n T m x.0)) reg) same.0
           ∙ ap (λ (c : ℕ). overlay (written (entries n T a' c)) reg) same.1 ∙ sym y.2.register,

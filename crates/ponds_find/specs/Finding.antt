@@ -1,9 +1,7 @@
 -- What the tests and the numbering leave before a register is filled: of the register only its length, `have`, counts.
 -- Inner: no outside call's statement cites it.
-use Rattle.std.specs.Prelude.{true, false, List, ◌≡◌, ℕ, ◌-◌, ◌*◌, ◌^◌, ◌≤◌, length}
-use Rattle.answer.specs.declared.Outcome.{Outcome}
-use Rattle.answer.specs.declared.Outcome.TheVariants.{Answered}
-use Rattle.answer.specs.Numbers.{answers}
+use Rattle.std.specs.Prelude.{Ok, true, false, List, ◌≡◌, ℕ, ◌-◌, ◌*◌, ◌^◌, ◌≤◌, length}
+use Rattle.answer.specs.Numbers.{Outcome, answers}
 use Rattle.quad.specs.Numbers.{top_level}
 use Rattle.ponds_entry.specs.Gathered.{Numbers}
 use Rattle.ponds.specs.Numbered.{Numbered}
@@ -23,4 +21,4 @@ pub record Finding (n : ℕ) (T : List ℕ) (wide have : ℕ) (numbers : List �
   pub refused : answers (ponds_test n T (length numbers) (wide * black_leaves T) have) ≡ false
       → (o ≡ ponds_test n T (length numbers) (wide * black_leaves T) have) × (numbers' ≡ numbers)
   pub answered : answers (ponds_test n T (length numbers) (wide * black_leaves T) have) ≡ true
-      → (count : ℕ) × (o ≡ Answered count) × Counts n T wide have numbers' count
+      → (count : ℕ) × (o ≡ Ok count) × Counts n T wide have numbers' count

@@ -2,7 +2,7 @@
 #![tactic(auto)]
 
 ghost use Rattle.std.specs.Prelude.{◌≡◌, false, ◌*◌, ◌<◌, ◌≤◌, eqb, length};
-ghost use Rattle.answer.specs.Numbers.{room, value_of};
+ghost use Rattle.answer.specs.Numbers.{room};
 ghost use Rattle.quad.specs.Numbers.{black, max_words};
 ghost use Rattle.table.specs.Table.{nodes, node_type, is_fork};
 ghost use Rattle.table.specs.Rules.{one, Accepted};
@@ -10,7 +10,7 @@ ghost use Rattle.ponds.specs.Numbered.{Numbered};
 ghost use Rattle.ponds.specs.Calls.{black_leaves, ponds_test, FindsInWords, FindsInEntries};
 ghost use Rattle.ponds_find.specs.Finding.{most_black, Finding};
 
-use answer::Outcome;
+use answer::{Outcome, Refusal};
 use ponds::Pond;
 use table_node::word_at;
 
@@ -44,10 +44,7 @@ fn one_if_black(table: &[u32], p: usize) -> usize
     requires { p < nodes table.now }
     ensures { result ≡ one (eqb (node_type table.now p) black) }
 {
-    if word_at(table, p, 5) == quad::BLACK {
-        return 1;
-    }
-    0
+    (word_at(table, p, 5) == quad::BLACK) as usize
 }
 
 // How many leaves are black.
@@ -55,12 +52,9 @@ fn black_leaves(table: &[u32]) -> usize
     requires { length table.now ≤ max_words }
     ensures { result ≡ black_leaves table.now }
 {
-    let all = table_node::node_count(table);
     let mut count = 0;
-    let mut p = 0;
-    while p < all {
+    for p in 0..table_node::node_count(table) {
         count += one_if_black(table, p);
-        p += 1;
     }
     count
 }
@@ -72,15 +66,15 @@ fn room_for(table: &[u32], wide: usize, have: usize) -> Outcome
     ensures { result ≡ room (wide * black_leaves table.now) have }
 {
     if wide * MOST_BLACK <= have {
-        return Outcome::Answered { value: 0 };
+        return Ok(0);
     }
     let need = wide * black_leaves(table);
     if have < need {
-        return Outcome::NoRoom {
+        return Err(Refusal::NoRoom {
             needed: need as u32,
-        };
+        });
     }
-    Outcome::Answered { value: 0 }
+    Ok(0)
 }
 
 // The tests in their order: 1, 2 (table first), 3, 4, 5, and 9 where the register of `have` elements is too short for
@@ -89,10 +83,7 @@ fn test(n: u32, table: &[u32], words: usize, wide: usize, have: usize) -> Outcom
     requires { wide ≤ 5 }
     ensures { result ≡ ponds_test n table.now words (wide * black_leaves table.now) have }
 {
-    let tested = table_check::each_node(n, table, words);
-    if !answer::answered(tested) {
-        return tested;
-    }
+    table_check::each_node(n, table, words)?;
     room_for(table, wide, have)
 }
 
@@ -102,19 +93,8 @@ fn numbered(n: u32, table: &[u32], numbers: &mut [u32], wide: usize, have: usize
     requires { wide ≤ 5 }
     ensures { Finding n table.now wide have numbers.old result numbers.new }
 {
-    let tested = test(n, table, numbers.len(), wide, have);
-    if !answer::answered(tested) {
-        return tested;
-    }
-    let count = number(n, table, numbers);
-    Outcome::Answered { value: count }
-}
-
-// How many ponds were found.
-fn count_of(found: Outcome) -> usize
-    ensures { result ≡ value_of found }
-{
-    answer::value(found) as usize
+    test(n, table, numbers.len(), wide, have)?;
+    Ok(number(n, table, numbers))
 }
 
 // The ponds of a sheet, for any level, words and slices: one number for each node, and a register of five words for
@@ -123,12 +103,9 @@ pub fn in_words(n: u32, table: &[u32], numbers: &mut [u32], reg: &mut [u32]) -> 
     ensures { FindsInWords n table.now numbers.old reg.old result
         numbers.new reg.new }
 {
-    let found = numbered(n, table, numbers, 5, reg.len());
-    if !answer::answered(found) {
-        return found;
-    }
-    ponds_register::fill(n, table, numbers, reg, count_of(found));
-    found
+    let count = numbered(n, table, numbers, 5, reg.len())?;
+    ponds_register::fill(n, table, numbers, reg, count as usize);
+    Ok(count)
 }
 
 // The ponds' numbers, with a register of structs, one for each pond, in place of words.
@@ -136,9 +113,7 @@ pub fn in_entries(n: u32, table: &[u32], numbers: &mut [u32], reg: &mut [Pond]) 
     ensures { FindsInEntries n table.now numbers.old reg.old result
         numbers.new reg.new }
 {
-    let found = numbered(n, table, numbers, 1, reg.len());
-    if answer::answered(found) {
-        ponds_entries::fill(n, table, numbers, reg, count_of(found));
-    }
-    found
+    let count = numbered(n, table, numbers, 1, reg.len())?;
+    ponds_entries::fill(n, table, numbers, reg, count as usize);
+    Ok(count)
 }

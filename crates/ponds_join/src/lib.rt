@@ -6,7 +6,7 @@ ghost use Rattle.ponds_sets.specs.Walk.{Facing, Meets, Nexts};
 ghost use Rattle.ponds_sets.specs.Touch.{first_nonzero, black_of, Touching, LabelsAs, one_if_nonzero, differ_of};
 ghost use Rattle.ponds_sets.specs.Sets.{Asking, Led, Shorter, Joining, Joined};
 
-// From this number on a word is a leader's.
+// From this number on a word is a leader's. It stays a number: the words are lent by the caller, and there is no other memory.
 pub const LEADING: u32 = 2147483648;
 
 // The leader of p's set: where the words from p end.
@@ -53,43 +53,35 @@ fn join(words: &mut [u32], p: u32, q: u32)
 }
 
 // The first of two numbers that is not 0.
+#[tactic(auto, unfolding(ponds_sets::specs::Touch::first_nonzero))]
 pub fn first_nonzero(a: u32, b: u32) -> u32
     ensures { result ≡ first_nonzero a b }
 {
-    if a == 0 {
-        return b;
-    }
-    a
+    if a == 0 { b } else { a }
 }
 
 // A number for a black leaf's type, else 0.
+#[tactic(auto, unfolding(ponds_sets::specs::Touch::black_of))]
 fn black_of(kind: usize, a: u32) -> u32
     ensures { result ≡ black_of kind a }
 {
-    if kind == quad::BLACK {
-        return a;
-    }
-    0
+    if kind == quad::BLACK { a } else { 0 }
 }
 
 // 1 for a number that is not 0, else 0.
+#[tactic(auto, unfolding(ponds_sets::specs::Touch::one_if_nonzero))]
 fn one_if_nonzero(a: u32) -> usize
     ensures { (result ≡ one_if_nonzero a) × (result ≤ 1) }
 {
-    if a == 0 {
-        return 0;
-    }
-    1
+    (a != 0) as usize
 }
 
 // 1 for two labels that differ, else 0.
+#[tactic(auto, unfolding(ponds_sets::specs::Touch::differ_of))]
 pub fn apart(a: u32, b: u32) -> usize
     ensures { (result ≡ differ_of a b) × (result ≤ 1) }
 {
-    if a == b {
-        return 0;
-    }
-    1
+    (a != b) as usize
 }
 
 // The label of leaf p: of those north and west of its top left pixel the first that is not 0, or p itself; 0 for a

@@ -1,12 +1,12 @@
 -- From no leaf placed to all of them: the root's block is the sheet.
-use mathlib.Core.Bool.{true, false, true≢false}
+use mathlib.Core.Bool.{true, true≢false}
 use mathlib.Core.List.{List, []}
 use mathlib.Core.Logic.{inl, inr}
 use mathlib.Core.Path.{◌≡◌, refl, sym, ◌∙◌}
-use Prim.Native.Nat.{ℕ, zero, suc, ◌+◌, ◌-◌, ◌≤◌, ◌<◌}
+use Prim.Native.Nat.{ℕ, zero, suc, ◌+◌, ◌-◌, ◌<◌}
 use native.Mathlib.Omega.{arith}
-use lib.ListN.{length, get_or, set, length-set, replicate}
-use lib.Seq.{get_or-set_same, get_or-set_other}
+use lib.ListN.{get_or, replicate}
+use Rattle.std.proofs.lemmas.List.{length-replicate}
 use borrow.Author.Tests.{eqb-true}
 use Rattle.quad.specs.Numbers.{black, fork_type}
 use Rattle.quad.specs.Block.{column, row}
@@ -20,24 +20,11 @@ use Rattle.neighbour.proofs.SideLaws.{on_sheet}
 use Rattle.ponds.specs.Chain.{Water, Chain, end, link}
 use Rattle.ponds.specs.Words.{word_of}
 use Rattle.ponds.proofs.ChainLaws.{chain_start}
-use Rattle.ponds.proofs.NodeLaws.{last_or_before}
 use Rattle.ponds_sets.specs.Sets.{leading, Placed, Begins, Bare, Dark, as_before, none, marked}
 use Rattle.ponds_sets.specs.Lines.{Has, across}
 use Rattle.ponds_sets.specs.Walk.{Coming, Gone, Goes}
-use Rattle.ponds_sets.specs.Labelled.{Labelled, Cleared}
+use Rattle.ponds_sets.specs.Labelled.{Labelled}
 use Rattle.ponds_sets.proofs.PlaceLaws.{has_contains, contains_has, has_moved, own_pixel}
-
-pub clear_none : (W : List ℕ) → Cleared W W 0
-clear_none W = record { long = refl; zero = λ i l. absurd (omega (arith, l)) }
-
-pub clear_more : {W W' : List ℕ} {p : ℕ} → Cleared W W' p → p < length W' → Cleared W (set W' p 0) (p + 1)
-clear_more {W} {W'} {p} c l = record {
-  long = length-set W' p 0 ∙ c.long;
-  zero = λ i h. last_or_before i p h (λ e. rw e (get_or-set_same W' p 0 0 l)) (λ b. get_or-set_other W' p i 0 0 (λ e. omega (arith, e, b)) ∙ c.zero i b);
-}
-
-pub clear_all : {W W' : List ℕ} {p : ℕ} → Cleared W W' p → length W' ≤ p → Cleared W W' (length W)
-clear_all c l = record { long = c.long; zero = λ i h. c.zero i (omega (arith, h, c.long, l)) }
 
 -- the root's path is empty
 root_path : (T : List ℕ) (n : ℕ) → path_to T n 0 ≡ []
@@ -57,9 +44,9 @@ dark_cases (as_before e) z a b = a (e ∙ z)
 dark_cases (none e) z a b = a e
 dark_cases (marked k e h) z a b = b k e h
 
-module _ {n : ℕ} {T W₀ W : List ℕ} (acc : Accepted n T) (long : length W₀ ≡ nodes T) (f : is_fork T 0 ≡ true) (c : Cleared W₀ W (length W₀)) where
+module _ {n : ℕ} {T W : List ℕ} (acc : Accepted n T) (f : is_fork T 0 ≡ true) (c : W ≡ replicate (nodes T) 0) where
   zeros : (i : ℕ) → i < nodes T → word_of W i ≡ 0
-  zeros i l = c.zero i (omega (arith, l, long))
+  zeros i l = rw c (get_d_zeros (nodes T) i)
 
   -- nothing is placed
   unplaced : {A : Type 0} (i : ℕ) → Placed T W i → A
@@ -75,7 +62,7 @@ module _ {n : ℕ} {T W₀ W : List ℕ} (acc : Accepted n T) (long : length W�
     lead = λ i. i;
     sets = record {
       accepted = acc;
-      each = c.long ∙ long;
+      each = rw c (length-replicate (nodes T) 0);
       root = f;
       own = λ i h. unplaced i h;
       on = λ i h. unplaced i h;
@@ -142,7 +129,7 @@ module _ {n : ℕ} {T W₀ W : List ℕ} (acc : Accepted n T) (long : length W�
     }
 
 -- in the code's own values
-pub lead_labelled : {n : ℕ} {T W₀ W L : List ℕ} → Accepted n T → length W₀ ≡ nodes T → is_fork T 0 ≡ true → Cleared W₀ W (length W₀) → L ≡ replicate 256 0
+pub lead_labelled : {n : ℕ} {T W L : List ℕ} → Accepted n T → is_fork T 0 ≡ true → W ≡ replicate (nodes T) 0 → L ≡ replicate 256 0
     → (W' L' : List ℕ) (r : ℕ) → Goes T W L 0 0 0 n W' L' r → Labelled n T W'
 unfolding lead_coming
-lead_labelled {L = L} acc long f c e W' L' r g = all_labelled acc long f c W' L' r L (g (lead_coming acc long f c L e))
+lead_labelled {L = L} acc f c e W' L' r g = all_labelled acc f c W' L' r L (g (lead_coming acc f c L e))

@@ -453,6 +453,10 @@ node_of_son z f q q4 c e = (rw e (son_at z.at f q q4).node, omega arith)
 pub corner_bounds : {T W L : List ℕ} {p x y l : ℕ} → Coming T W L p x y l → (x < across) × (y < across)
 corner_bounds z = rw (z.left, z.top) at (has_across z.sets.accepted (own_pixel _ z.at.node))
 
+-- four pixels lie on the sheet
+pub pixels_room : {T W L : List ℕ} {p x y : ℕ} → Coming T W L p x y 1 → is_fork T p ≡ true → (x + 2 ≤ across) × (y + 2 ≤ across)
+pixels_room z f = let k = room z f 1 0 refl refl in (omega (arith, k.0), omega (arith, k.1))
+
 -- the quadrants' offsets are small
 pub parts_few : (q : ℕ) → q < 4 → (side : ℕ) → side ≤ across → (q % 2 * side ≤ across) × (q / 2 * side ≤ across)
 parts_few =

@@ -9,14 +9,16 @@ use lib.Seq.{get_or-set_same, get_or-set_other}
 use borrow.Author.Tests.{eq-eqb}
 use Rattle.quad.specs.Numbers.{fork_type}
 use Rattle.table.specs.Table.{son, node_type, is_fork}
+use Rattle.table.specs.Links.{four_sons}
 use Rattle.table.proofs.AcceptedLaws.{fork_above, son_at}
+use Rattle.table.proofs.SonsLaws.{son_read}
 use Rattle.ponds.proofs.NodeLaws.{same_or_not}
 use Rattle.ponds_sets.specs.Lines.{across}
 use Rattle.ponds_sets.specs.Touch.{first_nonzero, one_if_own, Touching, LabelsAs}
 use Rattle.ponds_sets.specs.Walk.{LinesFilled, written, Coming, Goes, ToLeaf, PastLeaf}
 use Rattle.ponds_sets.proofs.TouchLaws.{nonzero_second}
 use Rattle.ponds_sides.proofs.LeafLaws.{leaf_touching, leaf_touched, pixel_past, filled_one}
-use Rattle.ponds_leaf.proofs.ForkLaws.{room, Firsts, firsts_none, first_other, son_leaf, firsts_leaf, firsts_still}
+use Rattle.ponds_leaf.proofs.ForkLaws.{pixels_room, Firsts, firsts_none, first_other, son_leaf, firsts_leaf, firsts_still}
 
 -- a fork of four pixels
 module _ (T W L : List ℕ) (p x y : ℕ) (f : is_fork T p ≡ true) (c₀ c₁ c₂ c₃ : ℕ) (e₀ : c₀ ≡ son T p 0) (e₁ : c₁ ≡ son T p 1) (e₂ : c₂ ≡ son T p 2) (e₃ : c₃ ≡ son T p 3) where
@@ -140,11 +142,37 @@ module _ (L : List ℕ) (x y b c d : ℕ) (long : length L ≡ 2 * across) (lx :
   written_rest : (i : ℕ) → (i ≡ x → ⊥) → (i ≡ x + 1 → ⊥) → (i ≡ across + y → ⊥) → (i ≡ across + y + 1 → ⊥) → get_or (written L x y b c d) i 0 ≡ get_or L i 0
   written_rest i s t u v = late i u v ∙ get_or-set_other A (x + 1) i d 0 t ∙ get_or-set_other L x i c 0 s
 
-module _ (T W L : List ℕ) (p x y : ℕ) (f : is_fork T p ≡ true) (c₀ c₁ c₂ c₃ : ℕ) (e₀ : c₀ ≡ son T p 0) (e₁ : c₁ ≡ son T p 1) (e₂ : c₂ ≡ son T p 2)
-    (e₃ : c₃ ≡ son T p 3) (k₀ k₁ k₂ k₃ : ℕ) (t₀ : k₀ ≡ node_type T c₀) (t₁ : k₁ ≡ node_type T c₁) (t₂ : k₂ ≡ node_type T c₂) (t₃ : k₃ ≡ node_type T c₃) (place : ℕ)
-    (ep : place ≡ across * y + x) (z : Coming T W L p x y 1) where
-  pub four_room : (x + 1 < across) × (y + 1 < across)
-  four_room = let k = room z f 1 0 refl refl in (omega (arith, k.0), omega (arith, k.1))
+-- the sons as they are read, and what the lines tell before them
+module _ (T W L : List ℕ) (p x y : ℕ) (f : is_fork T p ≡ true) (sons : List ℕ) (es : sons ≡ four_sons T p) (k₀ k₁ k₂ k₃ : ℕ) (t₀ : k₀ ≡ node_type T (get_or sons 0 0))
+    (t₁ : k₁ ≡ node_type T (get_or sons 1 0)) (t₂ : k₂ ≡ node_type T (get_or sons 2 0)) (t₃ : k₃ ≡ node_type T (get_or sons 3 0)) (n₀ n₁ w₀ w₁ : ℕ) (en₀ : n₀ ≡ get_or L x 0)
+    (en₁ : n₁ ≡ get_or L (x + 1) 0) (ew₀ : w₀ ≡ get_or L (across + y) 0) (ew₁ : w₁ ≡ get_or L (across + (y + 1)) 0) (place : ℕ) (ep : place ≡ across * y + x)
+    (z : Coming T W L p x y 1) where
+  abbrev c₀ : ℕ
+  c₀ = get_or sons 0 0
+
+  abbrev c₁ : ℕ
+  c₁ = get_or sons 1 0
+
+  abbrev c₂ : ℕ
+  c₂ = get_or sons 2 0
+
+  abbrev c₃ : ℕ
+  c₃ = get_or sons 3 0
+
+  e₀ : c₀ ≡ son T p 0
+  e₀ = son_read T p sons es 0 (omega arith)
+
+  e₁ : c₁ ≡ son T p 1
+  e₁ = son_read T p sons es 1 (omega arith)
+
+  e₂ : c₂ ≡ son T p 2
+  e₂ = son_read T p sons es 2 (omega arith)
+
+  e₃ : c₃ ≡ son T p 3
+  e₃ = son_read T p sons es 3 (omega arith)
+
+  four_room : (x + 1 < across) × (y + 1 < across)
+  four_room = let k = pixels_room z f in (omega (arith, k.0), omega (arith, k.1))
 
   lx : x + 1 < across
   lx = four_room.0
@@ -152,10 +180,10 @@ module _ (T W L : List ℕ) (p x y : ℕ) (f : is_fork T p ≡ true) (c₀ c₁ 
   ly : y + 1 < across
   ly = four_room.1
 
-  pub touching_first : Touching W k₀ c₀ (get_or L x 0) (get_or L (across + y) 0) place
-  touching_first = leaf_touching (four_first T W L p x y f c₀ c₁ c₂ c₃ e₀ e₁ e₂ e₃ z k₀ k₁ k₂ k₃ t₀ t₁ t₂ t₃) _ _ _ refl refl ep
+  pub touching_first : Touching W k₀ c₀ n₀ w₀ place
+  touching_first = leaf_touching (four_first T W L p x y f c₀ c₁ c₂ c₃ e₀ e₁ e₂ e₃ z k₀ k₁ k₂ k₃ t₀ t₁ t₂ t₃) _ _ _ en₀ ew₀ ep
 
-  module _ (W₁ : List ℕ) (a : ℕ) (h₀ : LabelsAs W k₀ c₀ (get_or L x 0) (get_or L (across + y) 0) place W₁ a) where
+  module _ (W₁ : List ℕ) (a : ℕ) (h₀ : LabelsAs W k₀ c₀ n₀ w₀ place W₁ a) where
     abbrev L₁ : List ℕ
     L₁ = after L x y a
 
@@ -166,20 +194,20 @@ module _ (T W L : List ℕ) (p x y : ℕ) (f : is_fork T p ≡ true) (c₀ c₁ 
     long₁ = F₁.long ∙ z.long
 
     g₀ : PastLeaf W L k₀ c₀ 1 x y W₁ L₁ (one_if_own a c₀)
-    g₀ = pixel_touched z.long (omega (arith, lx)) (omega (arith, ly)) _ _ place refl refl ep W₁ a h₀
+    g₀ = pixel_touched z.long (omega (arith, lx)) (omega (arith, ly)) _ _ place en₀ ew₀ ep W₁ a h₀
 
     -- what the second pixel asks for is told by the lines after the first
-    north₁ : get_or L (x + 1) 0 ≡ get_or L₁ (x + 1) 0
-    north₁ = sym (F₁.rest (x + 1) (λ s t. omega (arith, t)) (λ s t. omega (arith, s, lx)))
+    north₁ : n₁ ≡ get_or L₁ (x + 1) 0
+    north₁ = en₁ ∙ sym (F₁.rest (x + 1) (λ s t. omega (arith, t)) (λ s t. omega (arith, s, lx)))
 
     west₁ : a ≡ get_or L₁ (across + y) 0
     west₁ = sym (F₁.west y (omega arith) (omega arith))
 
-    pub touching_second : Touching W₁ k₁ c₁ (get_or L (x + 1) 0) a (place + 1)
+    pub touching_second : Touching W₁ k₁ c₁ n₁ a (place + 1)
     touching_second =
         leaf_touching (four_second T W L p x y f c₀ c₁ c₂ c₃ e₀ e₁ e₂ e₃ z k₀ k₁ k₂ k₃ t₀ t₁ t₂ t₃ W₁ L₁ (one_if_own a c₀) g₀) _ _ _ north₁ west₁ (omega (arith, ep))
 
-    module _ (W₂ : List ℕ) (b : ℕ) (h₁ : LabelsAs W₁ k₁ c₁ (get_or L (x + 1) 0) a (place + 1) W₂ b) where
+    module _ (W₂ : List ℕ) (b : ℕ) (h₁ : LabelsAs W₁ k₁ c₁ n₁ a (place + 1) W₂ b) where
       abbrev L₂ : List ℕ
       L₂ = after L₁ (x + 1) y b
 
@@ -195,20 +223,19 @@ module _ (T W L : List ℕ) (p x y : ℕ) (f : is_fork T p ≡ true) (c₀ c₁ 
       north₂ : a ≡ get_or L₂ x 0
       north₂ = sym (F₂.rest x (λ s t. omega (arith, s)) (λ s t. omega (arith, s, lx)) ∙ F₁.north x (omega arith) (omega arith))
 
-      west₂ : get_or L (across + y + 1) 0 ≡ get_or L₂ (across + (y + 1)) 0
+      west₂ : w₁ ≡ get_or L₂ (across + (y + 1)) 0
       west₂ =
-          let e : across + y + 1 ≡ across + (y + 1) = omega arith in
-          ap (λ (i : ℕ). get_or L i 0) e
+          ew₁
           ∙ sym
           (F₂.rest (across + (y + 1)) (λ s t. omega (arith, t, lx)) (λ s t. omega (arith, t))
           ∙ F₁.rest (across + (y + 1)) (λ s t. omega (arith, t, lx)) (λ s t. omega (arith, t)))
 
-      pub touching_third : Touching W₂ k₂ c₂ a (get_or L (across + y + 1) 0) (place + across)
+      pub touching_third : Touching W₂ k₂ c₂ a w₁ (place + across)
       touching_third =
           leaf_touching (four_third T W L p x y f c₀ c₁ c₂ c₃ e₀ e₁ e₂ e₃ z k₀ k₁ k₂ k₃ t₀ t₁ t₂ t₃ W₁ L₁ (one_if_own a c₀) g₀ W₂ L₂ (one_if_own b c₁) g₁) _ _ _ north₂ west₂
           (omega (arith, ep))
 
-      module _ (W₃ : List ℕ) (c : ℕ) (h₂ : LabelsAs W₂ k₂ c₂ a (get_or L (across + y + 1) 0) (place + across) W₃ c) where
+      module _ (W₃ : List ℕ) (c : ℕ) (h₂ : LabelsAs W₂ k₂ c₂ a w₁ (place + across) W₃ c) where
         abbrev L₃ : List ℕ
         L₃ = after L₂ x (y + 1) c
 

@@ -9,7 +9,7 @@ ghost use Rattle.ponds_pixels.specs.Four.{present_of, either_of, alike_of, grown
 ghost use Rattle.ponds_entry.specs.Under.{block_from, Entering, Entered, Theirs};
 
 use ponds::Pond;
-use ponds_entry::{entry_at, grow_at, higher, lower, part, put_entry};
+use ponds_entry::{entry_at, grow_at, part, put_entry};
 use table::Block;
 use table_node::word_at;
 
@@ -41,23 +41,19 @@ fn son_number(table: &[u32], numbers: &[u32], p: usize, q: usize) -> u32
 }
 
 // 1 for a pixel that has a number, 0 for one that has none.
+#[tactic(auto, unfolding(crate::specs::Four::present_of))]
 fn present(number: u32) -> u32
     ensures { (result ≡ present_of number) × (result ≤ 1) }
 {
-    if number == 0 {
-        return 0;
-    }
-    1
+    (number != 0) as u32
 }
 
 // 1 where one of two pixels has a number, else 0.
+#[tactic(auto, unfolding(crate::specs::Four::either_of, crate::specs::Four::present_of))]
 fn either(a: u32, b: u32) -> u32
     ensures { (result ≡ either_of a b) × (result ≤ 1) }
 {
-    if a == 0 {
-        return present(b);
-    }
-    1
+    (a != 0 || b != 0) as u32
 }
 
 // Whether those of four pixels that have a number all have this one, which is their greatest: so many times it is their
@@ -76,10 +72,10 @@ fn grown_four(e: Pond, column: u32, row: u32, nw: u32, ne: u32, sw: u32, se: u32
 {
     Pond {
         pixels: e.pixels + (present(nw) + present(ne) + present(sw) + present(se)),
-        top: lower(e.top, 2 * row + 1 - either(nw, ne)),
-        bottom: higher(e.bottom, 2 * row + either(sw, se)),
-        left: lower(e.left, 2 * column + 1 - either(nw, sw)),
-        right: higher(e.right, 2 * column + either(ne, se)),
+        top: e.top.min(2 * row + 1 - either(nw, ne)),
+        bottom: e.bottom.max(2 * row + either(sw, se)),
+        left: e.left.min(2 * column + 1 - either(nw, sw)),
+        right: e.right.max(2 * column + either(ne, se)),
     }
 }
 
@@ -112,10 +108,15 @@ fn pass_four(
     ensures { Entered table.now numbers.now p (block_from column row 1) reg.old
         reg.new }
 {
-    pass_number(reg, nw, part(column, row, 1, 0));
-    pass_number(reg, ne, part(column, row, 1, 1));
-    pass_number(reg, sw, part(column, row, 1, 2));
-    pass_number(reg, se, part(column, row, 1, 3));
+    let b = Block {
+        column,
+        row,
+        level: 1,
+    };
+    pass_number(reg, nw, part(b, 0));
+    pass_number(reg, ne, part(b, 1));
+    pass_number(reg, sw, part(b, 2));
+    pass_number(reg, se, part(b, 3));
 }
 
 // The four pixels under a fork are entered, and at once where all that have a number have the same one.
@@ -129,7 +130,7 @@ pub fn pass_pixels(table: &[u32], numbers: &[u32], reg: &mut [u32], p: usize, co
     let ne = son_number(table, numbers, p, 1);
     let sw = son_number(table, numbers, p, 2);
     let se = son_number(table, numbers, p, 3);
-    let number = higher(higher(nw, ne), higher(sw, se));
+    let number = nw.max(ne).max(sw.max(se));
     if number == 0 {
         return;
     }

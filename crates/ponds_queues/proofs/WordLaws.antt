@@ -13,7 +13,7 @@ use Rattle.base.proofs.BoolLaws.{by_bool, lt_or_ge}
 use Rattle.quad.specs.Numbers.{top_level}
 use Rattle.ponds.specs.Words.{word_of}
 use Rattle.ponds_sets.specs.Sets.{leading}
-use Rattle.ponds_queues.specs.Words.{Ends, leads_to, steps_of, Traced, next_of, Settled, Finishing, Finished}
+use Rattle.ponds_queues.specs.Words.{Ends, leads_to, steps_of, Traced, next_of, Settled}
 
 pub same_or : (p q : ℕ) → (p ≡ q) ⊎ (p ≡ q → ⊥)
 same_or p q = ⊎_elim (λ e. inl (eqb-true p q e)) (λ e. inr (eqb-false p q e)) (by_bool (eqb p q))
@@ -144,25 +144,3 @@ pub record Writing (before W : List ℕ) (p : ℕ) : Type 0 where
   pub long : length W ≡ length before
   pub done : (q : ℕ) → q < p → q < length before → word_of W q ≡ word_of before q - leading
   pub rest : (q : ℕ) → p ≤ q → word_of W q ≡ word_of before q
-
-pub writing_none : (W : List ℕ) → Writing W W 0
-writing_none W = record { long = refl; done = λ q l. absurd (omega arith); rest = λ q l. refl }
-
-pub writing_more : {B W : List ℕ} {p : ℕ} → p < length B → Writing B W p → Writing B (set W p (word_of W p - leading)) (p + 1)
-writing_more {B} {W} {p} lt s =
-    let v : ℕ = word_of W p - leading in
-    record {
-      long = length-set W p v ∙ s.long;
-      done = λ q l lq.
-          ⊎_elim
-          (λ (z : q ≡ p). rw z (get_or-set_same W p v 0 (omega (arith, s.long)) ∙ ap (λ (w : ℕ). w - leading) (s.rest p (omega arith))))
-          (λ (z : q ≡ p → ⊥). get_or-set_other W p q v 0 z ∙ s.done q (omega arith) lq)
-          (same_or q p);
-      rest = λ q l. get_or-set_other W p q v 0 (λ z. omega arith) ∙ s.rest q (omega arith);
-    }
-
-pub writing_all : {B W : List ℕ} {p : ℕ} → length B ≤ p → Writing B W p → Finished B W
-writing_all le s = record { long = s.long; all = λ q l. s.done q (omega arith) l }
-
-pub writing_high : {B W : List ℕ} {p : ℕ} → Finishing B → p < length B → Writing B W p → leading ≤ word_of W p
-writing_high {p = p} f lt s = omega (arith, s.rest p (omega arith), f p lt)

@@ -11,23 +11,19 @@ use table_node::word_at;
 pub const ROWS: usize = 128;
 
 // A leader's word becomes the next leader in its row, any other stays.
+#[tactic(auto, unfolding(crate::specs::Queues::linked_of))]
 fn linked(word: u32, next: u32) -> u32
     ensures { result ≡ linked_of word next }
 {
-    if word < LEADING {
-        return word;
-    }
-    next
+    if word < LEADING { word } else { next }
 }
 
 // The head of a row's queue once p, whose word this is, has gone there if it leads.
+#[tactic(auto, unfolding(crate::specs::Queues::head_of))]
 fn head(word: u32, p: u32, first: u32) -> u32
     ensures { result ≡ head_of word p first }
 {
-    if word < LEADING {
-        return first;
-    }
-    p
+    if word < LEADING { first } else { p }
 }
 
 // Leaf p goes before the first of a row's queue where it leads. Gives the first one then. No branch depends on whether
@@ -68,19 +64,14 @@ pub fn stand_fork(
         words.new rows.new }
 {
     let half = level - 1;
-    let mut left: usize = 4;
-    while 0 < left {
-        let q = left - 1;
+    for q in (0..4).rev() {
         let son = word_at(table, p, 1 + q);
         let top = y + (q / 2 << half);
-        left = q;
         if word_at(table, son, 5) == quad::FORK {
             if half == 1 {
                 stand_pixels(&*table, words, rows, son, top);
-            } else {
-                if words[son] == 0 {
-                    stand_fork(&*table, words, rows, son, half, top);
-                }
+            } else if words[son] == 0 {
+                stand_fork(&*table, words, rows, son, half, top);
             }
         } else {
             rows[top] = stand(words, son, rows[top]);

@@ -32,23 +32,19 @@ fn count_rows(words: &mut [u32], rows: &[u32; ROWS], side: usize) -> u32
     requires { Rows words.old rows.now side }
     ensures { RowsOff words.old rows.now side result words.new }
 {
-    let mut y = 0;
     let mut count = 0;
-    while y < side {
-        count = count_row(words, rows[y], count);
-        y += 1;
+    for first in &rows[..side] {
+        count = count_row(words, *first, count);
     }
     count
 }
 
 // The node to look at first on p's way: that of its word, or p itself where the word is a leader's.
+#[tactic(auto, unfolding(ponds_queues::specs::Words::next_of))]
 fn next(word: u32, p: usize) -> usize
     ensures { result ≡ next_of word p }
 {
-    if word < LEADING {
-        return word as usize;
-    }
-    p
+    if word < LEADING { word as usize } else { p }
 }
 
 // The leader's word that a word leads to.
@@ -69,12 +65,11 @@ fn settle(words: &mut [u32])
     requires { Ending words.old }
     ensures { Settled words.old words.new }
 {
-    let mut p = 0;
-    while p < words.len() {
+    for p in 0..words.len() {
         let one = next(words[p], p);
         let two = next(words[one], one);
-        words[p] = follow(words, words[two]);
-        p += 1;
+        let word = words[two];
+        words[p] = follow(words, word);
     }
 }
 
@@ -83,10 +78,8 @@ fn finish(words: &mut [u32])
     requires { Finishing words.old }
     ensures { Finished words.old words.new }
 {
-    let mut p = 0;
-    while p < words.len() {
-        words[p] -= LEADING;
-        p += 1;
+    for word in words.iter_mut() {
+        *word -= LEADING;
     }
 }
 

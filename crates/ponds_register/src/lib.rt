@@ -6,7 +6,7 @@ ghost use Rattle.base.specs.Tab.{overlay};
 ghost use Rattle.table.specs.Table.{is_fork};
 ghost use Rattle.ponds.specs.Entries.{entries, words_of};
 ghost use Rattle.ponds_entry.specs.Gathered.{empty_pond, Numbers};
-ghost use Rattle.ponds_entry.specs.Under.{block_from, Entering, Entered};
+ghost use Rattle.ponds_entry.specs.Under.{Entering, Entered};
 
 use ponds_entry::{empty, part, put_entry};
 use ponds_pixels::{pass, pass_pixels};
@@ -15,33 +15,21 @@ use table_node::word_at;
 
 // Adds the leaves under a fork, whose block is given, to the entries of their numbers. A fork of four pixels is done in
 // its father's loop.
-fn pass_fork(
-    table: &[u32],
-    numbers: &[u32],
-    reg: &mut [u32],
-    p: usize,
-    column: u32,
-    row: u32,
-    level: u32,
-)
-    requires { Entering table.now numbers.now p (block_from column row level) reg.old
-        × (is_fork table.now p ≡ true) }
-    ensures { Entered table.now numbers.now p (block_from column row level)
-        reg.old reg.new }
+fn pass_fork(table: &[u32], numbers: &[u32], reg: &mut [u32], p: usize, b: Block)
+    requires { Entering table.now numbers.now p b reg.old × (is_fork table.now p ≡ true) }
+    ensures { Entered table.now numbers.now p b reg.old reg.new }
 {
     let sons = table_node::four_sons(table, p);
     let kinds = table_node::four_types(table, p);
-    let mut q = 0;
-    while q < 4 {
+    for q in 0..4 {
         let son = sons[q];
         let kind = kinds[q];
-        let its = part(column, row, level, q);
-        q += 1;
+        let its = part(b, q);
         if kind == quad::FORK {
             if its.level == 1 {
                 pass_pixels(table, numbers, reg, son, its.column, its.row);
             } else {
-                pass_fork(&*table, &*numbers, reg, son, its.column, its.row, its.level);
+                pass_fork(&*table, &*numbers, reg, son, its);
             }
         } else {
             pass(numbers, reg, son, its);
@@ -54,10 +42,8 @@ fn clear(reg: &mut [u32], count: usize)
     requires { 5 * count ≤ length reg.old }
     ensures { reg.new ≡ overlay (words_of (replicate count empty_pond)) reg.old }
 {
-    let mut i = 0;
-    while i < count {
+    for i in 0..count {
         put_entry(reg, i, empty());
-        i += 1;
     }
 }
 
@@ -69,14 +55,14 @@ pub fn fill(n: u32, table: &[u32], numbers: &[u32], reg: &mut [u32], count: usiz
         reg.old }
 {
     clear(reg, count);
-    if word_at(table, 0, 5) == quad::FORK {
-        pass_fork(table, numbers, reg, 0, 0, 0, n);
-        return;
-    }
     let sheet = Block {
         column: 0,
         row: 0,
         level: n,
     };
-    pass(numbers, reg, 0, sheet);
+    if word_at(table, 0, 5) == quad::FORK {
+        pass_fork(table, numbers, reg, 0, sheet);
+    } else {
+        pass(numbers, reg, 0, sheet);
+    }
 }

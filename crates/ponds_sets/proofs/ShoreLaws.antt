@@ -5,8 +5,11 @@ use Prim.Native.Nat.{ℕ, ◌+◌, ◌-◌, ◌*◌, ◌≤◌, ◌<◌}
 use native.Mathlib.Omega.{arith}
 use lib.ListN.{length, get_or, set, length-set}
 use lib.Seq.{get_or-set_same, get_or-set_other}
+use lib.Dec.{eqb}
 use lib.Pow.{pow_pos}
+use mir.Val.{bool_byte}
 use borrow.Author.Tests.{ne_eqb}
+use Rattle.quad.specs.Numbers.{black}
 use Rattle.ponds.specs.Chain.{Water, Shares, Chain, link}
 use Rattle.ponds.proofs.ChainLaws.{chain_joined}
 use Rattle.ponds.proofs.NodeLaws.{same_or_not, last_or_before}
@@ -162,6 +165,10 @@ module _ {W L : List ℕ} {label x y side : ℕ} where
     pub side_some : 1 ≤ side
     side_some = rw z.power (pow_pos z.l)
 
+    -- so the sides lie on the sheet
+    pub shore_room : (x + side ≤ across) × (y + side ≤ across)
+    shore_room = let m = shore_bounds (side - 1) (omega (arith, side_some)) in (omega (arith, m.0, side_some), omega (arith, m.1, side_some))
+
     -- what the lines tell beyond pixel k
     north_edge : (k : ℕ) → k < side → Edge z.n z.T W z.lead z.p y (x + k) (y - 1) (get_or L (x + k) 0)
     north_edge k l = record {
@@ -198,16 +205,16 @@ module _ {W L : List ℕ} {label x y side : ℕ} where
       to_second : Further z.n z.T W z.lead W₂ a.lead'
       to_second = further_on s.further a.further
 
-      second_edge : (u : ℕ) → u ≡ get_or L (across + y + k) 0 → Edge z.n z.T W₂ a.lead' z.p x (x - 1) (y + k) u
-      second_edge u eu = let e : across + y + k ≡ across + (y + k) = omega arith in rw (eu, e) (edge_still to_second (west_edge z k lt))
+      second_edge : (u : ℕ) → u ≡ get_or L (across + (y + k)) 0 → Edge z.n z.T W₂ a.lead' z.p x (x - 1) (y + k) u
+      second_edge u eu = rw eu (edge_still to_second (west_edge z k lt))
 
-      second_facing : (u : ℕ) → u ≡ get_or L (across + y + k) 0 → Facing W₂ label u
+      second_facing : (u : ℕ) → u ≡ get_or L (across + (y + k)) 0 → Facing W₂ label u
       second_facing u eu = edge_facing to_second.sets (label_still to_second z.own) (second_edge u eu)
 
-      second_met : (u c : ℕ) → u ≡ get_or L (across + y + k) 0 → c ≡ get_or L (across + y + k - 1) 0 → (W₃ : List ℕ) → Nexts W₂ label u c W₃
+      second_met : (u c : ℕ) → u ≡ get_or L (across + (y + k)) 0 → c ≡ get_or L (across + (y + k - 1)) 0 → (W₃ : List ℕ) → Nexts W₂ label u c W₃
           → EdgeMet z.n z.T W₂ a.lead' z.p x (x - 1) (y + k) W₃
       second_met u c eu ec W₃ m =
-          let here : across + y + k - 1 ≡ across + (y + (k - 1)) = omega (arith, some) in
+          let here : y + k - 1 ≡ y + (k - 1) = omega (arith, some) in
           edge_next to_second.sets (label_still to_second z.own) (second_edge u eu) c
           (λ same.
           edge_before z.sets (rw (same, ec, here) (west_edge z (k - 1) (omega (arith, lt, some))).line) to_second
@@ -220,11 +227,11 @@ module _ {W L : List ℕ} {label x y side : ℕ} where
     north_facing z = first_facing z k some lt (h.shored z) v ev
 
     -- and of the west side
-    module _ (b : ℕ) (eb : b ≡ get_or L (x + k - 1) 0) (W₂ : List ℕ) (m : Nexts W₁ label v b W₂) (u : ℕ) (eu : u ≡ get_or L (across + y + k) 0) where
+    module _ (b : ℕ) (eb : b ≡ get_or L (x + k - 1) 0) (W₂ : List ℕ) (m : Nexts W₁ label v b W₂) (u : ℕ) (eu : u ≡ get_or L (across + (y + k)) 0) where
       pub west_facing : Shore W L label x y side → Facing W₂ label u
       west_facing z = second_facing z k some lt (h.shored z) (first_met z k some lt (h.shored z) v b ev eb W₂ m) u eu
 
-      pub shore_more : (c : ℕ) → c ≡ get_or L (across + y + k - 1) 0 → (W₃ : List ℕ) → Nexts W₂ label u c W₃ → Shores W L label x y side (k + 1) W₃
+      pub shore_more : (c : ℕ) → c ≡ get_or L (across + (y + k - 1)) 0 → (W₃ : List ℕ) → Nexts W₂ label u c W₃ → Shores W L label x y side (k + 1) W₃
       shore_more c ec W₃ n₃ = record {
         long = next_long n₃ ∙ next_long m ∙ h.long;
         alike = λ i e. next_alike n₃ i (next_alike m i (h.alike i e));
@@ -236,30 +243,39 @@ module _ {W L : List ℕ} {label x y side : ℕ} where
 pub shore_all : {W L W' : List ℕ} {label x y side i : ℕ} → Shores W L label x y side i W' → i ≤ side → side ≤ i → Shores W L label x y side side W'
 shore_all {side = side} {i} h a b = let e : i ≡ side = omega arith in rw e at h
 
--- a leaf of two by two pixels: the second pixel of the north side, and then that of the west side
-before : (L : List ℕ) (i : ℕ) → get_or L i 0 ≡ get_or L (i + 1 - 1) 0
-before L i = let e : i ≡ i + 1 - 1 = omega arith in ap (λ (k : ℕ). get_or L k 0) e
-
-pub two_north : {W L : List ℕ} {label x y : ℕ} → Shore W L label x y 2 → Facing W label (get_or L (x + 1) 0)
-two_north {W} z = north_facing 1 W (omega arith) (omega arith) shore_start _ refl z
-
-module _ {W L W₂ : List ℕ} {label x y : ℕ} (m : Nexts W label (get_or L (x + 1) 0) (get_or L x 0) W₂) where
-  pub two_west : Shore W L label x y 2 → Facing W₂ label (get_or L (across + y + 1) 0)
-  two_west z = west_facing 1 W (omega arith) (omega arith) shore_start _ refl _ (before L x) W₂ m _ refl z
-
-  pub two_shores : (W₃ : List ℕ) → Nexts W₂ label (get_or L (across + y + 1) 0) (get_or L (across + y) 0) W₃ → Shores W L label x y 2 2 W₃
-  two_shores W₃ m₂ = shore_more 1 W (omega arith) (omega arith) shore_start _ refl _ (before L x) W₂ m _ refl _ (before L (across + y)) W₃ m₂
-
 apart_none : (a b r : ℕ) → r ≡ differ_of a b → r ≡ 0 → a ≡ b
 apart_none a b r e z = same_or_not a b (λ s. s) (λ ne. absurd (omega (arith, apart_is a b r e ne, z)))
 
-pub two_quiet : {W L : List ℕ} {kind label x y a b : ℕ} → a ≡ differ_of (get_or L (x + 1) 0) (get_or L x 0)
-    → b ≡ differ_of (get_or L (across + y + 1) 0) (get_or L (across + y) 0) → 2 * kind + a + b ≤ 2 → Sides kind W L label x y 2 W
-two_quiet {W} {a = a} {b = b} ea eb few = record {
+-- a leaf of two by two pixels: the second pixel of the north side, and then that of the west side
+pub two_north : {W L : List ℕ} {label x y n₁ : ℕ} → n₁ ≡ get_or L (x + 1) 0 → Shore W L label x y 2 → Facing W label n₁
+two_north {W} a₁ z = north_facing 1 W (omega arith) (omega arith) shore_start _ a₁ z
+
+before : (L : List ℕ) (x v : ℕ) → v ≡ get_or L x 0 → v ≡ get_or L (x + 1 - 1) 0
+before L x v a = let e : x + 1 - 1 ≡ x = omega arith in rw e a
+
+module _ {W L W₂ : List ℕ} {label x y n₀ n₁ w₁ : ℕ} (a₀ : n₀ ≡ get_or L x 0) (a₁ : n₁ ≡ get_or L (x + 1) 0) (m : Nexts W label n₁ n₀ W₂) (b₁ : w₁ ≡ get_or L (across + (y + 1)) 0) where
+  pub two_west : Shore W L label x y 2 → Facing W₂ label w₁
+  two_west z = west_facing 1 W (omega arith) (omega arith) shore_start _ a₁ _ (before L x n₀ a₀) W₂ m _ b₁ z
+
+  pub two_shores : (w₀ : ℕ) → w₀ ≡ get_or L (across + y) 0 → (W₃ : List ℕ) → Nexts W₂ label w₁ w₀ W₃ → Shores W L label x y 2 2 W₃
+  two_shores w₀ b₀ W₃ m₂ =
+      let e : across + (y + 1 - 1) ≡ across + y = omega arith in
+      shore_more 1 W (omega arith) (omega arith) shore_start _ a₁ _ (before L x n₀ a₀) W₂ m _ b₁ _ (rw e b₀) W₃ m₂
+
+pub two_quiet : {W L : List ℕ} {kind label x y n₀ n₁ w₀ w₁ a b : ℕ} → n₀ ≡ get_or L x 0 → n₁ ≡ get_or L (x + 1) 0 → w₀ ≡ get_or L (across + y) 0 → w₁ ≡ get_or L (across + (y + 1)) 0
+    → a ≡ differ_of n₁ n₀ → b ≡ differ_of w₁ w₀ → 2 * bool_byte (eqb kind black) + a + b ≤ 2 → Sides kind W L label x y 2 W
+two_quiet {W} {kind = kind} {w₀ = w₀} {a = a} {b = b} a₀ a₁ b₀ b₁ ea eb few = record {
   wet = λ wet.
-      two_shores (next_none (apart_none _ _ a ea (omega (arith, few, wet)))) W (next_none (apart_none _ _ b eb (omega (arith, few, wet))));
+      let f : 2 * bool_byte (eqb black black) + a + b ≤ 2 = rw wet at few in
+      two_shores a₀ a₁ (next_none (apart_none _ _ a ea (omega (arith, f)))) b₁ w₀ b₀ W (next_none (apart_none _ _ b eb (omega (arith, f))));
   dry = λ z. refl;
 }
+
+-- where the three numbers are more than two, the leaf is black
+pub two_wet : {kind a b : ℕ} → a ≤ 1 → b ≤ 1 → 2 < 2 * bool_byte (eqb kind black) + a + b → kind ≡ black
+two_wet {kind} {a} {b} la lb many =
+    same_or_not kind black (λ e. e)
+    (λ ne. let f : 2 < 2 * 0 + a + b = rw (ne_eqb kind black ne) at many in absurd (omega (arith, f, la, lb)))
 
 -- the lines filled
 pub fill_none : (L : List ℕ) (label x y : ℕ) → LinesFilled L label x y 0 L
@@ -294,17 +310,6 @@ module _ {L L' : List ℕ} {label x y i : ℕ} (h : LinesFilled L label x y i L'
             ∙ h.rest j (λ p q. a p (omega (arith, q))) (λ p q. b p (omega (arith, q)));
       }
 
-pub fill_two_lem : (L : List ℕ) (label x y : ℕ) → length L ≡ 2 * across → x + 2 ≤ across → y + 2 ≤ across
-    → LinesFilled L label x y 2 (set (set (set (set L x label) (across + y) label) (x + 1) label) (across + y + 1) label)
-fill_two_lem L label x y long lx ly =
-    let ex : x + 0 ≡ x = omega arith in
-    let ey : across + y + 0 ≡ across + y = omega arith in
-    let one = fill_more (fill_none L label x y) long (omega (arith, lx)) (omega (arith, ly)) in
-    rw (ex, ey) at (fill_more one long (omega (arith, lx)) (omega (arith, ly)))
-
-pub fill_all : {L L' : List ℕ} {label x y side i : ℕ} → LinesFilled L label x y i L' → i ≤ side → side ≤ i → LinesFilled L label x y side L'
-fill_all {side = side} {i} h a b = let e : side ≡ i = omega arith in rw e h
-
 -- nothing of another set along the sides: then they have been met as they are
 pub no_other : (v label r : ℕ) → r ≡ one_if_other v label → r ≡ 0 → (v ≡ 0 → ⊥) → v ≡ label
 unfolding one_if_other
@@ -312,22 +317,7 @@ no_other v label r e z some =
     same_or_not v label (λ s. s)
     (λ ne. let f : r ≡ 1 = rw (ne_eqb v 0 some, ne_eqb v label ne) at e in absurd (omega (arith, f, z)))
 
-pub quiet_none : (L : List ℕ) (label from : ℕ) → Quiet L label from 0 0
-quiet_none L label from = record { few = omega arith; same = λ z i l. absurd (omega (arith, l)) }
-
-pub quiet_more : {L : List ℕ} {label from i r : ℕ} → Quiet L label from i r → (o : ℕ) → o ≡ one_if_other (get_or L (from + i) 0) label → o ≤ 1 → Quiet L label from (i + 1) (r + o)
-quiet_more {L} {label} {from} {i} {r} q o e le = record {
-  few = omega (arith, q.few, le);
-  same = λ z k l some.
-      last_or_before k i l
-      (λ ek. let f : get_or L (from + i) 0 ≡ label = no_other (get_or L (from + i) 0) label o e (omega (arith, z)) (λ u. some (rw ek u)) in rw ek f)
-      (λ before. q.same (omega (arith, z)) k before some);
-}
-
-pub quiet_all : {L : List ℕ} {label from side i r : ℕ} → Quiet L label from i r → i ≤ side → side ≤ i → Quiet L label from side r
-quiet_all {side = side} {i} q a b = let e : i ≡ side = omega arith in rw e at q
-
-module _ {W L : List ℕ} {label x y side a b : ℕ} (qa : Quiet L label x side a) (qb : Quiet L label (across + y) side b) (none : a + b ≡ 0) where
+module _ {W L : List ℕ} {label x y side : ℕ} (qa : Quiet L label x side 0) (qb : Quiet L label (across + y) side 0) where
   pub quiet_shores : Shores W L label x y side side W
   quiet_shores = record {
     long = refl;
@@ -338,12 +328,12 @@ module _ {W L : List ℕ} {label x y side a b : ℕ} (qa : Quiet L label x side 
       along = record {
         north = λ i l e j w h.
             let t = ((north_edge z i l).line.on e).wet j w h in
-            let s = qa.same (omega (arith, none)) i l (not_root z.sets (get_or L (x + i) 0) t.label.water) in
+            let s = qa.same refl i l (not_root z.sets (get_or L (x + i) 0) t.label.water) in
             (t.leaf, sym t.one ∙ ap z.lead s ∙ z.own.one);
         west = λ i l e j w h.
             let t = ((west_edge z i l).line.on e).wet j w h in
             let f : across + y + i ≡ across + (y + i) = omega arith in
-            let s = qb.same (omega (arith, none)) i l (λ o. not_root z.sets (get_or L (across + (y + i)) 0) t.label.water (rw f at o)) in
+            let s = qb.same refl i l (λ o. not_root z.sets (get_or L (across + (y + i)) 0) t.label.water (rw f at o)) in
             (t.leaf, sym t.one ∙ ap z.lead (rw f at s) ∙ z.own.one);
       };
     };

@@ -1,6 +1,6 @@
 -- What the walk leaves: every black leaf is placed, two have one leader exactly when a chain joins them, and a leader
 -- holds the first pixel of its set by rows. A fork that is marked has no leader under it.
-use Rattle.std.specs.Prelude.{true, false, List, ◌⊎◌, ◌≡◌, ℕ, ◌<◌, length}
+use Rattle.std.specs.Prelude.{true, false, List, ◌⊎◌, ◌≡◌, ℕ, ◌<◌}
 use Rattle.quad.specs.Numbers.{black}
 use Rattle.table.specs.Table.{nodes, node_type, is_fork}
 use Rattle.table.specs.Nodes.{left_of, top_of, level_of}
@@ -20,8 +20,3 @@ pub record Labelled (n : ℕ) (T W : List ℕ) : Type 0 where
   pub dry : (i : ℕ) → i < nodes T → (node_type T i ≡ black → ⊥) → (word_of W i ≡ 0) ⊎ (word_of W i ≡ leading)
   pub one : (p q : ℕ) → Chain n T p q → lead p ≡ lead q
   pub marks : Marks n T W
-
--- the words W' are as many as W, and the first k of them are 0
-pub record Cleared (W W' : List ℕ) (k : ℕ) : Type 0 where
-  pub long : length W' ≡ length W
-  pub zero : (i : ℕ) → i < k → word_of W' i ≡ 0

@@ -1,6 +1,5 @@
 -- `ponds_find::one_leaf`: the one word.
 use native.Mathlib.Omega.{arith}
-use borrow.Author.Rules.{rules}
 use Rattle.ponds_find.proofs.OneLeafLaws.{black_one, leaf_numbered}
 use Rattle.ponds_find.proofs.one_leaf.Goals as goal
 

@@ -1,6 +1,4 @@
 -- `ponds_join::join`: two leaders, and the one that begins later put under the other.
-use native.Mathlib.Omega.{arith}
-use lib.ListN.{length-set}
 use borrow.Author.Rules.{rules}
 use Rattle.ponds_join.proofs.JoinLaws.{second_asking, one_already, first_within, second_within, first_under, second_under}
 use Rattle.ponds_join.proofs.join.Goals as goal

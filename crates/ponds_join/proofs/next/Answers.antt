@@ -1,5 +1,4 @@
 -- `ponds_join::next`: nothing, or two sets joined.
-use borrow.Author.Rules.{rules}
 use Rattle.ponds_sets.proofs.ShoreLaws.{next_none, next_met}
 use Rattle.ponds_join.proofs.next.Goals as goal
 

@@ -1,8 +1,7 @@
 -- `ponds_join::touch`: p's own word, and the sets beside it joined where both are black leaves' and differ. Assumes
 -- nothing.
 use native.Mathlib.Omega.{arith}
-use borrow.Author.Rules.{rules}
-use Rattle.ponds_sets.proofs.TouchLaws.{place_few, kind_few, set_long, touch_joining, touched_joined, touched_plain}
+use Rattle.ponds_sets.proofs.TouchLaws.{place_few, kind_few, touch_joining, touched_joined, touched_plain}
 use Rattle.ponds_join.proofs.touch.Goals as goal
 
 pub overflow_add-place : goal.overflow_add-place

@@ -1,15 +1,16 @@
 -- `ponds_labels::lead`: nothing placed, and then all under the root.
-use mathlib.Core.Path.{refl}
+use mathlib.Core.Path.{◌≡◌}
 use borrow.Author.Rules.{rules}
+use lib.ListN.{length, replicate}
 use Rattle.ponds_labels.proofs.LeadLaws.{lead_coming, lead_labelled}
 use Rattle.ponds_labels.proofs.lead.Goals as goal
 
 pub fork-requires : goal.fork-requires
 fork-requires c =
-    let s = c in
-    (lead_coming s.requires.0 s.requires.1 s.requires.2 c.clear.ensures _ refl, s.requires.2)
+    let e : c.fill.new.self ≡ replicate (length c.args.words.now) 0 = search rules in
+    (lead_coming c.requires.0 c.requires.2 (rw c.requires.1 at e) _ c.new-lines.ensures, c.requires.2)
 
 pub returns : goal.returns
 returns c =
-    let s = c in
-    lead_labelled s.requires.0 s.requires.1 s.requires.2 c.clear.ensures refl _ _ _ c.fork.ensures
+    let e : c.fill.new.self ≡ replicate (length c.args.words.now) 0 = search rules in
+    lead_labelled c.requires.0 c.requires.2 (rw c.requires.1 at e) c.new-lines.ensures _ _ _ c.fork.ensures

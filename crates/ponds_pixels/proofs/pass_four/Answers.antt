@@ -1,7 +1,6 @@
 -- `ponds_pixels::pass_four`: pixel by pixel.
 use native.Mathlib.Omega.{arith}
 use Rattle.ponds_pixels.proofs.UnderLaws.{gained_none, parted, pixel_passing, pixel_gained, gained_all}
-use borrow.Author.Rules.{rules}
 use Rattle.ponds_pixels.proofs.pass_four.Goals as goal
 
 pub part-requires : goal.part-requires

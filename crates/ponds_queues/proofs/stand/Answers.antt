@@ -1,6 +1,5 @@
 -- `ponds_queues::stand`: by the two callees.
 use Rattle.ponds_queues.proofs.QueueLaws.{stood}
-use borrow.Author.Rules.{rules}
 use Rattle.ponds_queues.proofs.stand.Goals as goal
 
 pub returns : goal.returns

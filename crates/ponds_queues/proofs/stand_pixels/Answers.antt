@@ -3,7 +3,6 @@ use Prim.Native.Nat.{◌+◌}
 use native.Mathlib.Omega.{arith}
 use lib.ListN.{set}
 use Rattle.ponds_queues.proofs.SonLaws.{part_none, pixel_room, pixel_more, south_row, second_more, part_all}
-use borrow.Author.Rules.{rules}
 use Rattle.ponds_queues.proofs.stand_pixels.Goals as goal
 
 pub overflow_add-y : goal.overflow_add-y

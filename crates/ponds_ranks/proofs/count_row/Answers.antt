@@ -1,5 +1,3 @@
-use mathlib.Core.Path.{sym, ◌∙◌}
-use Prim.Native.Nat.{◌-◌}
 use native.Mathlib.Omega.{arith}
 use Rattle.ponds_ranks.proofs.CountLaws.{rowing_none, rowing_all, going_node, going_less, going_more}
 use Rattle.ponds_queues.proofs.QueueLaws.{words_few}

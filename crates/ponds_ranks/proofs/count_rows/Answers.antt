@@ -1,31 +1,27 @@
-use mathlib.Core.Path.{refl}
-use Prim.Native.Nat.{◌-◌}
+use mathlib.Core.Path.{◌≡◌}
+use Prim.Native.Nat.{◌<◌}
 use native.Mathlib.Omega.{arith}
+use lib.ListN.{length, take}
+use Rattle.std.proofs.lemmas.List.{length-take-le, get_or-take}
 use Rattle.ponds_ranks.proofs.CountLaws.{rowings_none, rowings_row, rowings_more, rowings_all}
 use Rattle.ponds_ranks.proofs.count_rows.Goals as goal
 
-pub loop-y-init : goal.loop-y-init
-loop-y-init c = (omega arith, rowings_none)
-
-pub offset_bounds-rows-y : goal.offset_bounds-rows-y
-offset_bounds-rows-y c = omega (arith, c.requires.within, c.loop-y-test.true)
-
-pub bounds-rows-y : goal.bounds-rows-y
-bounds-rows-y c = omega (arith, c.requires.within, c.loop-y-test.true)
+pub loop-first-init : goal.loop-first-init
+loop-first-init c = rowings_none
 
 pub count_row-count-requires : goal.count_row-count-requires
-count_row-count-requires c = rowings_row c.loop-y.invariant.1 c.loop-y-test.true _ refl c.requires
+count_row-count-requires c =
+    let e : length (take c.args.side c.args.rows.now) ≡ c.args.side = length-take-le _ _ (omega (arith, c.requires.within, c.told-rows)) in
+    let l : c.loop-first.first-index < c.args.side = omega (arith, e, c.loop-first-test.true) in
+    rowings_row c.loop-first.invariant l _ (get_or-take _ _ _ 0 l) c.requires
 
-pub overflow_add-y : goal.overflow_add-y
-overflow_add-y c = omega (arith, c.requires.within, c.loop-y-test.true)
-
-pub loop-y-smaller : goal.loop-y-smaller
-loop-y-smaller c = omega (arith, c.loop-y-test.true)
-
-pub loop-y-preserved : goal.loop-y-preserved
-loop-y-preserved c =
-    let s = c in
-    (omega (arith, s.loop-y-test.true), rowings_more c.loop-y.invariant.1 s.loop-y-test.true _ refl _ _ c.count_row-count.ensures)
+pub loop-first-preserved : goal.loop-first-preserved
+loop-first-preserved c =
+    let e : length (take c.args.side c.args.rows.now) ≡ c.args.side = length-take-le _ _ (omega (arith, c.requires.within, c.told-rows)) in
+    let l : c.loop-first.first-index < c.args.side = omega (arith, e, c.loop-first-test.true) in
+    rowings_more c.loop-first.invariant l _ (get_or-take _ _ _ 0 l) _ _ c.count_row-count.ensures
 
 pub returns : goal.returns
-returns c = rowings_all c.loop-y.invariant.1 c.loop-y.invariant.0 c.loop-y-test.false
+returns c =
+    let e : length (take c.args.side c.args.rows.now) ≡ c.args.side = length-take-le _ _ (omega (arith, c.requires.within, c.told-rows)) in
+    rowings_all c.loop-first.invariant (omega (arith, e, c.loop-first.auto.first-index-end)) (omega (arith, e, c.loop-first-test.false))

@@ -1,11 +1,6 @@
--- `ponds_ranks::finish`: the mark is taken off the words before p. The measure is the words left.
-use Prim.Native.Nat.{◌-◌, ◌≤◌}
-use lib.ListN.{length}
+-- `ponds_ranks::finish`: the mark is taken off the words before this one.
 use Rattle.ponds_queues.proofs.WordLaws.{Writing}
 use Rattle.ponds_ranks.proofs.finish.Given as goal
 
-abbrev pub invariant-loop-p : goal.invariant-loop-p
-invariant-loop-p l = (l.p ≤ length l.initial.words) × Writing l.initial.words l.words l.p
-
-abbrev pub decreases-loop-p : goal.decreases-loop-p
-decreases-loop-p l = length l.initial.words - l.p
+abbrev pub invariant-loop-word : goal.invariant-loop-word
+invariant-loop-word l = Writing l.initial.words l.words l.word-index

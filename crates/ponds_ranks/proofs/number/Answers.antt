@@ -1,6 +1,5 @@
 -- `ponds_ranks::number`: the queues, the leaders counted off, the words settled and the mark taken off. Assumes
 -- nothing.
-use mathlib.Core.Path.{sym, ◌∙◌}
 use Rattle.ponds_ranks.proofs.RankLaws.{root_reached, all_queued, rows_asked, counted_off, full_ending, full_finishing, full_ranked}
 use Rattle.ponds_ranks.proofs.number.Goals as goal
 

@@ -1,5 +1,5 @@
--- `ponds_register::clear`: the entries before i are written. The measure is the entries left.
-use Prim.Native.Nat.{◌*◌, ◌-◌, ◌≤◌}
+-- `ponds_register::clear`: the entries before i are written.
+use Prim.Native.Nat.{◌*◌, ◌≤◌}
 use mathlib.Core.Path.{◌≡◌}
 use lib.ListN.{length, replicate}
 use Rattle.base.specs.Tab.{overlay}
@@ -8,8 +8,4 @@ use Rattle.ponds_entry.specs.Gathered.{empty_pond}
 use Rattle.ponds_register.proofs.clear.Given as goal
 
 abbrev pub invariant-loop-i : goal.invariant-loop-i
-invariant-loop-i l =
-    (l.i ≤ l.count) × (5 * l.count ≤ length l.initial.reg) × (length l.reg ≡ length l.initial.reg) × (l.reg ≡ overlay (words_of (replicate l.i empty_pond)) l.initial.reg)
-
-abbrev pub decreases-loop-i : goal.decreases-loop-i
-decreases-loop-i l = l.count - l.i
+invariant-loop-i l = (5 * l.count ≤ length l.initial.reg) × (l.reg ≡ overlay (words_of (replicate l.i empty_pond)) l.initial.reg)
