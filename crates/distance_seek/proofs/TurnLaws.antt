@@ -14,7 +14,7 @@ use Rattle.base.specs.Tab.{least}
 use Rattle.base.proofs.CaseLaws.{cond_case}
 use Rattle.quad.specs.Numbers.{none}
 use Rattle.quad.specs.Direction.{east_step, south_step}
-use Rattle.table.specs.Table.{nodes, son, is_fork}
+use Rattle.table.specs.Table.{son, is_fork}
 use Rattle.neighbour.specs.Search.{stay}
 use Rattle.table.proofs.AcceptedLaws.{fork_above}
 use Rattle.distance_seek.specs.Search.{near_half, near_quarter, next_quarter, next_edge, NextWay, OtherWay, offset_under, offset_in, offset_from, Spot}
@@ -197,11 +197,10 @@ edge_room D at w edge e = rw e (edge_le D at w)
 -- what the search of a quarter q asks
 module _ {T : List ℕ} {l p at : ℕ} (s : Spot T l p at) (f : is_fork T p ≡ true) where
   pub look_asks : {q p' way to best w : ℕ} (t : ℕ) → 2 * l ≡ t → q < 4 → p' ≡ son T p q → way < stay → w ≡ 2 ^ (l - 1) → to ≤ at + w → to ≤ best
-      → (2 * (l - 1) + 1 < t) × ((p' < nodes T) × (is_fork T p' ≡ true → Spot T (l - 1) p' to) × (way < stay) × (to ≤ best))
+      → (2 * (l - 1) + 1 < t) × (Spot T (l - 1) p' to × (way < stay) × (to ≤ best))
   look_asks {q} {p'} {way} {to} t e q4 ep v ew h b =
       let pos = fork_above s.place f in
-      let there : Spot T (l - 1) p' to = rw ep (spot_son s f q to q4 (rw (← ew) h)) in
-      (omega arith, (there.place.node, (λ _. there), v, b))
+      (omega arith, (rw ep (spot_son s f q to q4 (rw (← ew) h)), v, b))
 
 -- the four quarters of fork p in the code's hands: q and r are the nearest and the next
 module _ {T : List ℕ} {l p at : ℕ} (s : Spot T l p at) (f : is_fork T p ≡ true) (D : ℕ) (d : D < stay) where

@@ -2,7 +2,7 @@
 #![tactic(auto)]
 
 ghost use Rattle.std.specs.Prelude.{◌≡◌, true, ◌<◌, ◌≤◌, min};
-ghost use Rattle.table.specs.Table.{nodes, is_fork};
+ghost use Rattle.table.specs.Table.{is_fork};
 ghost use Rattle.neighbour.specs.Search.{stay};
 ghost use Rattle.distance_seek.specs.Around.{Beside};
 ghost use Rattle.distance_seek.specs.Search.{next_edge, offset_from};
@@ -32,7 +32,7 @@ fn next_edge(direction: usize, at: u32, far: u32) -> u32
 // nearest pixel is there.
 #[cycle(look_seek)]
 fn look(table: &[u32], direction: usize, p: usize, level: u32, at: u32, best: u32) -> u32
-    requires { (p < nodes table.now) × (is_fork table.now p ≡ true → Spot table.now level p at) × (direction < stay) × (at ≤ best) }
+    requires { Spot table.now level p at × (direction < stay) × (at ≤ best) }
     ensures { result ≡ min best (offset_from table.now direction level p at) }
 {
     let kind = word_at(table, p, 5);
@@ -76,10 +76,19 @@ fn seek(table: &[u32], direction: usize, p: usize, level: u32, at: u32, best: u3
     look(table, direction, last, m, far, best3)
 }
 
-// The least of best and the offsets of the white pixels in a node that lies beside a block of that level.
+// The least of best and the offsets of the white pixels in a node that lies beside a block of that level. A leaf tells
+// at once.
+// Not a call of `look`, which would then be what calls itself, for leaves too: a search took twice the instructions.
 pub fn beside(table: &[u32], node: u32, level: u32, direction: usize, best: u32) -> u32
     requires { Beside table.now level node × (direction < stay) }
     ensures { result ≡ min best (offset_from table.now direction level node 0) }
 {
-    look(&*table, direction, node as usize, level, 0, best)
+    let kind = word_at(table, node as usize, 5);
+    if kind == 0 {
+        return 0;
+    }
+    if kind != quad::FORK {
+        return best;
+    }
+    seek(&*table, direction, node as usize, level, 0, best)
 }

@@ -9,19 +9,16 @@ use Rattle.distance_seek.proofs.TurnLaws.{edge_room, look_asks, stop_1, stop_2, 
 use Rattle.distance_seek.proofs.+look_seek.Goals as goal
 
 pub look-word_at-kind-requires : goal.look-word_at-kind-requires
-look-word_at-kind-requires t c = (c.requires.0, omega arith)
+look-word_at-kind-requires t c = (c.requires.0.place.node, omega arith)
 
 pub look-returns-then-kind-eq0 : goal.look-returns-then-kind-eq0
-look-returns-then-kind-eq0 t c = let o = c in at_white _ _ _ _ _ _ _ c.word_at-kind.ensures o.requires.3 c.if-kind-eq0.true
+look-returns-then-kind-eq0 t c = let o = c in at_white _ _ _ _ _ _ _ c.word_at-kind.ensures o.requires.2 c.if-kind-eq0.true
 
 pub look-returns-then-kind-ne-FORK : goal.look-returns-then-kind-ne-FORK
 look-returns-then-kind-ne-FORK t c = let o = c in at_black _ _ _ _ _ _ _ c.word_at-kind.ensures (omega (arith, o.ranges.best)) c.if-kind-eq0.false c.if-kind-ne-FORK.true
 
 pub look-seek-requires : goal.look-seek-requires
-look-seek-requires t c =
-    let o = c in
-    let f = eq-eqb _ _ (sym c.word_at-kind.ensures ∙ c.if-kind-ne-FORK.false) in
-    (omega arith, (o.requires.1 f, f, o.requires.2, o.requires.3))
+look-seek-requires t c = let o = c in (omega arith, (o.requires.0, eq-eqb _ _ (sym c.word_at-kind.ensures ∙ c.if-kind-ne-FORK.false), o.requires.1, o.requires.2))
 
 pub look-returns : goal.look-returns
 look-returns t c = c.seek.ensures

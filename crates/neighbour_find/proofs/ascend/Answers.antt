@@ -14,20 +14,20 @@ unfolding Ended
 returns-then-node-eq0 c =
     let z = c.requires.0 in
     let a = goes_on _ _ _ _ _ z _ _ _ _ _ c.loop-way.invariant c.in-Some.is in
-    none_above _ _ _ _ _ z _ _ _ _ a.1 c.if-node-eq0.true (λ e. omega arith)
+    none_above _ _ _ _ _ z _ _ _ _ a.1 (omega arith) (λ e. omega arith)
 
 pub son_type-quadrant-requires : goal.son_type-quadrant-requires
 son_type-quadrant-requires c =
     let z = c.requires.0 in
     let a = goes_on _ _ _ _ _ z _ _ _ _ _ c.loop-way.invariant c.in-Some.is in
-    (a.1.node, (turn _ _ _ _ _ z _ _ _ _ _ _ a.1 c.if-node-eq0.false refl refl).father)
+    (a.1.node, (turn _ _ _ _ _ z _ _ _ _ _ _ a.1 (λ e. omega (arith, e)) refl refl).father)
 
 -- what one turn comes to, once the quadrant is read
 turned : (c : After-son_type-quadrant) → let s = c.args in let v = c.loop-way in Turn s.n s.table.now s.p s.level s.direction v.node v.above c.in-Some.ahead v.moves c.son_type-quadrant.result (father s.table.now v.node)
 turned c =
     let z = c.requires.0 in
     let a = goes_on _ _ _ _ _ z _ _ _ _ _ c.loop-way.invariant c.in-Some.is in
-    turn _ _ _ _ _ z _ _ _ _ _ _ a.1 c.if-node-eq0.false c.son_type-quadrant.ensures refl
+    turn _ _ _ _ _ z _ _ _ _ _ _ a.1 (λ e. omega (arith, e)) c.son_type-quadrant.ensures refl
 
 pub overflow_mul-moves : goal.overflow_mul-moves
 overflow_mul-moves c = omega (arith, (turned (goal.at.overflow_mul-moves c).After-son_type-quadrant).fits)
