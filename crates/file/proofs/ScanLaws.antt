@@ -1,6 +1,7 @@
 -- Reading without a name for a fault: the place after four blocks is the one of the definition, and there is none where
 -- the definition refuses them; block by block.
 use Rattle.std.specs.Prelude.{Option, Some, None, slice_set}
+use Rattle.std.specs.Option.{unwrap_or}
 use mathlib.Core.Bool.{Bool, true, false, cond, false≢true}
 use mathlib.Core.List.{List, [], ◌∷◌}
 use mathlib.Core.Path.{◌≡◌, refl, ap, sym, ◌∙◌}
@@ -96,6 +97,11 @@ bad_after (bad o) e = (o, refl)
 end_bad : (g : Got) → ((i : ℕ) (t : Tree) → g ≡ got i t → 0 < i) → end_of g ≡ 0 → (o : Refusal) × (g ≡ bad o)
 end_bad (got i t) late e = absurd (omega (arith, late i t refl, e))
 end_bad (bad o) late e = (o, refl)
+
+-- the place after a block, as a number
+pub end_told : (g : Got) → unwrap_or (place_after g) 0 ≡ end_of g
+end_told (got i t) = refl
+end_told (bad o) = refl
 
 pub refused_exactly : (s : List ℕ) (l at : ℕ) → end_of (block_at s l at) ≡ 0 → (o : Refusal) × (block_at s l at ≡ bad o)
 refused_exactly s l at = end_bad (block_at s l at) (λ i t e. omega (arith, (block_spells s l at i t e).next, size_pos t))

@@ -85,7 +85,8 @@ fn link_fork(file: &&[u8], level: u32, table: &mut [u32], p: u32, father: u32) -
     next
 }
 
-// The second pass, for a block: its nodes from p on, in preorder, and the next node.
+// The second pass, for the block of a whole file: its nodes from p on, in preorder, and the next node. One function for
+// this, for a fork and for its pixels calls itself for each leaf, and is slower (bench/SPEED.md).
 fn link_block(file: &[u8], level: u32, table: &mut [u32], p: u32, father: u32) -> u32
     requires { Ready file.now level p (length table.old) }
     ensures { Linked (tree_in (block_at file.now level (record_place p))) father p table.old table.new result }

@@ -70,7 +70,8 @@ fn write_fork(table: &&[u32], level: u32, p: usize, file: &mut [u8], at: usize) 
     next
 }
 
-// Writes the block of node p and gives the place after it.
+// Writes the block of node p, the root, and gives the place after it. One function for this, for a fork and for its
+// pixels calls itself for each leaf, and is slower (bench/SPEED.md).
 fn write_block(table: &[u32], level: u32, p: usize, file: &mut [u8], at: usize) -> usize
     requires { Writable table.now level p at (length file.old) }
     ensures { Wrote (tree_at table.now level p) at file.old file.new result }

@@ -5,29 +5,11 @@ use Rattle.file_read.specs.Linking.{tree_on}
 use Rattle.file_read.proofs.LinkLaws.{fork_to_link, fork_ready, linked, type_asks, kind_le, links_leaf, its_fork, deeper, son_to_link, son_forked, son_linked}
 use Rattle.file_read.proofs.+link_fork.Goals as goal
 
-pub overflow_mul-own : goal.overflow_mul-own
-overflow_mul-own t c = omega (arith, node_room (fork_to_link c.requires).block.ready)
-
-pub offset_bounds-table-own : goal.offset_bounds-table-own
-offset_bounds-table-own t c = omega (arith, node_room (fork_to_link c.requires).block.ready, c.well_formed)
-
 pub bounds-table-own : goal.bounds-table-own
 bounds-table-own t c = omega (arith, node_room (fork_to_link c.requires).block.ready)
 
-pub overflow_add-next : goal.overflow_add-next
-overflow_add-next t c = omega (arith, node_fits (fork_to_link c.requires).block.ready)
-
 pub loop-q-init : goal.loop-q-init
 loop-q-init t c = none_put _ _ _
-
-pub overflow_add-table : goal.overflow_add-table
-overflow_add-table t c = omega (arith, node_room (fork_to_link c.requires).block.ready)
-
-pub overflow_add-table-in-loop-q : goal.overflow_add-table-in-loop-q
-overflow_add-table-in-loop-q t c = omega (arith, node_room (fork_to_link c.requires).block.ready)
-
-pub offset_bounds-table-own-in-loop-q : goal.offset_bounds-table-own-in-loop-q
-offset_bounds-table-own-in-loop-q t c = omega (arith, node_room (fork_to_link c.requires).block.ready, c.well_formed)
 
 pub bounds-table-own-in-loop-q : goal.bounds-table-own-in-loop-q
 bounds-table-own-in-loop-q t c =
@@ -58,13 +40,6 @@ link_fork-next-requires t c =
       omega (arith, s.decreases, deeper (fork_to_link s.requires)),
       fork_ready (son_forked s.args.table.now (fork_to_link s.requires) s.args.father l.loop-q.invariant (omega arith) _ refl c.type_of-kind.ensures c.if-kind-eq-FORK.true),
     )
-
-pub overflow_cast-next : goal.overflow_cast-next
-overflow_cast-next t c =
-    let l = c in
-    let s = l in
-    let b = son_to_link s.args.table.now (fork_to_link s.requires) s.args.father l.loop-q.invariant (omega arith) _ refl in
-    omega (arith, node_fits b.ready)
 
 pub overflow_cast-kind : goal.overflow_cast-kind
 overflow_cast-kind t c =
@@ -100,15 +75,6 @@ loop-q-preserved t c =
           rw (w.next-is, w.table-is) (son_linked c.args.table.now k c.args.father c.loop-q.invariant (omega arith) _ refl
           (links_leaf b c.type_of-kind.ensures w.if-kind-eq-FORK.false w.put_leaf.ensures))
     ]
-
-pub overflow_cast-table : goal.overflow_cast-table
-overflow_cast-table t c = omega arith
-
-pub overflow_add-table-2 : goal.overflow_add-table-2
-overflow_add-table-2 t c = omega (arith, node_room (fork_to_link c.requires).block.ready)
-
-pub offset_bounds-table-own-2 : goal.offset_bounds-table-own-2
-offset_bounds-table-own-2 t c = omega (arith, node_room (fork_to_link c.requires).block.ready, c.well_formed)
 
 pub bounds-table-own-2 : goal.bounds-table-own-2
 bounds-table-own-2 t c =

@@ -6,22 +6,11 @@ use Prim.Native.Nat.{◌+◌, ◌≤◌}
 use Rattle.file_write.proofs.+write_fork.Goals.{then-kind-eq-FORK+then-level-eq2, then-kind-eq-FORK+else-level-eq2, else-kind-eq-FORK}
 use Rattle.file_write.proofs.+write_fork.Goals as goal
 
-pub overflow_cast-put_record : goal.overflow_cast-put_record
-overflow_cast-put_record t c = omega arith
-
 pub put_record-requires : goal.put_record-requires
 put_record-requires t c = record_room _ _ _ _ c.args.file.now c.requires.0
 
-pub overflow_add-next : goal.overflow_add-next
-overflow_add-next t c =
-    let s = c in
-    omega (arith, record_room _ _ _ _ s.args.file.now s.requires.0)
-
 pub loop-q-init : goal.loop-q-init
 loop-q-init t c = none_wrote _ _ _ _ _
-
-pub word_at-son-requires : goal.word_at-son-requires
-word_at-son-requires t c = (c.requires.0.place.node, omega arith)
 
 pub word_at-kind-requires : goal.word_at-kind-requires
 word_at-kind-requires t c =

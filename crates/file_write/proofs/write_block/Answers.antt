@@ -1,14 +1,8 @@
 -- `file_write::write_block`: a fork, or a leaf's one record.
 use native.Mathlib.Omega.{arith}
-use Rattle.table.proofs.TypeLaws.{told_fork}
 use Rattle.file.proofs.WriteLaws.{record_room, kind_byte, writes_leaf}
 use borrow.Author.Rules.{rules}
 use Rattle.file_write.proofs.write_block.Goals as goal
-
-pub write_fork-requires : goal.write_fork-requires
-write_fork-requires c =
-    let s = c in
-    (s.requires, told_fork s.args.table.now s.args.p _ c.word_at-kind.ensures c.if-kind-eq-FORK.true)
 
 pub overflow_cast-kind : goal.overflow_cast-kind
 overflow_cast-kind c =

@@ -18,9 +18,6 @@ overflow_cast-sw c = omega (arith, types_low _ _ c.requires.0 _ c.four_types.ens
 pub overflow_cast-se : goal.overflow_cast-se
 overflow_cast-se c = omega (arith, types_low _ _ c.requires.0 _ c.four_types.ensures)
 
-pub overflow_add-result : goal.overflow_add-result
-overflow_add-result c = omega (arith, c.requires.1, c.well_formed)
-
 pub returns : goal.returns
 returns c =
     let t = types_told _ _ c.requires.0 _ c.four_types.ensures in
