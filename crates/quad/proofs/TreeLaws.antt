@@ -1,6 +1,7 @@
 -- A tree by its sons: what holds of each son q, q < 4, holds of the four, so that a law about quarters is proved once.
 -- And the sizes of trees.
-use mathlib.Core.Bool.{Bool, true, false, cond, ◌&&◌, false≢true}
+use mathlib.Core.Bool.{Bool, true, false, not, cond, ◌&&◌, false≢true}
+use mir.Val.{bool_byte as from_bool}
 use mathlib.Core.Path.{◌≡◌, refl, ap, sym}
 use Prim.Native.Nat.{ℕ, zero, suc, ◌+◌, ◌*◌, ◌^◌, ◌≤◌, ◌<◌}
 use native.Mathlib.Nat.{one-le-pow, pow-le-pow_right, pow-succ'}
@@ -96,12 +97,12 @@ choice_le true = omega arith
 choice_le false = omega arith
 
 -- four types are those of like leaves where none of the others differs from the first, and a fork's does
-pub like_counted : (a b c d x y z w : ℕ) → x ≡ cond (eqb a b) 0 1 → y ≡ cond (eqb a c) 0 1 → z ≡ cond (eqb a d) 0 1 → w ≡ cond (eqb a fork_type) 0 1
-    → eqb (x + y + z + 1) w ≡ like_types a b c d
+pub like_counted : (a b c d x y z w : ℕ) → x ≡ from_bool (not (eqb a b)) → y ≡ from_bool (not (eqb a c)) → z ≡ from_bool (not (eqb a d))
+    → w ≡ from_bool (not (eqb a fork_type)) → eqb (x + y + z + 1) w ≡ like_types a b c d
 unfolding like_types
 like_counted a b c d x y z w ex ey ez ew = rw (ex, ey, ez, ew) (go (eqb a b) (eqb a c) (eqb a d) (eqb a fork_type))
   where
-    go : (i j k f : Bool) → eqb (cond i 0 1 + cond j 0 1 + cond k 0 1 + 1) (cond f 0 1) ≡ cond f false (cond i (cond j k false) false)
+    go : (i j k f : Bool) → eqb (from_bool (not i) + from_bool (not j) + from_bool (not k) + 1) (from_bool (not f)) ≡ cond f false (cond i (cond j k false) false)
     go true true true true = refl
     go true true true false = refl
     go true true false true = refl

@@ -11,14 +11,15 @@ pub const TOP_LEVEL: u32 = 7;
 
 pub const MAX_WORDS: usize = 131070;
 
-// The types of a node are 0, white, to this, black, and a fork's.
+// The types of a node are 0, white, to this, black, and a fork's. They stay numbers: they are words of a table, which C
+// writes and reads.
 pub const TOP_COLOUR: usize = 1;
 
 pub const BLACK: usize = 1;
 
 pub const FORK: usize = 2;
 
-// "None", where a word names no node.
+// "None", where a word names no node: a word too.
 pub const NONE: usize = 4294967295;
 
 // Rows are the sides N, E, S, W; columns the quadrants NW, NE, SW, SE.
@@ -33,7 +34,8 @@ const REFLECT: [[u8; 4]; 4] = [[2, 3, 0, 1], [1, 0, 3, 2], [2, 3, 0, 1], [1, 0, 
 
 const OPQUAD: [u8; 4] = [3, 2, 1, 0];
 
-// By two quadrants. 4, which is no side, stands where document 000 leaves it undefined.
+// By two quadrants. 4, which is no side, stands where document 000 leaves it undefined; it stays a number, since
+// `common_side_of`, which the table is proved against, has it.
 const COMMONSIDE: [[u8; 4]; 4] = [[4, 0, 3, 4], [0, 4, 4, 1], [3, 4, 4, 2], [4, 1, 2, 4]];
 
 // The side of a block, in pixels.
@@ -44,14 +46,12 @@ pub fn side(level: u32) -> u32
     1 << level
 }
 
-// One number where two are the same, another where they differ; no branch is taken on which it is.
+// One number where two are the same, another where they differ; no branch is taken on which it is (for which a chain of
+// `if` is no shorter).
 pub fn pick(a: usize, b: usize, same: usize, other: usize) -> usize
     ensures { result ≡ cond (eqb a b) same other }
 {
-    if a == b {
-        return same;
-    }
-    other
+    if a == b { same } else { other }
 }
 
 // Whether four types are those of four like leaves, over which a fork is needless: none of the others differs from the
@@ -60,25 +60,22 @@ pub fn pick(a: usize, b: usize, same: usize, other: usize) -> usize
 pub fn like_leaves(nw: usize, ne: usize, sw: usize, se: usize) -> bool
     ensures { result ≡ like_types nw ne sw se }
 {
-    let differ = pick(nw, ne, 0, 1) + pick(nw, sw, 0, 1) + pick(nw, se, 0, 1);
-    differ + 1 == pick(nw, FORK, 0, 1)
+    let differ = usize::from(nw != ne) + usize::from(nw != sw) + usize::from(nw != se);
+    differ + 1 == usize::from(nw != FORK)
 }
 
 // Whether a number is a node's type: a colour, or a fork's.
 pub fn is_type(kind: usize) -> bool
     ensures { result ≡ is_type kind }
 {
-    if kind <= TOP_COLOUR {
-        return true;
-    }
-    kind == FORK
+    kind <= TOP_COLOUR || kind == FORK
 }
 
 // A byte as a number that counts or places something.
 pub fn wide(byte: u8) -> usize
     ensures { result ≡ byte }
 {
-    byte as usize
+    usize::from(byte)
 }
 
 // Whether the quadrant touches that side of its father's block.
@@ -94,7 +91,7 @@ pub fn reflect(side: usize, quadrant: usize) -> usize
     requires { (side < 4) × (quadrant < 4) }
     ensures { result ≡ reflect_of side quadrant }
 {
-    wide(REFLECT[side][quadrant])
+    usize::from(REFLECT[side][quadrant])
 }
 
 // The quadrant opposite.
@@ -102,13 +99,14 @@ pub fn opquad(quadrant: usize) -> usize
     requires { quadrant < 4 }
     ensures { result ≡ opquad_of quadrant }
 {
-    wide(OPQUAD[quadrant])
+    usize::from(OPQUAD[quadrant])
 }
 
 // The side of their father's block that two quadrants share; 4 where they share none.
+#[tactic(auto, using(crate::proofs::TableLaws::common_side_rule))]
 pub fn common_side(first: usize, second: usize) -> usize
     requires { (first < 4) × (second < 4) }
     ensures { result ≡ common_side_of first second }
 {
-    wide(COMMONSIDE[first][second])
+    usize::from(COMMONSIDE[first][second])
 }

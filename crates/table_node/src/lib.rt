@@ -1,4 +1,5 @@
-// A node's words, read and written; its block, and its level.
+// A node's words, read and written; its block, and its level. A node stays a number beside its table, as both come from C
+// and every word read is such a number: so each function asks anew that it is one of the table's.
 #![tactic(auto)]
 
 ghost use Rattle.std.specs.Prelude.{◌≡◌, ◌+◌, ◌*◌, ◌<◌, ◌≤◌, length, [], ◌∷◌};
@@ -96,15 +97,13 @@ pub fn depth_to(table: &[u32], n: u32, p: usize) -> u32
     ensures { result ≡ depth_to table.now n p }
 {
     let mut q = p;
-    let mut k: u32 = 0;
-    while k < n {
+    for k in 0..n {
         if q == 0 {
             return k;
         }
         q = word_at(table, q, 0);
-        k += 1;
     }
-    k
+    n
 }
 
 // Which son of its father p is (document 000's SONTYPE). The root is never asked.
@@ -112,14 +111,11 @@ pub fn son_type(table: &[u32], p: usize) -> usize
     requires { (p < nodes table.now) × (father table.now p < nodes table.now) }
     ensures { result ≡ son_type table.now p }
 {
-    let father = word_at(table, p, 0);
-    let nw = word_at(table, father, 1);
-    let ne = word_at(table, father, 2);
-    let sw = word_at(table, father, 3);
+    let [nw, ne, sw, _] = four_sons(table, word_at(table, p, 0));
     quad::pick(nw, p, 0, quad::pick(ne, p, 1, quad::pick(sw, p, 2, 3)))
 }
 
-// Writes the six words of node p.
+// Writes the six words of node p: six stores, where `copy_from_slice` makes an array of them in memory, and copies that.
 pub fn put_node(
     table: &mut [u32],
     p: usize,

@@ -1,32 +1,28 @@
 -- A table in preorder, as the pass that knows each number beforehand goes through it: the sons passed so far stand one
 -- after the other, each behind all that is seen from its brother (`Passing`). Where all four are passed, they are what
 -- a fork's sons must be, and the fork is seen with all below it.
-use mathlib.Core.Bool.{Bool, true, false, not, true≢false}
-use mathlib.Core.List.{List}
+use mathlib.Core.Bool.{Bool, true, false, true≢false}
+use mathlib.Core.List.{List, [], ◌∷◌}
 use mathlib.Core.Logic.{⊎_elim}
 use mathlib.Core.Path.{◌≡◌, refl, ap, sym, ◌∙◌}
 use Prim.Native.Nat.{ℕ, ◌+◌, ◌-◌, ◌*◌, ◌≤◌, ◌<◌}
 use native.Mathlib.Nat.{eq-or-lt_of_le, le_of_suc-le-suc}
 use native.Mathlib.Numerals.{add-one}
 use native.Mathlib.Omega.{arith}
-use lib.Dec.{ltb, eqb}
+use lib.Dec.{eqb}
 use lib.ListN.{get_or}
-use borrow.Author.Tests.{eq-eqb, ne_eqb, eqb-true, eqb-false, ltb-false, le-ltb}
+use borrow.Author.Tests.{eq-eqb, ne_eqb, eqb-true, eqb-false, leb-true, not-true}
 use Rattle.base.specs.Tab.{sum}
-use Rattle.base.proofs.BoolLaws.{by_bool, on, off}
+use Rattle.base.proofs.BoolLaws.{and_left, and_right, by_bool}
 use Rattle.base.proofs.CaseLaws.{past, through}
 use Rattle.quad.specs.Tree.{like_types}
 use Rattle.quad.proofs.TreeLaws.{by_quadrant}
 use Rattle.quad.specs.Numbers.{top_colour, fork_type, none}
-use Rattle.table.specs.Table.{word, nodes, father, son, node_type, is_fork}
-use Rattle.table.specs.Links.{SonIn}
-use Rattle.table_sound.specs.Seen.{like_leaves, leaf_ok, seen_of}
-use Rattle.table_order.specs.Order.{two_are, leaf_from, ForkOf, Named, needless_fork, Ordered}
-use Rattle.table_sound.proofs.SeenLaws.{sons_seen, seen_leaf, seen_no_leaf, seen_fork, all_are_true, added_all, fit_sons}
-
--- 0 says nothing
-pub no_order : (T : List ℕ) (l p : ℕ) → Ordered T l p 0
-no_order T l p = record { within = omega arith; seen = λ z. absurd (z refl) }
+use Rattle.table.specs.Table.{nodes, father, son, node_type, is_fork}
+use Rattle.table.specs.Links.{SonIn, four_sons}
+use Rattle.table_sound.specs.Seen.{AllNodes, like_leaves, leaf_ok, seen_of}
+use Rattle.table_order.specs.Order.{two_are, leaf_from, pixels_from, ForkOf, Named, needless_fork, Ordered}
+use Rattle.table_sound.proofs.SeenLaws.{sons_seen, seen_leaf, seen_no_leaf, seen_fork, leaf_words_ok, added_all, fit_sons}
 
 -- two words below 2^32 are told by one number
 pub two_joined : (T : List ℕ) (i a b x y : ℕ) → get_or T i 0 < 4294967296 → x < 4294967296 → a ≡ get_or T i 0 + 4294967296 * get_or T (i + 1) 0
@@ -42,23 +38,25 @@ two_joined T i a b x y h h2 ea eb = go (eqb (get_or T i 0) x) refl (eqb (get_or 
 -- what two words are
 two_told : (T : List ℕ) (i a b : ℕ) → two_are T i a b ≡ true → (get_or T i 0 ≡ a) × (get_or T (i + 1) 0 ≡ b)
 unfolding two_are
-two_told T i a b e =
-    let x = through (eqb (get_or T i 0) a) _ e in
-    (eqb-true _ a x.0, eqb-true _ b x.1)
+two_told T i a b e = (eqb-true _ a (and_left _ _ e), eqb-true _ b (and_right _ _ e))
 
 -- what the six words of a leaf are
+leaf_parts : (T : List ℕ) (i f : ℕ) → leaf_from T i f ≡ true
+    → (get_or T (i + 5) 0 ≤ top_colour) × (two_are T i f none ≡ true) × (two_are T (i + 2) none none ≡ true) × (get_or T (i + 4) 0 ≡ none)
+unfolding leaf_from
+leaf_parts T i f e =
+    let x = and_left _ _ e in
+    let y = and_left _ _ x in
+    (leb-true _ top_colour (and_left _ _ y), and_right _ _ y, and_right _ _ x, eqb-true _ none (and_right _ _ e))
+
 pub leaf_told : (T : List ℕ) (s f : ℕ) → leaf_from T (6 * s) f ≡ true → (is_fork T s ≡ false) × (leaf_ok T s ≡ true) × (father T s ≡ f)
-unfolding leaf_from leaf_ok
 leaf_told T s f e =
-    let k = past (ltb top_colour (node_type T s)) _ e in
-    let le = ltb-false top_colour (node_type T s) k.0 in
-    let x = through (two_are T (6 * s) f none) _ k.1 in
-    let y = through (two_are T (6 * s + 2) none none) _ x.1 in
-    let a = two_told T (6 * s) f none x.0 in
-    let b = two_told T (6 * s + 2) none none y.0 in
+    let x = leaf_parts T (6 * s) f e in
+    let a = two_told T (6 * s) f none x.1 in
+    let b = two_told T (6 * s + 2) none none x.2 in
     let n3 : son T s 2 ≡ none = ap (λ (i : ℕ). get_or T i 0) {x = 6 * s + 3} {y = 6 * s + 2 + 1} (omega arith) ∙ b.1 in (
       ne_eqb (node_type T s) fork_type (λ h. omega arith),
-      rw (le-ltb top_colour (node_type T s) le) (all_are_true none (son T s 0) (son T s 1) (son T s 2) (son T s 3) a.1 b.0 n3 (eqb-true _ none y.1)),
+      leaf_words_ok T s x.0 (by_quadrant (λ (q : ℕ). son T s q ≡ none) a.1 b.0 n3 x.3),
       ap (λ (i : ℕ). get_or T i 0) {x = 6 * s + 0} {y = 6 * s} (omega arith) ∙ a.0,
     )
 
@@ -115,8 +113,8 @@ module _ (T : List ℕ) (l p : ℕ) where
           sons = λ j lj. ⊎_elim (λ (d : j ≡ q). rw d stands) (λ (d : j < q). h.sons j d) (eq-or-lt_of_le (le_of_suc-le-suc (omega arith)));
         }
 
-    pub passing_fork : (r : ℕ) → Ordered T (l - 1) s r → (r ≡ 0 → ⊥) → r + 4 ≤ nodes T + (q + 1) → Passing (q + 1) r
-    passing_fork r o z le = passing_more r le (o.seen z).0 (o.seen z).1
+    pub passing_fork : (r : ℕ) → Ordered T (l - 1) s r → r + 4 ≤ nodes T + (q + 1) → Passing (q + 1) r
+    passing_fork r o le = passing_more r le o.after o.seen
 
     pub passing_leaf : (r : ℕ) → r ≡ s + 1 → is_fork T s ≡ false → leaf_ok T s ≡ true → Passing (q + 1) r
     passing_leaf r e f ok = passing_more r (omega (arith, h.room)) (omega arith) (omega (arith, seen_leaf T (l - 1) s f ok))
@@ -125,7 +123,7 @@ module _ (T : List ℕ) (l p : ℕ) where
   in_place q s = record { above = omega (arith, s.at); below = s.node; up = s.up }
 
   -- all four sons passed, and not like leaves
-  pub passed : (next : ℕ) → Passing 4 next → 0 < l → is_fork T p ≡ true → like_leaves T (son T p 0) (son T p 1) (son T p 2) (son T p 3) ≡ false → Ordered T l p next
+  pub passed : (next : ℕ) → Passing 4 next → 0 < l → is_fork T p ≡ true → like_leaves T (four_sons T p) ≡ false → Ordered T l p next
   passed next h high f unlike =
       let g : ℕ → ℕ = sons_seen T (l - 1) p in
       let a = h.sons 0 (omega arith) in
@@ -152,38 +150,27 @@ module _ (T : List ℕ) (l p : ℕ) where
       let e = seen_fork T l p f (λ z. omega arith) ok in
       let all = added_all g (by_quadrant (λ (q : ℕ). 0 < g q) a.some b.some c.some d.some) in
       let is : next ≡ p + seen_of T l p = omega (arith, h.here, s.0, s.1, s.2, s.3, s.4, all, e) in
-      record { within = omega (arith, h.room); seen = λ z. (omega (arith, h.here), is) }
+      record { within = omega (arith, h.room); after = omega (arith, h.here); seen = is }
 
 -- the loop's turns, in its own values: the word that names the son, and the node after it
-module _ (T : List ℕ) (l p q s count w : ℕ) (h : Passing T l p q s) (q4 : q < 4) (c : ForkOf T count p) (named : w ≡ word T p (q + 1)) (is : w ≡ s) where
-  son_is : son T p q ≡ s
-  son_is = ap (λ (i : ℕ). get_or T i 0) {x = 6 * p + (1 + q)} {y = 6 * p + (q + 1)} (omega arith) ∙ sym named ∙ is
+module _ (T : List ℕ) (l p q s count w : ℕ) (h : Passing T l p q s) (q4 : q < 4) (c : ForkOf T count p) (named : w ≡ son T p q) (is : w ≡ s) where
+  pub again_fork : (f r : ℕ) → f ≡ father T s → f ≡ p → Ordered T (l - 1) s r → r + 3 ≤ count + q → Passing T l p (q + 1) r
+  again_fork f r e d o le = passing_fork T l p q s h q4 (sym named ∙ is) (sym e ∙ d) r o (omega (arith, c.all))
 
-  pub again_fork : (f r : ℕ) → f ≡ father T s → f ≡ p → Ordered T (l - 1) s r → (r ≡ 0 → ⊥) → r + 4 ≤ count + (q + 1) → Passing T l p (q + 1) r
-  again_fork f r e d o z le = passing_fork T l p q s h q4 son_is (sym e ∙ d) r o z (omega (arith, c.all))
-
-  pub again_pixels : (f r : ℕ) → f ≡ father T s → f ≡ p → l ≡ 2 → (u : Bool) → (u ≡ true → Ordered T 1 s (s + 5)) → not u ≡ false → r ≡ s + 5
-      → r + 4 ≤ count + (q + 1) → Passing T l p (q + 1) r
-  again_pixels f r e d two u o t er le = again_fork f r e d (rw (er, two) (o (on u u refl t))) (λ z. omega arith) le
-
-  pub again_leaf : (u : Bool) → u ≡ leaf_from T (6 * s) p → not u ≡ false → Passing T l p (q + 1) (s + 1)
-  again_leaf u e t =
-      let x = leaf_told T s p (on u _ e t) in
-      passing_leaf T l p q s h q4 son_is x.2 (s + 1) refl x.0 x.1
+  pub again_leaf : leaf_from T (6 * s) p ≡ true → Passing T l p (q + 1) (s + 1)
+  again_leaf e =
+      let x = leaf_told T s p e in
+      passing_leaf T l p q s h q4 (sym named ∙ is) x.2 (s + 1) refl x.0 x.1
 
 -- a fork all of whose sons are passed
 module _ (T : List ℕ) (l p q next count : ℕ) (h : Passing T l p q next) (q4 : 4 ≤ q) (c : ForkOf T count p) where
   pub passed_named : Named T p
-  passed_named = record {
-    node = c.node;
-    sons = record {
-      nw = (h.sons 0 (omega arith)).node;
-      ne = (h.sons 1 (omega arith)).node;
-      sw = (h.sons 2 (omega arith)).node;
-      se = (h.sons 3 (omega arith)).node;
-    };
-    few = c.few;
-  }
+  unfolding four_sons
+  passed_named =
+      let sons : AllNodes T (four_sons T p) =
+      λ k d lt. by_quadrant (λ (j : ℕ). get_or (four_sons T p) j d < nodes T) (h.sons 0 (omega arith)).node (h.sons 1 (omega arith)).node
+      (h.sons 2 (omega arith)).node (h.sons 3 (omega arith)).node k lt in
+      record { node = c.node; sons = sons; few = c.few }
 
   -- a leaf adds one node
   leaf_adds : (j : ℕ) → j < 4 → (node_type T (son T p j) ≡ fork_type → ⊥) → sons_seen T (l - 1) p j ≡ 1
@@ -191,8 +178,8 @@ module _ (T : List ℕ) (l p q next count : ℕ) (h : Passing T l p q next) (q4 
       omega (arith, (h.sons j (omega arith)).some, leaf_most T (l - 1) (son T p j) (ne_eqb _ fork_type z))
 
   -- so like leaves end at the fifth node
-  like_fifth : like_leaves T (son T p 0) (son T p 1) (son T p 2) (son T p 3) ≡ true → next ≡ p + 5
-  unfolding like_leaves like_types
+  like_fifth : like_leaves T (four_sons T p) ≡ true → next ≡ p + 5
+  unfolding like_leaves four_sons like_types
   like_fifth e =
       let x = past (eqb (node_type T (son T p 0)) fork_type) _ e in
       let y = through (eqb (node_type T (son T p 0)) (node_type T (son T p 1))) _ x.1 in
@@ -211,25 +198,52 @@ module _ (T : List ℕ) (l p q next count : ℕ) (h : Passing T l p q next) (q4 
   unfolding needless_fork
   passed_told u high e f =
       let four : q ≡ 4 = omega (arith, h.few) in
-      passed T l p next (rw four at h) high c.fork (go (like_leaves T (son T p 0) (son T p 1) (son T p 2) (son T p 3)) refl (sym e ∙ f))
+      passed T l p next (rw four at h) high c.fork (go (like_leaves T (four_sons T p)) refl (sym e ∙ f))
     where
-      go : (b : Bool) → like_leaves T (son T p 0) (son T p 1) (son T p 2) (son T p 3) ≡ b → needless_fork T p next ≡ false → b ≡ false
+      go : (b : Bool) → like_leaves T (four_sons T p) ≡ b → needless_fork T p next ≡ false → b ≡ false
       go false d n = refl
       go true d n = absurd (true≢false (sym (rw (eq-eqb next (p + 5) (like_fifth d), d) refl) ∙ n))
 
-pub needless_words : (T : List ℕ) (p next a b c d : ℕ) (r : Bool) → next ≡ p + 5 → a ≡ son T p 0 → b ≡ son T p 1 → c ≡ son T p 2 → d ≡ son T p 3
-    → r ≡ like_leaves T a b c d → r ≡ needless_fork T p next
-unfolding needless_fork
-needless_words T p next a b c d r e ea eb ec ed f = f ∙ rw (eq-eqb next (p + 5) e, ea, eb, ec, ed)
-
 -- a fork of four pixels that stand in order
-pub pixels_passed : (T : List ℕ) (p count : ℕ) → ForkOf T count p → p + 5 ≤ count
-    → (u v w x y z b : Bool) → u ≡ two_are T (6 * p + 1) (p + 1) (p + 2) → not u ≡ false → v ≡ two_are T (6 * p + 3) (p + 3) (p + 4) → not v ≡ false
-    → w ≡ leaf_from T (6 * p + 6) p → not w ≡ false → x ≡ leaf_from T (6 * p + 12) p → not x ≡ false → y ≡ leaf_from T (6 * p + 18) p → not y ≡ false
-    → z ≡ leaf_from T (6 * p + 24) p → not z ≡ false → b ≡ like_leaves T (p + 1) (p + 2) (p + 3) (p + 4) → not b ≡ true → Ordered T 1 p (p + 5)
-pixels_passed T p count c room u v w x y z b eu hu ev hv ew hw ex hx ey hy ez hz eb hb =
-    let m = two_told T (6 * p + 1) _ _ (on u _ eu hu) in
-    let k = two_told T (6 * p + 3) _ _ (on v _ ev hv) in
+record Pixels (T : List ℕ) (count p : ℕ) : Type 0 where
+  room : p + 5 ≤ count
+  first : two_are T (6 * p + 1) (p + 1) (p + 2) ≡ true
+  last : two_are T (6 * p + 3) (p + 3) (p + 4) ≡ true
+  nw : leaf_from T (6 * p + 6) p ≡ true
+  ne : leaf_from T (6 * p + 12) p ≡ true
+  sw : leaf_from T (6 * p + 18) p ≡ true
+  se : leaf_from T (6 * p + 24) p ≡ true
+  unlike : like_leaves T ((p + 1) ∷ (p + 2) ∷ (p + 3) ∷ (p + 4) ∷ []) ≡ false
+
+pixels_parts : (T : List ℕ) (count p : ℕ) → pixels_from T count p ≡ true → Pixels T count p
+unfolding pixels_from
+pixels_parts T count p e =
+    let g = and_left _ _ e in
+    let f = and_left _ _ g in
+    let d = and_left _ _ f in
+    let c = and_left _ _ d in
+    let b = and_left _ _ c in
+    let a = and_left _ _ b in
+    record {
+      room = leb-true (p + 5) count (and_left _ _ a);
+      first = and_right _ _ a;
+      last = and_right _ _ b;
+      nw = and_right _ _ c;
+      ne = and_right _ _ d;
+      sw = and_right _ _ f;
+      se = and_right _ _ g;
+      unlike = not-true _ (and_right _ _ e);
+    }
+
+four_named : (T : List ℕ) (p : ℕ) {a b c d : ℕ} → son T p 0 ≡ a → son T p 1 ≡ b → son T p 2 ≡ c → son T p 3 ≡ d → four_sons T p ≡ a ∷ b ∷ c ∷ d ∷ []
+unfolding four_sons
+four_named T p e f g h = rw (e, f, g, h)
+
+pub pixels_passed : (T : List ℕ) (p count : ℕ) → ForkOf T count p → pixels_from T count p ≡ true → Ordered T 1 p (p + 5)
+pixels_passed T p count c e =
+    let x = pixels_parts T count p e in
+    let m = two_told T (6 * p + 1) (p + 1) (p + 2) x.first in
+    let k = two_told T (6 * p + 3) (p + 3) (p + 4) x.last in
     let at : (i j : ℕ) → i ≡ j → get_or T i 0 ≡ get_or T j 0 = λ i j h. ap (λ (k : ℕ). get_or T k 0) h in
     let n1 : son T p 0 ≡ p + 1 = m.0 in
     let n2 : son T p 1 ≡ p + 2 = at (6 * p + 2) (6 * p + 1 + 1) (omega arith) ∙ m.1 in
@@ -237,20 +251,13 @@ pixels_passed T p count c room u v w x y z b eu hu ev hv ew hw ex hx ey hy ez hz
     let n4 : son T p 3 ≡ p + 4 = at (6 * p + 4) (6 * p + 3 + 1) (omega arith) ∙ k.1 in
     let told : (s i : ℕ) → 6 * s ≡ i → leaf_from T i p ≡ true → (is_fork T s ≡ false) × (leaf_ok T s ≡ true) × (father T s ≡ p) =
     λ s i h t. leaf_told T s p (rw h t) in
-    let a = told (p + 1) (6 * p + 6) (omega arith) (on w _ ew hw) in
-    let b' = told (p + 2) (6 * p + 12) (omega arith) (on x _ ex hx) in
-    let c' = told (p + 3) (6 * p + 18) (omega arith) (on y _ ey hy) in
-    let d = told (p + 4) (6 * p + 24) (omega arith) (on z _ ez hz) in
-    let p0 = passing_none T 1 p (omega (arith, c.all)) in
+    let a = told (p + 1) (6 * p + 6) (omega arith) x.nw in
+    let b = told (p + 2) (6 * p + 12) (omega arith) x.ne in
+    let c' = told (p + 3) (6 * p + 18) (omega arith) x.sw in
+    let d = told (p + 4) (6 * p + 24) (omega arith) x.se in
+    let p0 = passing_none T 1 p (omega (arith, c.all, x.room)) in
     let p1 = passing_leaf T 1 p 0 (p + 1) p0 (omega arith) n1 a.2 (p + 2) (omega arith) a.0 a.1 in
-    let p2 = passing_leaf T 1 p 1 (p + 2) p1 (omega arith) n2 b'.2 (p + 3) (omega arith) b'.0 b'.1 in
+    let p2 = passing_leaf T 1 p 1 (p + 2) p1 (omega arith) n2 b.2 (p + 3) (omega arith) b.0 b.1 in
     let p3 = passing_leaf T 1 p 2 (p + 3) p2 (omega arith) n3 c'.2 (p + 4) (omega arith) c'.0 c'.1 in
     let p4 = passing_leaf T 1 p 3 (p + 4) p3 (omega arith) n4 d.2 (p + 5) (omega arith) d.0 d.1 in
-    passed T 1 p (p + 5) p4 (omega arith) c.fork (rw (n1, n2, n3, n4) (off b _ eb hb))
-
--- a root from which as many nodes are passed as there are
-pub order_whole : (T : List ℕ) (n count r : ℕ) → count ≡ nodes T → 0 < nodes T → Ordered T n 0 r → r ≡ count → true ≡ eqb (nodes T) (seen_of T n 0)
-order_whole T n count r c some o e = sym (eq-eqb (nodes T) (seen_of T n 0) (omega (arith, (o.seen (λ z. omega arith)).1)))
-
-pub seen_whole : (T : List ℕ) (n count x : ℕ) → count ≡ nodes T → x ≡ seen_of T n 0 → eqb count x ≡ eqb (nodes T) (seen_of T n 0)
-seen_whole T n count x c e = rw (c, e)
+    passed T 1 p (p + 5) p4 (omega arith) c.fork (rw (four_named T p n1 n2 n3 n4) x.unlike)

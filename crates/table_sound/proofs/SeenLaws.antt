@@ -1,71 +1,48 @@
 -- The fast check, function by function: what each return says of the definitions, what a fork is whose sons fit, and
 -- that no count passes a word.
-use mathlib.Core.Bool.{Bool, true, false, not, cond}
+use mathlib.Core.Bool.{Bool, true, false, cond, ◌&&◌}
 use mathlib.Core.List.{List}
-use mathlib.Core.Path.{◌≡◌, refl, ap, sym, ◌∙◌}
+use mathlib.Core.Path.{◌≡◌, refl, sym, ◌∙◌}
 use Prim.Native.Nat.{ℕ, zero, suc, ◌+◌, ◌-◌, ◌*◌, ◌^◌, ◌≤◌, ◌<◌}
 use native.Mathlib.Nat.{pow-le-pow_right, pow-succ'}
 use native.Mathlib.Omega.{arith}
-use lib.Dec.{leb, eqb}
-use borrow.Author.Tests.{leb-false, ltb-true, le-ltb, lt-ltb, lt-leb, eq-eqb, ne_eqb, eqb-true, not-true}
-use Rattle.base.proofs.BoolLaws.{on, off}
-use Rattle.base.proofs.CaseLaws.{cond_case, past, through}
+use lib.Dec.{ltb, eqb}
+use lib.ListN.{get_or}
+use borrow.Author.Tests.{leb-true, ltb-true, le-leb, lt-ltb, eq-eqb, ne_eqb, eqb-true, not-true}
+use Rattle.base.proofs.BoolLaws.{and_left, and_right, same_tests}
+use Rattle.base.proofs.CaseLaws.{cond_case}
 use Rattle.quad.specs.Numbers.{top_level, top_colour, fork_type, none}
-use Rattle.quad.specs.Tree.{like_types}
 use Rattle.quad.proofs.TreeLaws.{by_quadrant}
 use Rattle.table.specs.Table.{nodes, father, son, node_type, is_fork}
-use Rattle.table.specs.Links.{SonIn, SonsIn}
+use Rattle.table.specs.Links.{SonsIn, four_sons}
 use Rattle.table.proofs.TypeLaws.{told_leaf}
-use Rattle.table_sound.specs.Seen.{Four, between, different, all_are, father_of, like_leaves, leaf_ok, fits, fork_ok, added, seen_of, sound_of}
+use Rattle.table_sound.specs.Seen.{AllNodes, between, different, all_are, father_of, like_leaves, leaf_ok, fork_ok, added, seen_of, some_seen, sound_of}
+use Rattle.std.specs.Prelude.{Option, Some, None}
+use Rattle.std.specs.Option.{option_eq}
+use Rattle.std.specs.List.{list_all}
+use Rattle.std.proofs.lemmas.List.Sums.{AllPass-from_list_all}
 
--- what four numbers between p and N are
-between_four : (p N a b c d : ℕ) → between p N a b c d ≡ true → (p < a) × (p < b) × (p < c) × (p < d) × Four N a b c d
+-- a test that the four sons of p pass, each of them passes; and the other way round
+module _ (f : ℕ → Bool) (T : List ℕ) (p : ℕ) where
+  pub all_passed : list_all f (four_sons T p) ≡ true → (q : ℕ) → q < 4 → f (son T p q) ≡ true
+  unfolding four_sons
+  all_passed e =
+      let b = and_right _ _ e in
+      let c = and_right _ _ b in
+      let d = and_right _ _ c in
+      by_quadrant (λ (q : ℕ). f (son T p q) ≡ true) (and_left _ _ e) (and_left _ _ b) (and_left _ _ c) (and_left _ _ d)
+
+  pub all_pass : ((q : ℕ) → q < 4 → f (son T p q) ≡ true) → list_all f (four_sons T p) ≡ true
+  unfolding four_sons
+  all_pass h = rw (h 0 (omega arith), h 1 (omega arith), h 2 (omega arith), h 3 (omega arith))
+
+-- those that lie between p and N are nodes
+pub between_nodes : (T sons : List ℕ) (p N : ℕ) → N ≡ nodes T → between p N sons ≡ true → AllNodes T sons
 unfolding between
-between_four p N a b c d e =
-    let a1 = past (leb a p) _ e in
-    let b1 = past (leb b p) _ a1.1 in
-    let c1 = past (leb c p) _ b1.1 in
-    let d1 = past (leb d p) _ c1.1 in
-    let a2 = past (leb N a) _ d1.1 in
-    let b2 = past (leb N b) _ a2.1 in
-    let c2 = past (leb N c) _ b2.1 in (
-      leb-false a p a1.0,
-      leb-false b p b1.0,
-      leb-false c p c1.0,
-      leb-false d p d1.0,
-      record { nw = leb-false N a a2.0; ne = leb-false N b b2.0; sw = leb-false N c c2.0; se = ltb-true d N c2.1 },
-    )
-
--- they are nodes, where a call said so
-pub told_four : (T : List ℕ) (p N a b c d : ℕ) (u : Bool) → N ≡ nodes T → u ≡ between p N a b c d → not u ≡ false → Four (nodes T) a b c d
-told_four T p N a b c d u e h t = rw (← e) (between_four p N a b c d (on u _ h t)).4
-
-pub leaf_type : (T : List ℕ) (p k : ℕ) → k ≡ node_type T p → top_colour < k → false ≡ leaf_ok T p
-unfolding leaf_ok
-leaf_type T p k e h = rw (← e, lt-ltb top_colour k h, leaf_ok)
-
-pub leaf_words_lem : (T : List ℕ) (p k a b c d : ℕ) (r : Bool) → k ≡ node_type T p → k ≤ top_colour → a ≡ son T p 0 → b ≡ son T p 1 → c ≡ son T p 2 → d ≡ son T p 3
-    → r ≡ all_are none a b c d → r ≡ leaf_ok T p
-unfolding leaf_ok
-leaf_words_lem T p k a b c d r e h ea eb ec ed f = f ∙ rw (leaf_ok, ← e, le-ltb top_colour k h, ea, eb, ec, ed)
-
-pub fork_words : (T : List ℕ) (p N a b c d : ℕ) (r : Bool) → N ≡ nodes T → a ≡ son T p 0 → b ≡ son T p 1 → c ≡ son T p 2 → d ≡ son T p 3
-    → r ≡ fits T N p a b c d → r ≡ fork_ok T p
-unfolding fork_ok
-fork_words T p N a b c d r e ea eb ec ed f = f ∙ rw (fork_ok, e, ea, eb, ec, ed)
-
-pub father_words : (T : List ℕ) (p a b c d a' b' c' d' : ℕ) (r : Bool) → a' ≡ father T a → b' ≡ father T b → c' ≡ father T c → d' ≡ father T d
-    → r ≡ all_are p a' b' c' d' → r ≡ father_of T p a b c d
-unfolding father_of
-father_words T p a b c d a' b' c' d' r ea eb ec ed f = f ∙ rw (father_of, ea, eb, ec, ed)
-
-pub like_words : (T : List ℕ) (a b c d a' b' c' d' : ℕ) (r : Bool) → a' ≡ node_type T a → b' ≡ node_type T b → c' ≡ node_type T c → d' ≡ node_type T d
-    → r ≡ like_types a' b' c' d' → r ≡ like_leaves T a b c d
-unfolding like_leaves
-like_words T a b c d a' b' c' d' r ea eb ec ed f = f ∙ rw (like_leaves, ea, eb, ec, ed)
-
-pub not_same : (u v : Bool) → u ≡ v → not u ≡ not v
-not_same u v e = ap not e
+between_nodes T sons p N h e =
+    λ k d lt.
+    let a = AllPass-from_list_all (λ s. ltb p s && ltb s N) sons e k d lt in
+    rw (← h) (ltb-true (get_or sons k d) N (and_right (ltb p (get_or sons k d)) (ltb (get_or sons k d) N) a))
 
 -- what the sons of p add, p at the level above l
 abbrev pub sons_seen : List ℕ → ℕ → ℕ → ℕ → ℕ
@@ -128,6 +105,32 @@ module _ (T : List ℕ) (l p : ℕ) where
       go : (k m : ℕ) → m ≡ suc k → added (sons_seen T k p) 4 0 1 ≡ seen_of T m p
       go k m s = rw (s, f, e)
 
+-- a number that is seen, or none; and the other way round
+pub none_seen : (x : ℕ) → x ≡ 0 → None ≡ some_seen x
+unfolding some_seen
+none_seen x e = rw e
+
+pub some_is : (x k : ℕ) → k ≡ x → 0 < k → Some k ≡ some_seen x
+unfolding some_seen
+some_is zero k e h = absurd (omega arith)
+some_is (suc x) k e h = rw e
+
+pub none_told : (x : ℕ) → None ≡ some_seen x → x ≡ 0
+unfolding some_seen
+none_told zero e = refl
+none_told (suc x) e = cc
+
+pub some_told : (x k : ℕ) → Some k ≡ some_seen x → (k ≡ x) × (0 < k)
+unfolding some_seen
+some_told zero k e = cc
+some_told (suc x) k e = let w : k ≡ suc x = cc in (w, omega arith)
+
+-- as many are seen as there are nodes
+pub whole_seen : (N M x : ℕ) (r : Option ℕ) (b : Bool) → N ≡ M → 0 < M → r ≡ some_seen x → b ≡ option_eq eqb r (Some N) → b ≡ eqb M x
+unfolding some_seen
+whole_seen N M zero r b h pos e f = f ∙ rw e (sym (ne_eqb M 0 (λ z. omega arith)))
+whole_seen N M (suc x) r b h pos e f = f ∙ rw (e, h) (same_tests (eqb (suc x) M) (eqb M (suc x)) (λ z. eq-eqb M (suc x) (sym (eqb-true (suc x) M z))) (λ z. eq-eqb (suc x) M (sym (eqb-true M (suc x) z))))
+
 -- no two of four numbers are the same
 pub record Apart (a b c d : ℕ) : Type 0 where
   pub ab : eqb a b ≡ false
@@ -137,37 +140,26 @@ pub record Apart (a b c d : ℕ) : Type 0 where
   pub bd : eqb b d ≡ false
   pub cd : eqb c d ≡ false
 
-different_apart : (a b c d : ℕ) → different a b c d ≡ true → Apart a b c d
-unfolding different
-different_apart a b c d e =
-    let x = past (eqb a b) _ e in
-    let y = past (eqb a c) _ x.1 in
-    let z = past (eqb a d) _ y.1 in
-    let u = past (eqb b c) _ z.1 in
-    let v = past (eqb b d) _ u.1 in
-    record { ab = x.0; ac = y.0; ad = z.0; bc = u.0; bd = v.0; cd = not-true _ v.1 }
+different_apart : (T : List ℕ) (p : ℕ) → different (four_sons T p) ≡ true → Apart (son T p 0) (son T p 1) (son T p 2) (son T p 3)
+unfolding different four_sons
+different_apart T p e =
+    let v = and_left _ _ e in
+    let u = and_left _ _ v in
+    let z = and_left _ _ u in
+    let y = and_left _ _ z in
+    record {
+      ab = not-true _ (and_left _ _ y);
+      ac = not-true _ (and_right _ _ y);
+      ad = not-true _ (and_right _ _ z);
+      bc = not-true _ (and_right _ _ u);
+      bd = not-true _ (and_right _ _ v);
+      cd = not-true _ (and_right _ _ e);
+    }
 
-pub all_are_lem : (k a b c d : ℕ) → all_are k a b c d ≡ true → (a ≡ k) × (b ≡ k) × (c ≡ k) × (d ≡ k)
-unfolding all_are
-all_are_lem k a b c d e =
-    let x = through (eqb a k) _ e in
-    let y = through (eqb b k) _ x.1 in
-    let z = through (eqb c k) _ y.1 in
-    (eqb-true a k x.0, eqb-true b k y.0, eqb-true c k z.0, eqb-true d k z.1)
-
--- and the other way round: what makes each test true
-between_true : (p N a b c d : ℕ) → p < a → p < b → p < c → p < d → Four N a b c d → between p N a b c d ≡ true
-unfolding between
-between_true p N a b c d pa pb pc pd f =
-    rw (lt-leb a p pa, lt-leb b p pb, lt-leb c p pc, lt-leb d p pd, lt-leb N a f.nw, lt-leb N b f.ne, lt-leb N c f.sw, lt-ltb d N f.se)
-
-different_true : (a b c d : ℕ) → Apart a b c d → different a b c d ≡ true
-unfolding different
-different_true a b c d h = rw (h.ab, h.ac, h.ad, h.bc, h.bd, h.cd)
-
-pub all_are_true : (k a b c d : ℕ) → a ≡ k → b ≡ k → c ≡ k → d ≡ k → all_are k a b c d ≡ true
-unfolding all_are
-all_are_true k a b c d ea eb ec ed = rw (eq-eqb a k ea, eq-eqb b k eb, eq-eqb c k ec, eq-eqb d k ed)
+-- and the other way round
+different_true : (T : List ℕ) (p : ℕ) → Apart (son T p 0) (son T p 1) (son T p 2) (son T p 3) → different (four_sons T p) ≡ true
+unfolding different four_sons
+different_true T p h = rw (h.ab, h.ac, h.ad, h.bc, h.bd, h.cd)
 
 pub added_all : (g : ℕ → ℕ) → ((q : ℕ) → q < 4 → 0 < g q) → added g 4 0 1 ≡ 1 + (g 0 + g 1 + g 2 + g 3)
 unfolding added
@@ -179,37 +171,43 @@ added_all g h =
 pub record SonsFit (T : List ℕ) (p : ℕ) : Type 0 where
   pub sons : SonsIn T p
   pub apart : Apart (son T p 0) (son T p 1) (son T p 2) (son T p 3)
-  pub unlike : like_leaves T (son T p 0) (son T p 1) (son T p 2) (son T p 3) ≡ false
+  pub unlike : like_leaves T (four_sons T p) ≡ false
 
 pub sons_fit : (T : List ℕ) (p : ℕ) → fork_ok T p ≡ true → SonsFit T p
-unfolding fork_ok fits father_of
+unfolding fork_ok between father_of
 sons_fit T p e =
-    let x = through (between p (nodes T) _ _ _ _) _ e in
-    let y = through (different _ _ _ _) _ x.1 in
-    let z = through (all_are p _ _ _ _) _ y.1 in
-    let b = between_four p (nodes T) _ _ _ _ x.0 in
-    let f = all_are_lem p _ _ _ _ z.0 in
+    let x = and_left _ _ e in
+    let y = and_left _ _ x in
+    let b = all_passed (λ s. ltb p s && ltb s (nodes T)) T p (and_left _ _ y) in
+    let f = all_passed (λ s. eqb (father T s) p) T p (and_right _ _ x) in
     record {
-      sons = by_quadrant (SonIn T p)
-          (record { above = b.0; below = b.4.nw; up = f.0 })
-          (record { above = b.1; below = b.4.ne; up = f.1 })
-          (record { above = b.2; below = b.4.sw; up = f.2 })
-          (record { above = b.3; below = b.4.se; up = f.3 });
-      apart = different_apart _ _ _ _ y.0;
-      unlike = not-true _ z.1;
+      sons = λ q q4. record {
+        above = ltb-true p _ (and_left _ _ (b q q4));
+        below = ltb-true _ (nodes T) (and_right _ _ (b q q4));
+        up = eqb-true _ p (f q q4);
+      };
+      apart = different_apart T p (and_right _ _ y);
+      unlike = not-true _ (and_right _ _ e);
     }
 
 pub fit_sons : (T : List ℕ) (p : ℕ) → SonsFit T p → fork_ok T p ≡ true
-unfolding fork_ok fits father_of
+unfolding fork_ok between father_of
 fit_sons T p s =
-    let a = s.sons 0 (omega arith) in
-    let b = s.sons 1 (omega arith) in
-    let c = s.sons 2 (omega arith) in
-    let d = s.sons 3 (omega arith) in
-    let x = between_true p (nodes T) _ _ _ _ a.above b.above c.above d.above (record { nw = a.below; ne = b.below; sw = c.below; se = d.below }) in
-    let y = different_true _ _ _ _ s.apart in
-    let z = all_are_true p _ _ _ _ a.up b.up c.up d.up in
+    let x = all_pass (λ s. ltb p s && ltb s (nodes T)) T p (λ q q4. rw (lt-ltb p _ (s.sons q q4).above, lt-ltb _ (nodes T) (s.sons q q4).below)) in
+    let y = different_true T p s.apart in
+    let z = all_pass (λ s. eqb (father T s) p) T p (λ q q4. eq-eqb _ p (s.sons q q4).up) in
     rw (x, y, z, s.unlike)
+
+-- what the words of a leaf are; and the other way round
+pub leaf_words_of : (T : List ℕ) (p : ℕ) → leaf_ok T p ≡ true → (node_type T p ≤ top_colour) × ((q : ℕ) → q < 4 → son T p q ≡ none)
+unfolding leaf_ok all_are
+leaf_words_of T p e =
+    let a = all_passed (λ w. eqb w none) T p (and_right _ _ e) in
+    (leb-true (node_type T p) top_colour (and_left _ _ e), λ q q4. eqb-true _ none (a q q4))
+
+pub leaf_words_ok : (T : List ℕ) (p : ℕ) → node_type T p ≤ top_colour → ((q : ℕ) → q < 4 → son T p q ≡ none) → leaf_ok T p ≡ true
+unfolding leaf_ok all_are
+leaf_words_ok T p h w = rw (le-leb (node_type T p) top_colour h, all_pass (λ w. eqb w none) T p (λ q q4. eq-eqb _ none (w q q4)))
 
 pub node_of_son : (T : List ℕ) (p q : ℕ) → fork_ok T p ≡ true → q < 4 → son T p q < nodes T
 node_of_son T p q e q4 = ((sons_fit T p e).sons q q4).below
@@ -261,10 +259,14 @@ module _ (n : ℕ) (T : List ℕ) (f : ℕ) (e : f ≡ father T 0) where
   pub sound_seen : (r : Bool) → f ≡ none → r ≡ eqb (nodes T) (seen_of T n 0) → r ≡ sound_of n T
   sound_seen r h g = g ∙ sound_count (nodes T) (seen_of T n 0) h refl refl
 
-  pub sound_leaf : (N k : ℕ) (u : Bool) → f ≡ none → N ≡ nodes T → k ≡ node_type T 0 → (k ≡ fork_type → ⊥) → u ≡ leaf_ok T 0 → not u ≡ false → eqb N 1 ≡ sound_of n T
-  sound_leaf N k u h d t z v w = sound_count N 1 h d (sym (seen_leaf T n 0 (told_leaf T 0 k t z) (on u _ v w)))
+  pub sound_leaf : (N k : ℕ) → f ≡ none → N ≡ nodes T → k ≡ node_type T 0 → (k ≡ fork_type → ⊥) → leaf_ok T 0 ≡ true → eqb N 1 ≡ sound_of n T
+  sound_leaf N k h d t z v = sound_count N 1 h d (sym (seen_leaf T n 0 (told_leaf T 0 k t z) v))
 
-  pub sound_no_leaf : (N k : ℕ) (u : Bool) → f ≡ none → N ≡ nodes T → 0 < nodes T → k ≡ node_type T 0 → (k ≡ fork_type → ⊥) → u ≡ leaf_ok T 0 → not u ≡ true
-      → false ≡ sound_of n T
-  sound_no_leaf N k u h d some t z v w =
-      sym (ne_eqb N 0 (λ x. omega arith)) ∙ sound_count N 0 h d (sym (seen_no_leaf T n 0 (told_leaf T 0 k t z) (off u _ v w)))
+  pub sound_no_leaf : (k : ℕ) → f ≡ none → 0 < nodes T → k ≡ node_type T 0 → (k ≡ fork_type → ⊥) → leaf_ok T 0 ≡ false → false ≡ sound_of n T
+  sound_no_leaf k h some t z v =
+      sym (ne_eqb (nodes T) 0 (λ x. omega arith)) ∙ sound_count (nodes T) 0 h refl (sym (seen_no_leaf T n 0 (told_leaf T 0 k t z) v))
+
+-- what `table_seen` gives back at its early returns
+pub ruleset nothing_seen = (none_seen, seen_low, seen_unfit)
+
+pub ruleset sound_told = (sound_father, sound_seen, sound_leaf, sound_no_leaf)

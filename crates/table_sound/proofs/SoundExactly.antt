@@ -7,20 +7,21 @@ use mathlib.Core.Path.{◌≡◌, refl, ap, sym, ◌∙◌}
 use Prim.Native.Nat.{ℕ, zero, suc, ◌+◌, ◌-◌, ◌<◌}
 use native.Mathlib.Omega.{arith}
 use lib.Dec.{eqb}
-use borrow.Author.Tests.{eq-eqb, ne_eqb, eqb-true, le-ltb}
+use borrow.Author.Tests.{eq-eqb, ne_eqb, eqb-true}
 use Rattle.base.proofs.BoolLaws.{by_bool}
 use Rattle.base.proofs.CaseLaws.{past, through}
-use Rattle.quad.specs.Numbers.{top_colour, fork_type, none}
+use Rattle.quad.specs.Numbers.{fork_type, none}
 use Rattle.quad.specs.Tree.{like_types, size_of}
 use Rattle.quad.proofs.TreeLaws.{by_quadrant, size_pos}
 use Rattle.table.specs.Table.{nodes, father, son, node_type, is_fork}
 use Rattle.table.specs.Rules.{depth_to, Sized, Accepted}
 use Rattle.table.specs.Nodes.{tree_at}
+use Rattle.table.specs.Links.{four_sons}
 use Rattle.table_sound.specs.Seen.{like_leaves, fork_ok, leaf_ok, added, seen_of, sound_of}
 use Rattle.table.proofs.RuleLaws.{depth_root}
 use Rattle.table.proofs.AcceptedLaws.{tree_leaf, tree_fork, root_father, sons_of, leaf_sons, leaf_colour, son_type_only, not_alike, fork_deep, depth_son}
 use Rattle.table.proofs.SizeLaws.{tree_size}
-use Rattle.table_sound.proofs.SeenLaws.{sons_seen, seen_leaf, seen_fork, all_are_true, added_all, fit_sons}
+use Rattle.table_sound.proofs.SeenLaws.{sons_seen, seen_leaf, seen_fork, leaf_words_ok, added_all, fit_sons}
 use Rattle.table_sound.proofs.SoundLaws.{sound_faultless}
 
 module _ (n : ℕ) (T : List ℕ) (acc : Accepted n T) where
@@ -34,11 +35,11 @@ module _ (n : ℕ) (T : List ℕ) (acc : Accepted n T) where
       let m = son_type_only n T acc (son T p i) j a.below (omega arith) j4 (ap (λ (k : ℕ). son T k j) a.up ∙ sym e) in
       h (k ∙ sym m))
 
-  not_like : (p : ℕ) → p < nodes T → is_fork T p ≡ true → like_leaves T (son T p 0) (son T p 1) (son T p 2) (son T p 3) ≡ false
-  unfolding like_leaves like_types
-  not_like p lt f = go (like_leaves T (son T p 0) (son T p 1) (son T p 2) (son T p 3)) refl
+  not_like : (p : ℕ) → p < nodes T → is_fork T p ≡ true → like_leaves T (four_sons T p) ≡ false
+  unfolding like_leaves four_sons like_types
+  not_like p lt f = go (like_leaves T (four_sons T p)) refl
     where
-      go : (b : Bool) → like_leaves T (son T p 0) (son T p 1) (son T p 2) (son T p 3) ≡ b → b ≡ false
+      go : (b : Bool) → like_leaves T (four_sons T p) ≡ b → b ≡ false
       go false e = refl
       go true e =
           let x = past (eqb (node_type T (son T p 0)) fork_type) _ e in
@@ -64,11 +65,7 @@ module _ (n : ℕ) (T : List ℕ) (acc : Accepted n T) where
       })
 
   leaf_fits : (p : ℕ) → p < nodes T → is_fork T p ≡ false → leaf_ok T p ≡ true
-  unfolding leaf_ok
-  leaf_fits p lt f =
-      let w = leaf_sons n T acc p lt f in
-      rw (le-ltb top_colour (node_type T p) (leaf_colour n T acc p lt f))
-      (all_are_true none _ _ _ _ (w 0 (omega arith)) (w 1 (omega arith)) (w 2 (omega arith)) (w 3 (omega arith)))
+  leaf_fits p lt f = leaf_words_ok T p (leaf_colour n T acc p lt f) (leaf_sons n T acc p lt f)
 
   seen_size : (l p : ℕ) → p < nodes T → l + depth_to T n p ≡ n → seen_of T l p ≡ size_of (tree_at T l p)
   unfolding size_of

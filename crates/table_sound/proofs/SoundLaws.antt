@@ -9,8 +9,8 @@ use mathlib.Core.Path.{◌≡◌, refl, ap, sym, ◌∙◌}
 use Prim.Native.Nat.{ℕ, zero, suc, ◌+◌, ◌-◌, ◌≤◌, ◌<◌}
 use native.Mathlib.Nat.{zero-add, eq-zero-or-pos}
 use native.Mathlib.Omega.{arith}
-use lib.Dec.{leb, ltb, eqb}
-use borrow.Author.Tests.{eq-eqb, ne_eqb, eqb-true, eqb-false, ltb-false, lt-ltb, leb-true}
+use lib.Dec.{leb, eqb}
+use borrow.Author.Tests.{eq-eqb, ne_eqb, eqb-true, eqb-false, lt-ltb, leb-true}
 use Rattle.base.proofs.BoolLaws.{by_bool, or_true}
 use Rattle.base.proofs.SumLaws.{sum_full}
 use Rattle.quad.proofs.TreeLaws.{by_quadrant}
@@ -20,13 +20,14 @@ use Rattle.quad.specs.Numbers.{top_colour, fork_type, none}
 use Rattle.table.specs.Table.{nodes, father, son, node_type, is_fork}
 use Rattle.table.specs.Rules.{depth_to, all_of, one, times_named, father_ok, once_ok, son_alike, mixed_ok, Sized, fault_at, faults_of}
 use Rattle.table.specs.Nodes.{first_quadrant}
+use Rattle.table.specs.Links.{four_sons}
 use Rattle.table_sound.specs.Seen.{like_leaves, fork_ok, leaf_ok, added, seen_of, sound_of}
 use Rattle.table.proofs.RuleLaws.{depth_root, depth_step, all_at, Placed, leaf_passed, fork_passed}
 use Rattle.table.proofs.FourLaws.{one_le, one_of_four}
 use Rattle.table.proofs.CheckLaws.{from_sound_all}
 use Rattle.table.proofs.AcceptedLaws.{depth_le}
 use Rattle.table.proofs.FamilyLaws.{Family, family_sum}
-use Rattle.table_sound.proofs.SeenLaws.{all_are_lem, sons_seen, seen_leaf, seen_no_leaf, seen_low, seen_unfit, seen_fork, Apart, SonsFit, sons_fit}
+use Rattle.table_sound.proofs.SeenLaws.{leaf_words_of, sons_seen, seen_leaf, seen_no_leaf, seen_low, seen_unfit, seen_fork, Apart, SonsFit, sons_fit}
 
 -- what is added up is more than nothing only if each part is
 some_part : (x y : ℕ) → 0 < cond (eqb x 0) 0 y → (0 < x) × (cond (eqb x 0) 0 y ≡ y)
@@ -90,20 +91,12 @@ module _ (T : List ℕ) (l p : ℕ) (h : 0 < seen_of T l p) where
       let ok : leaf_ok T p ≡ true = ⊎_elim (λ e. e) (λ (e : leaf_ok T p ≡ false). absurd (omega (arith, seen_no_leaf T l p f e))) (by_bool (leaf_ok T p)) in
       (ok, seen_leaf T l p f ok)
 
--- a leaf's type and words
-leaf_words_of : (T : List ℕ) (p : ℕ) → leaf_ok T p ≡ true → (node_type T p ≤ top_colour) × ((q : ℕ) → q < 4 → son T p q ≡ none)
-unfolding leaf_ok
-leaf_words_of T p e =
-    let x = past (ltb top_colour (node_type T p)) _ e in
-    let a = all_are_lem none _ _ _ _ x.1 in
-    (ltb-false top_colour (node_type T p) x.0, by_quadrant (λ (q : ℕ). son T p q ≡ none) a.0 a.1 a.2 a.3)
-
 or_last : (a b : Bool) → b ≡ true → a || b ≡ true
 or_last a b e = rw e (or_true a)
 
 -- sons that are not like leaves keep rule 6
-mixed : (T : List ℕ) (p : ℕ) → like_leaves T (son T p 0) (son T p 1) (son T p 2) (son T p 3) ≡ false → mixed_ok T p ≡ true
-unfolding mixed_ok like_leaves like_types son_alike
+mixed : (T : List ℕ) (p : ℕ) → like_leaves T (four_sons T p) ≡ false → mixed_ok T p ≡ true
+unfolding mixed_ok like_leaves four_sons like_types son_alike
 mixed T p e = or_last (not (is_fork T p)) _ (go (all_of (son_alike T p) 4 0) refl (leb (node_type T (son T p 0)) top_colour) refl)
   where
     go : (x : Bool) → all_of (son_alike T p) 4 0 ≡ x → (y : Bool) → leb (node_type T (son T p 0)) top_colour ≡ y → not (x && y) ≡ true

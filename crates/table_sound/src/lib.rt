@@ -3,16 +3,16 @@
 #![tactic(auto)]
 
 ghost use Rattle.std.specs.Prelude.{◌≡◌};
-ghost use Rattle.table.specs.Table.{nodes};
-ghost use Rattle.table_sound.specs.Seen.{Four, like_leaves};
+ghost use Rattle.table_sound.specs.Seen.{AllNodes, like_leaves};
 
 use table_node::word_at;
 
 // Whether four nodes are like leaves.
-pub fn are_like(table: &[u32], nw: usize, ne: usize, sw: usize, se: usize) -> bool
-    requires { Four (nodes table.now) nw ne sw se }
-    ensures { result ≡ like_leaves table.now nw ne sw se }
+pub fn are_like(table: &[u32], sons: [usize; 4]) -> bool
+    requires { AllNodes table.now sons }
+    ensures { result ≡ like_leaves table.now sons }
 {
+    let [nw, ne, sw, se] = sons;
     quad::like_leaves(
         word_at(table, nw, 5),
         word_at(table, ne, 5),

@@ -3,4 +3,4 @@ use Rattle.quad.proofs.TreeLaws.{like_counted}
 use Rattle.quad.proofs.like_leaves.Goals as goal
 
 pub returns : goal.returns
-returns c = like_counted _ _ _ _ _ _ _ _ c.pick.ensures c.pick-2.ensures c.pick-3.ensures c.pick-4.ensures
+returns c = like_counted _ _ _ _ _ _ _ _ c.from.ensures c.from-2.ensures c.from-3.ensures c.from-4.ensures

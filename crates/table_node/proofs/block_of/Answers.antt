@@ -17,9 +17,6 @@ son_type-son-requires c =
 known : (c : After-son_type-son) → Turn c.args.n c.args.table.now c.args.p c.loop-q.q c.loop-q.unit c.loop-q.column c.loop-q.row c.loop-q.level c.son_type-son.result
 known c = turn c.requires c.loop-q.invariant c.loop-q-test.true c.son_type-son.ensures
 
-pub overflow_cast-column : goal.overflow_cast-column
-overflow_cast-column c = omega arith
-
 pub overflow_mul-column : goal.overflow_mul-column
 overflow_mul-column c = omega (arith, (known (goal.at.overflow_mul-column c).After-son_type-son).column)
 

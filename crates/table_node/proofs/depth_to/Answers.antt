@@ -9,22 +9,13 @@ pub loop-k-init : goal.loop-k-init
 loop-k-init c =
     let n : ℕ = c.args.n in
     let e : n - 0 ≡ n = omega arith in
-    (omega arith, omega arith, omega (arith, ap (λ (m : ℕ). depth_to c.args.table.now m c.args.p) e))
+    (omega arith, omega (arith, ap (λ (m : ℕ). depth_to c.args.table.now m c.args.p) e))
 
 pub returns-then-q-eq0 : goal.returns-then-q-eq0
 returns-then-q-eq0 c =
     let s = c.args in
     let l = c.loop-k in
     omega (arith, ap (depth_to s.table.now (s.n - l.k)) c.if-q-eq0.true, depth_root s.table.now (s.n - l.k))
-
-pub word_at-q-requires : goal.word_at-q-requires
-word_at-q-requires c = omega arith
-
-pub overflow_add-k : goal.overflow_add-k
-overflow_add-k c = omega arith
-
-pub loop-k-smaller : goal.loop-k-smaller
-loop-k-smaller c = omega arith
 
 pub loop-k-preserved : goal.loop-k-preserved
 loop-k-preserved c =
@@ -35,7 +26,7 @@ loop-k-preserved c =
     let T = s.table.now in
     let up = rising_at T (s.p + 1) l.q pre.1 (omega arith) c.if-q-eq0.false in
     let more = depth_more T s.n l.k l.q (omega arith) c.if-q-eq0.false in
-    (omega arith, omega (arith, up), omega (arith, more, ap (depth_to T (s.n - (l.k + 1))) c.word_at-q.ensures))
+    (omega (arith, up), omega (arith, more, ap (depth_to T (s.n - (l.k + 1))) c.word_at-q.ensures))
 
 pub returns : goal.returns
 returns c =

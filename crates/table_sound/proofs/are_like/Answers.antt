@@ -1,7 +1,7 @@
 -- `table_sound::are_like`: the four types.
-use Rattle.table_sound.proofs.SeenLaws.{like_words}
-use borrow.Author.Rules.{rules}
+use Rattle.table_sound.specs.Seen.{like_leaves}
 use Rattle.table_sound.proofs.are_like.Goals as goal
 
 pub returns : goal.returns
-returns c = search (like_words, rules)
+unfolding like_leaves
+returns c = rw (c.like_leaves.ensures, c.word_at.ensures, c.word_at-2.ensures, c.word_at-3.ensures, c.word_at-4.ensures, like_leaves)
