@@ -3,13 +3,14 @@
 
 ghost use Rattle.std.specs.Prelude.{◌≡◌, ◌^◌, ◌≤◌, ◌<◌};
 ghost use Rattle.quad.specs.Numbers.{top_level};
-ghost use Rattle.table.specs.Rules.{Asked};
+ghost use Rattle.table.specs.Table.{nodes};
 ghost use Rattle.ground_centre.specs.HalfPixels.{half_pixels, middle_of};
 ghost use Rattle.ground.specs.Ground.{within, range_of, reach_of, east_of, north_of};
 ghost use Rattle.ground.specs.Call.{Centres};
 
 use answer::{Outcome, Refusal};
 use ground::{Ground, Middle};
+use table::Sheet;
 
 // The middle of a block along one axis, in half pixels: that of the block with this index among those of its level.
 fn half_pixels(index: u32, level: u32) -> u32
@@ -20,11 +21,11 @@ fn half_pixels(index: u32, level: u32) -> u32
 }
 
 // The centre of node p's block.
-fn middle_of(n: u32, table: &[u32], p: usize) -> Middle
-    requires { Asked n table.now p }
-    ensures { result ≡ middle_of n table.now p }
+fn middle_of(sheet: &Sheet<'_>, p: usize) -> Middle
+    requires { p < nodes sheet.now.table.now }
+    ensures { result ≡ middle_of sheet.now.n sheet.now.table.now p }
 {
-    let b = table_node::block_of(n, table, p);
+    let b = table_node::block_of(sheet, p);
     let h = half_pixels(b.column, b.level);
     let k = half_pixels(b.row, b.level);
     Middle { h, k }
@@ -88,7 +89,8 @@ pub fn centre(n: u32, table: &[u32], node: u32, g: Ground, place: &mut [f64]) ->
     if place.len() < 2 {
         return Err(Refusal::NoRoom { needed: 2 });
     }
-    let middle = middle_of(n, table, node as usize);
+    let sheet = Sheet { n, table };
+    let middle = middle_of(&sheet, node as usize);
     place[0] = east_of(g, middle.h);
     place[1] = north_of(g, middle.k);
     Ok(0)

@@ -4,7 +4,6 @@
 ghost use Rattle.std.specs.Prelude.{◌≡◌, ◌<◌};
 ghost use Rattle.quad.specs.Direction.{common_side_of};
 ghost use Rattle.table.specs.Table.{nodes};
-ghost use Rattle.table.specs.Rules.{Accepted};
 ghost use Rattle.table.specs.Nodes.{level_of};
 ghost use Rattle.neighbour.specs.Search.{stay, way_to, onward_of, mirror_of, found_in, Sought, Ended, Descends, back_from};
 ghost use Rattle.neighbour.specs.Search.{Small};
@@ -13,6 +12,7 @@ ghost use Rattle.neighbour.specs.Calls.{Neighbours};
 
 use answer::{Outcome, Refusal};
 use neighbour::{Climb, Found};
+use table::Sheet;
 use table_node::{level_of, son_type, word_at};
 
 // The side that two quadrants share. Asked only where document 000's table defines it.
@@ -55,10 +55,11 @@ pub fn mirror(direction: usize, quadrant: usize) -> usize
 
 // Up from p, a father link and a level at a time, until the way leads no further than the node itself; none where it
 // leads off the sheet.
-fn ascend(n: u32, table: &[u32], p: usize, level: u32, direction: usize) -> Option<Climb>
-    requires { Sought n table.now p level direction × (direction < stay) }
-    ensures { Ended n table.now p level direction result }
+fn ascend(sheet: &Sheet<'_>, p: usize, level: u32, direction: usize) -> Option<Climb>
+    requires { Sought sheet.now.n sheet.now.table.now p level direction × (direction < stay) }
+    ensures { Ended sheet.now.n sheet.now.table.now p level direction result }
 {
+    let table = sheet.table;
     let mut node = p;
     let mut above = level;
     let mut way = Some(direction);
@@ -83,10 +84,11 @@ fn ascend(n: u32, table: &[u32], p: usize, level: u32, direction: usize) -> Opti
 // Back down from where a climb ended, a son link and a level at a time, to that level or the leaf in which the block
 // lies.
 // It follows links: `for below in (level..its).rev()` would stop at a leaf of level `below + 1`, and is no plainer.
-fn descend(n: u32, table: &[u32], from: Climb, level: u32) -> Found
-    requires { Descends n table.now from level }
-    ensures { Some result ≡ found_in n table.now level (back_from n table.now from level) }
+fn descend(sheet: &Sheet<'_>, from: Climb, level: u32) -> Found
+    requires { Descends sheet.now.n sheet.now.table.now from level }
+    ensures { Some result ≡ found_in sheet.now.n sheet.now.table.now level (back_from sheet.now.n sheet.now.table.now from level) }
 {
+    let table = sheet.table;
     let mut node = from.node;
     let mut its = from.level;
     let mut moves = from.moves;
@@ -102,13 +104,13 @@ fn descend(n: u32, table: &[u32], from: Climb, level: u32) -> Found
 }
 
 // The neighbour of p and the neighbour's level, from p and p's level.
-pub fn find(n: u32, table: &[u32], p: usize, level: u32, direction: usize) -> Option<Found>
-    requires { Accepted n table.now × (p < nodes table.now) × (level ≡ level_of n table.now p)
+pub fn find(sheet: &Sheet<'_>, p: usize, level: u32, direction: usize) -> Option<Found>
+    requires { (p < nodes sheet.now.table.now) × (level ≡ level_of sheet.now.n sheet.now.table.now p)
         × (direction < stay) }
-    ensures { result ≡ neighbour_found n table.now p direction }
+    ensures { result ≡ neighbour_found sheet.now.n sheet.now.table.now p direction }
 {
-    let top = ascend(n, table, p, level, direction)?;
-    Some(descend(n, table, top, level))
+    let top = ascend(sheet, p, level, direction)?;
+    Some(descend(sheet, top, level))
 }
 
 // The outcome of a search: the node with its level beside it, or code 20.
@@ -130,6 +132,7 @@ pub fn neighbour(n: u32, table: &[u32], node: u32, direction: u32) -> Outcome
     if 7 < direction {
         return Err(Refusal::BadDirection { given: direction });
     }
-    let level = level_of(n, table, node as usize);
-    outcome(find(n, table, node as usize, level, direction as usize))
+    let sheet = Sheet { n, table };
+    let level = level_of(&sheet, node as usize);
+    outcome(find(&sheet, node as usize, level, direction as usize))
 }

@@ -4,25 +4,26 @@
 
 ghost use Rattle.std.specs.Prelude.{◌≡◌, ◌+◌, ◌*◌, ◌<◌, ◌≤◌, length, [], ◌∷◌};
 ghost use Rattle.quad.specs.Numbers.{none};
-ghost use Rattle.table.specs.Rules.{Asked, depth_to};
+ghost use Rattle.table.specs.Rules.{depth_to};
 ghost use Rattle.table.specs.Nodes.{level_of, son_type};
 ghost use Rattle.table.specs.Blocks.{block_of};
 ghost use Rattle.std.proofs.lemmas.List.Edits.{sets};
 ghost use Rattle.table.specs.Table.{word, nodes, father, son, node_type};
 ghost use Rattle.table.specs.Links.{Rising, SonsIn, four_sons, four_types};
 
-use table::Block;
+use table::{Block, Sheet};
 
 // The block of node p, by climbing from p to the root: each link passed is one binary digit of column and row.
-pub fn block_of(n: u32, table: &[u32], p: usize) -> Block
-    requires { Asked n table.now p }
-    ensures { result ≡ block_of n table.now p }
+pub fn block_of(sheet: &Sheet<'_>, p: usize) -> Block
+    requires { p < nodes sheet.now.table.now }
+    ensures { result ≡ block_of sheet.now.n sheet.now.table.now p }
 {
+    let table = sheet.table;
     let mut q = p;
     let mut unit: u32 = 1;
     let mut column: u32 = 0;
     let mut row: u32 = 0;
-    let mut level = n;
+    let mut level = sheet.n;
     while q != 0 {
         let son = son_type(table, q);
         column += (son % 2) as u32 * unit;
@@ -35,11 +36,11 @@ pub fn block_of(n: u32, table: &[u32], p: usize) -> Block
 }
 
 // The level of node p: n less the father links from p to the root.
-pub fn level_of(n: u32, table: &[u32], p: usize) -> u32
-    requires { Asked n table.now p }
-    ensures { result ≡ level_of n table.now p }
+pub fn level_of(sheet: &Sheet<'_>, p: usize) -> u32
+    requires { p < nodes sheet.now.table.now }
+    ensures { result ≡ level_of sheet.now.n sheet.now.table.now p }
 {
-    n - depth_to(table, n, p)
+    sheet.n - depth_to(sheet.table, sheet.n, p)
 }
 
 // The node count.

@@ -15,7 +15,10 @@ pub returns-then-place-lt2 : goal.returns-then-place-lt2
 returns-then-place-lt2 c = centre_room _ _ _ _ _ _ c.in_ok-asked.ensures _ c.in_ok-range.ensures c.if-place-lt2.true
 
 pub middle_of-middle-requires : goal.middle_of-middle-requires
-middle_of-middle-requires c = search (asked_ok, rules)
+middle_of-middle-requires c = (asked_ok _ _ _ _ c.in_ok-asked.ensures).node
+
+pub invariant_of-sheet : goal.invariant_of-sheet
+invariant_of-sheet c = search (asked_ok, rules)
 
 pub returns : goal.returns
 returns c = centre_put _ _ _ _ _ _ c.in_ok-asked.ensures _ c.in_ok-range.ensures _ _ _ (omega arith) c.middle_of-middle.ensures c.east_of.ensures c.north_of.ensures

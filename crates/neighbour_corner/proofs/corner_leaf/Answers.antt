@@ -29,6 +29,9 @@ pub returns-then-not-adj : goal.returns-then-not-adj
 unfolding corner_leaf_of
 returns-then-not-adj c = search (thens, bounds, rules)
 
+pub invariant_of-sheet : goal.invariant_of-sheet
+invariant_of-sheet c = search (asked_ok, rules)
+
 pub leaf_beyond-requires : goal.leaf_beyond-requires
 leaf_beyond-requires c =
     let s = c.args in

@@ -7,9 +7,9 @@ use Rattle.table.specs.Nodes.{level_of}
 use Rattle.neighbour.specs.Search.{corner_under}
 use Rattle.neighbour_corner.proofs.corner_of.Given as goal
 
-abbrev pub invariant-loop-p : goal.invariant-loop-p
-invariant-loop-p l =
-    (l.p < nodes l.table) × (l.its ≡ level_of l.n l.table l.p) × (corner_under l.n l.table l.quadrant l.p ≡ corner_under l.n l.table l.quadrant l.node)
+abbrev pub invariant-loop-table : goal.invariant-loop-table
+invariant-loop-table l =
+    (l.p < nodes l.table) × (l.its ≡ level_of l.sheet.n l.table l.p) × (corner_under l.sheet.n l.table l.quadrant l.p ≡ corner_under l.sheet.n l.table l.quadrant l.node)
 
-abbrev pub decreases-loop-p : goal.decreases-loop-p
-decreases-loop-p l = nodes l.table - l.p
+abbrev pub decreases-loop-table : goal.decreases-loop-table
+decreases-loop-table l = nodes l.table - l.p

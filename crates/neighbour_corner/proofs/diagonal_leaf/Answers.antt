@@ -19,6 +19,9 @@ pub returns-then-corner-gt3 : goal.returns-then-corner-gt3
 unfolding diagonal_leaf_of
 returns-then-corner-gt3 c = search (thens, bounds, rules)
 
+pub invariant_of-sheet : goal.invariant_of-sheet
+invariant_of-sheet c = search (asked_ok, rules)
+
 pub leaf_beyond-requires : goal.leaf_beyond-requires
 leaf_beyond-requires c =
     let s = c.args in

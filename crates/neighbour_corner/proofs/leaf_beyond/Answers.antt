@@ -7,10 +7,10 @@ use Rattle.neighbour.proofs.CornerLaws.{beyond_off, beyond_at, mirror_small}
 use Rattle.neighbour_corner.proofs.leaf_beyond.Goals as goal
 
 pub level_of-level-requires : goal.level_of-level-requires
-level_of-level-requires c = let z = c.requires in record { accepted = z.accepted; node = z.node }
+level_of-level-requires c = c.requires.node
 
 pub find-requires : goal.find-requires
-find-requires c = let z = c.requires in (z.accepted, z.node, c.level_of-level.ensures, omega (arith, z.way, z.corner))
+find-requires c = let z = c.requires in (z.node, c.level_of-level.ensures, omega (arith, z.way, z.corner))
 
 pub returns-in_err-found : goal.returns-in_err-found
 returns-in_err-found c = c.from_residual.ensures ∙ beyond_off _ _ _ _ _ c.requires (sym c.find.ensures ∙ c.in_err-found.was)
@@ -19,7 +19,7 @@ pub corner_of-requires : goal.corner_of-requires
 corner_of-requires c =
     let z = c.requires in
     let k = found_facts _ _ z.accepted _ _ z.node (omega (arith, z.way)) _ _ (sym c.find.ensures ∙ c.in_ok-found.was) in
-    (z.accepted, k.below, k.level, omega (arith, c.mirror-quadrant.ensures, mirror_small _ _ _ _ _ z))
+    (k.below, k.level, omega (arith, c.mirror-quadrant.ensures, mirror_small _ _ _ _ _ z))
 
 pub returns : goal.returns
 returns c =

@@ -23,7 +23,7 @@ son_type-quadrant-requires c =
     (a.1.node, (turn _ _ _ _ _ z _ _ _ _ _ _ a.1 (λ e. omega (arith, e)) refl refl).father)
 
 -- what one turn comes to, once the quadrant is read
-turned : (c : After-son_type-quadrant) → let s = c.args in let v = c.loop-way in Turn s.n s.table.now s.p s.level s.direction v.node v.above c.in-Some.ahead v.moves c.son_type-quadrant.result (father s.table.now v.node)
+turned : (c : After-son_type-quadrant) → let s = c.args in let h = c.args.sheet.now in let v = c.loop-way in Turn h.n h.table.now s.p s.level s.direction v.node v.above c.in-Some.ahead v.moves c.son_type-quadrant.result (father h.table.now v.node)
 turned c =
     let z = c.requires.0 in
     let a = goes_on _ _ _ _ _ z _ _ _ _ _ c.loop-way.invariant c.in-Some.is in

@@ -5,7 +5,7 @@ use Rattle.neighbour.specs.Search.{way_to, direction_of, Climbed}
 use Rattle.neighbour_find.proofs.ascend.Given as goal
 
 abbrev pub invariant-loop-way : goal.invariant-loop-way
-invariant-loop-way l = (l.way ≡ way_to (direction_of l.way)) × Climbed l.n l.table l.p l.level l.direction l.node l.above (direction_of l.way) l.moves
+invariant-loop-way l = (l.way ≡ way_to (direction_of l.way)) × Climbed l.sheet.n l.table l.p l.level l.direction l.node l.above (direction_of l.way) l.moves
 
 abbrev pub decreases-loop-way : goal.decreases-loop-way
 decreases-loop-way l = l.node

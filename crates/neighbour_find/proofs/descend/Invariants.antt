@@ -8,7 +8,7 @@ use Rattle.neighbour_find.proofs.descend.Given as goal
 
 abbrev pub invariant-loop-its : goal.invariant-loop-its
 invariant-loop-its l =
-    Under l.n l.table (inward (l.initial.its - l.level) l.initial.moves (block (path_to l.table l.n l.initial.node))) l.level l.node l.its l.moves
+    Under l.sheet.n l.table (inward (l.initial.its - l.level) l.initial.moves (block (path_to l.table l.sheet.n l.initial.node))) l.level l.node l.its l.moves
 
 abbrev pub decreases-loop-its : goal.decreases-loop-its
 decreases-loop-its l = l.its - l.level

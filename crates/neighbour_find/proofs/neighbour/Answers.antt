@@ -18,12 +18,15 @@ unfolding neighbour_of
 returns-then-direction-gt7 c = search (thens, bounds, rules)
 
 pub level_of-level-requires : goal.level_of-level-requires
-level_of-level-requires c = search (asked_ok, rules)
+level_of-level-requires c = (asked_ok _ _ _ _ c.in_ok-asked.ensures).node
+
+pub invariant_of-sheet : goal.invariant_of-sheet
+invariant_of-sheet c = search (asked_ok, rules)
 
 pub find-requires : goal.find-requires
 find-requires c =
     let k = asked_ok _ _ _ _ c.in_ok-asked.ensures in
-    (k.accepted, k.node, c.level_of-level.ensures, omega arith)
+    (k.node, c.level_of-level.ensures, omega arith)
 
 pub outcome-requires : goal.outcome-requires
 outcome-requires c =

@@ -10,12 +10,12 @@ loop-q-init c = search (climbed_none, rules)
 
 pub son_type-son-requires : goal.son_type-son-requires
 son_type-son-requires c =
-    let t = turn c.requires c.loop-q.invariant c.loop-q-test.true refl in
+    let t = turn (record { accepted = c.args.sheet.now.accepted; node = c.requires }) c.loop-q.invariant c.loop-q-test.true refl in
     omega (arith, t.node, t.below)
 
 -- what a turn knows, once `son_type` has answered
-known : (c : After-son_type-son) → Turn c.args.n c.args.table.now c.args.p c.loop-q.q c.loop-q.unit c.loop-q.column c.loop-q.row c.loop-q.level c.son_type-son.result
-known c = turn c.requires c.loop-q.invariant c.loop-q-test.true c.son_type-son.ensures
+known : (c : After-son_type-son) → Turn c.args.sheet.now.n c.args.sheet.now.table.now c.args.p c.loop-q.q c.loop-q.unit c.loop-q.column c.loop-q.row c.loop-q.level c.son_type-son.result
+known c = turn (record { accepted = c.args.sheet.now.accepted; node = c.requires }) c.loop-q.invariant c.loop-q-test.true c.son_type-son.ensures
 
 pub overflow_mul-column : goal.overflow_mul-column
 overflow_mul-column c = omega (arith, (known (goal.at.overflow_mul-column c).After-son_type-son).column)

@@ -4,7 +4,7 @@ use Rattle.table.proofs.BlockLaws.{Climbed}
 use Rattle.table_node.proofs.block_of.Given as goal
 
 abbrev pub invariant-loop-q : goal.invariant-loop-q
-invariant-loop-q l = Climbed l.n l.table l.p l.q l.unit l.column l.row l.level
+invariant-loop-q l = Climbed l.sheet.n l.table l.p l.q l.unit l.column l.row l.level
 
 abbrev pub decreases-loop-q : goal.decreases-loop-q
 decreases-loop-q l = l.q
