@@ -38,7 +38,8 @@ pub fn fill_pixel(raster: &mut [u8], n: u32, x: usize, y: usize, colour: u8)
     raster[y * across + x] = colour;
 }
 
-// Fills a leaf's block. The width of small rows is written out, so that each is one store.
+// Fills a leaf's block. The width of small rows is written out, so that each is one store: a level known only when it
+// runs needs an arm for each, with a const parameter too.
 pub fn fill_leaf(raster: &mut [u8], n: u32, level: u32, x: usize, y: usize, colour: u8)
     requires { (n ≤ top_level) × OnSheet n level x y × (length raster.old ≡ 4 ^ n) }
     ensures { Painted n (in_block level x y) (λ i j. colour) raster.old raster.new }

@@ -48,7 +48,8 @@ impl Pixels<'_> {
         ])
     }
 
-    // Two rows of eight pixels, added up.
+    // Two rows of eight pixels, added up. Two, four and eight rows are a line each: a loop over rows in place of them is
+    // longer, and took longer (bench/SPEED.md, "Built by halves").
     #[tactic(auto, unfolding(crate::specs::Lanes::two_rows))]
     fn two_rows(&self, at: usize) -> u64
         requires { at + self.now.across + 8 ≤ length self.now.bytes.now }

@@ -69,7 +69,8 @@ pub fn put_four(
     put_pixels(raster, x, y, table, p, father)
 }
 
-// Writes a block of level 2, its nodes from p on, and gives the next node.
+// Writes a block of level 2, its nodes from p on, and gives the next node. The raster is copied, so that its parts are
+// not read again after each store.
 pub fn put_sixteen(
     raster: &Raster<'_>,
     x: usize,
@@ -82,6 +83,8 @@ pub fn put_sixteen(
         × Ready (tree_of (picture_of raster.now.n raster.now.pixels.bytes.now) 2 x y) p (length table.old) }
     ensures { Put (tree_of (picture_of raster.now.n raster.now.pixels.bytes.now) 2 x y) father p table.old table.new result }
 {
+    let own = *raster;
+    let raster = &own;
     let sum = raster.sum_sixteen(x, y);
     if sum % 16 == 0 {
         put_leaf(table, p as usize, father, sum / 16);
