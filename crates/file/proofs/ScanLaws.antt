@@ -5,11 +5,11 @@ use Rattle.std.specs.Option.{unwrap_or}
 use mathlib.Core.Bool.{Bool, true, false, cond, false≢true}
 use mathlib.Core.List.{List, [], ◌∷◌}
 use mathlib.Core.Path.{◌≡◌, refl, ap, sym, ◌∙◌}
-use Prim.Native.Nat.{ℕ, zero, suc, ◌+◌, ◌-◌, ◌*◌, ◌≤◌, ◌<◌}
+use Prim.Native.Nat.{ℕ, zero, suc, ◌+◌, ◌-◌, ◌≤◌, ◌<◌}
 use native.Mathlib.Omega.{arith}
 use lib.Dec.{ltb, eqb}
 use lib.ListN.{length, get_or}
-use borrow.Author.Tests.{ne_eqb, eqb-true, ltb-false, lt-ltb, le-ltb, le-leb}
+use borrow.Author.Tests.{ne_eqb, eqb-true, ltb-false, le-ltb, le-leb}
 use Rattle.base.proofs.CaseLaws.{past, through}
 use Rattle.answer.specs.declared.Refusal.{Refusal}
 use Rattle.answer.specs.declared.Refusal.TheVariants.{TooDeep}
@@ -20,35 +20,6 @@ use Rattle.file.specs.File.{Got, got, bad, mark, node_mark, record_at, onward, f
 use Rattle.file.specs.Reading.{stands_at, place_after, end_of, then_after, rest_after}
 use Rattle.file.proofs.SpeltLaws.{Stands, spelt_fits}
 use Rattle.file.proofs.BlockLaws.{record_case, record_stands, block_spells, root_kind}
-
--- a node's two marks, taken as one number
-abbrev pub record_marks : ℕ
-record_marks = mark + 256 * node_mark
-
-pub node_marks : (a b : ℕ) → a < 256 → a + 256 * b ≡ record_marks → (a ≡ mark) × (b ≡ node_mark)
-node_marks a b h e = (omega arith, omega arith)
-
--- whether a record stands, test by test
-module _ (s : List ℕ) (at : ℕ) where
-  pub record_short : length s - at < 3 → false ≡ stands_at s at
-  unfolding stands_at
-  record_short lt = rw (lt-ltb (length s - at) 3 lt)
-
-  module _ (fits : 3 ≤ length s - at) where
-    pub marks_wrong : (get_or s at 0 + 256 * get_or s (at + 1) 0 ≡ record_marks → ⊥) → false ≡ stands_at s at
-    unfolding stands_at
-    marks_wrong ne = go (eqb (get_or s at 0) mark) (eqb (get_or s (at + 1) 0) node_mark) refl refl
-      where
-        go : (x y : Bool) → eqb (get_or s at 0) mark ≡ x → eqb (get_or s (at + 1) 0) node_mark ≡ y → false ≡ stands_at s at
-        go true true e f = absurd (ne (omega (arith, eqb-true (get_or s at 0) mark e, eqb-true (get_or s (at + 1) 0) node_mark f)))
-        go true false e f = rw (le-ltb (length s - at) 3 fits, e, f)
-        go false y e f = rw (le-ltb (length s - at) 3 fits, e)
-
-    pub marks_right : get_or s at 0 < 256 → get_or s at 0 + 256 * get_or s (at + 1) 0 ≡ record_marks → (k : ℕ) (r : Bool) → k ≡ get_or s (at + 2) 0 → r ≡ is_type k → r ≡ stands_at s at
-    unfolding stands_at
-    marks_right first is k r e f =
-        let m = node_marks (get_or s at 0) (get_or s (at + 1) 0) first is in
-        rw (le-ltb (length s - at) 3 fits, m.0, m.1, ← e) f
 
 -- a record that stands
 pub stands : (s : List ℕ) (at : ℕ) → at ≤ length s → stands_at s at ≡ true → Stands s at (get_or s (at + 2) 0) × (is_type (get_or s (at + 2) 0) ≡ true)

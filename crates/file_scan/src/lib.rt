@@ -18,17 +18,14 @@ pub fn type_at(file: &[u8], at: usize) -> usize
 
 // Whether a whole node record stands at a place. Its marks are taken as one number. A truth, and the type is read behind
 // it: an `Option` of the type, with `?`, took 4 % more time on full sheets.
+#[tactic(auto, using(std::proofs::lemmas::Bool::Decides::nat_tests), unfolding(file::specs::Reading::stands_at))]
 fn has_record(file: &[u8], at: usize) -> bool
     requires { at ≤ length file.now }
     ensures { result ≡ stands_at file.now at }
 {
-    if file.len() - at < 3 {
-        return false;
-    }
-    if u16::from_le_bytes([file[at], file[at + 1]]) != u16::from_le_bytes([MARK, NODE]) {
-        return false;
-    }
-    quad::is_type(type_at(file, at))
+    file.len() - at >= 3
+        && u16::from_le_bytes([file[at], file[at + 1]]) == u16::from_le_bytes([MARK, NODE])
+        && quad::is_type(type_at(file, at))
 }
 
 // Four bytes as a number, the low byte first.
@@ -40,6 +37,7 @@ fn four_bytes(file: &[u8], at: usize) -> u32
 }
 
 // Whether four types are those of a fork's four pixels: each is a colour, and they are not all alike.
+#[tactic(auto, using(std::proofs::lemmas::Bool::Decides::nat_tests), unfolding(file::specs::Reading::pixel_types))]
 fn are_pixels(nw: usize, ne: usize, sw: usize, se: usize) -> bool
     ensures { result ≡ pixel_types nw ne sw se }
 {
@@ -63,21 +61,15 @@ fn pixels_stand(file: &[u8], at: usize) -> bool
     let ne = file[at + 5];
     let sw = file[at + 8];
     let se = file[at + 11];
-    if four_bytes(file, at) != u32::from_le_bytes([MARK, NODE, nw, MARK]) {
-        return false;
-    }
-    if four_bytes(file, at + 4) != u32::from_le_bytes([NODE, ne, MARK, NODE]) {
-        return false;
-    }
-    if four_bytes(file, at + 8) != u32::from_le_bytes([sw, MARK, NODE, se]) {
-        return false;
-    }
-    are_pixels(
-        quad::wide(nw),
-        quad::wide(ne),
-        quad::wide(sw),
-        quad::wide(se),
-    )
+    four_bytes(file, at) == u32::from_le_bytes([MARK, NODE, nw, MARK])
+        && four_bytes(file, at + 4) == u32::from_le_bytes([NODE, ne, MARK, NODE])
+        && four_bytes(file, at + 8) == u32::from_le_bytes([sw, MARK, NODE, se])
+        && are_pixels(
+            quad::wide(nw),
+            quad::wide(ne),
+            quad::wide(sw),
+            quad::wide(se),
+        )
 }
 
 // Four blocks of a level above 0, one after the other, read in the same way. A leaf, or a fork over four pixels, is
