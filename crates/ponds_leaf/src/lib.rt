@@ -38,6 +38,7 @@ fn label_at(words: &mut [u32], lines: &Lines, kind: usize, p: usize, x: usize, y
 
 // A leaf of which (x, y) is the top left pixel gets its label, is joined with what lies north and west of it, and
 // stands in the lines then. Gives 1 where it leads a set of its own, else 0.
+#[inline(always)]
 pub fn leaf(
     words: &mut [u32],
     lines: &mut Lines,

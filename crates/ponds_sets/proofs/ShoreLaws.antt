@@ -310,6 +310,9 @@ module _ {L L' : List ℕ} {label x y i : ℕ} (h : LinesFilled L label x y i L'
             ∙ h.rest j (λ p q. a p (omega (arith, q))) (λ p q. b p (omega (arith, q)));
       }
 
+pub fill_all : {L L' : List ℕ} {label x y side i : ℕ} → LinesFilled L label x y i L' → i ≤ side → side ≤ i → LinesFilled L label x y side L'
+fill_all {side = side} {i} h a b = let e : side ≡ i = omega arith in rw e h
+
 -- nothing of another set along the sides: then they have been met as they are
 pub no_other : (v label r : ℕ) → r ≡ one_if_other v label → r ≡ 0 → (v ≡ 0 → ⊥) → v ≡ label
 unfolding one_if_other

@@ -2,7 +2,7 @@
 use mathlib.Core.List.{List, [], ◌∷◌, ◌++◌}
 use mathlib.Core.Path.{◌≡◌, refl, ap, sym, ◌∙◌}
 use mathlib.Core.Bool.{true}
-use Prim.Native.Nat.{ℕ, ◌+◌, ◌-◌, ◌≤◌, ◌<◌}
+use Prim.Native.Nat.{ℕ, ◌+◌, ◌-◌, ◌*◌, ◌≤◌, ◌<◌}
 use native.Mathlib.Omega.{arith}
 use lib.ListN.{length, get_or, set, length-set, drop}
 use lib.Dec.{eqb}
@@ -10,12 +10,12 @@ use borrow.Author.Tests.{eqb-true}
 use Rattle.std.specs.List.{sum_by, slice_range}
 use Rattle.std.proofs.lemmas.List.{set-append_left, set-append_right, get_or_append_left, get_or-append-add, get_or-take, get_or-drop}
 use Rattle.std.proofs.lemmas.List.Sums.{sum_by-cons, get_or-le-sum_by}
-use Rattle.std.proofs.lemmas.List.{length-take-le, length-drop}
+use Rattle.std.proofs.lemmas.List.{length-take-le, length-drop, length-append}
 use Rattle.base.proofs.CaseLaws.{cond_case}
 use Rattle.ponds_sets.specs.Lines.{across}
 use Rattle.ponds_sets.specs.Touch.{one_if_other}
-use Rattle.ponds_sets.specs.Walk.{Quiet, written}
-use Rattle.ponds_sets.proofs.ShoreLaws.{no_other}
+use Rattle.ponds_sets.specs.Walk.{Quiet, LinesFilled, written}
+use Rattle.ponds_sets.proofs.ShoreLaws.{fill_more, no_other}
 
 pub written_both : (C R : List ℕ) (x y b c d : ℕ) → length C ≡ across → x + 2 ≤ across → set (set C x c) (x + 1) d ++ set (set R y b) (y + 1) d ≡ written (C ++ R) x y b c d
 written_both C R x y b c d long lx =
@@ -30,6 +30,20 @@ written_both C R x y b c d long lx =
     let e₃ : set (B ++ R) (across + y) b ≡ B ++ set R y b = rw ey at (set-append_right B R across (across + y) b lb (omega arith)) in
     let e₄ : set (B ++ set R y b) (across + y + 1) d ≡ B ++ set (set R y b) (y + 1) d = rw ez at (set-append_right B (set R y b) across (across + y + 1) d lb (omega arith)) in
     sym (ap (λ (l : List ℕ). set (set (set l (x + 1) d) (across + y) b) (across + y + 1) d) e₁ ∙ ap (λ (l : List ℕ). set (set l (across + y) b) (across + y + 1) d) e₂ ∙ ap (λ (l : List ℕ). set l (across + y + 1) d) e₃ ∙ e₄)
+
+-- one column and one row more
+pub filled_both : (C R L : List ℕ) (label x y i : ℕ) → length C ≡ across → length L ≡ 2 * across → x + i < across → y + i < across
+    → LinesFilled L label x y i (C ++ R) → LinesFilled L label x y (i + 1) (set C (x + i) label ++ set R (y + i) label)
+filled_both C R L label x y i lc ll lx ly f =
+    let D = set C (x + i) label in
+    let ld : length D ≡ across = length-set C (x + i) label ∙ lc in
+    let ey : across + y + i - across ≡ y + i = omega arith in
+    let e₁ : set (C ++ R) (x + i) label ≡ D ++ R = set-append_left C R (x + i) label (omega (arith, lx, lc)) in
+    let e₂ : set (D ++ R) (across + y + i) label ≡ D ++ set R (y + i) label = rw ey at (set-append_right D R across (across + y + i) label ld (omega arith)) in
+    rw (e₁, e₂) at (fill_more f ll lx ly)
+
+pub both_long : (C R L : List ℕ) → length C ≡ across → length R ≡ across → C ++ R ≡ L → length L ≡ 2 * across
+both_long C R L lc lr e = rw (← e) (length-append C R ∙ omega (arith, lc, lr))
 
 -- as many words of another label as there are words, or fewer
 pub other_few : (v label : ℕ) → one_if_other v label ≤ 1

@@ -54,13 +54,16 @@ impl Lines {
         self.rows[row]
     }
 
-    // Writes a label in the columns and the rows of a block.
+    // Writes a label in the columns and the rows of a block. A slice's `fill` writes its last word by itself, so seven of
+    // eight one by one: sparse sheets took a fifth longer.
     pub fn fill(&mut self, label: u32, x: usize, y: usize, side: usize)
         requires { (x + side ≤ across) × (y + side ≤ across) }
         ensures { LinesFilled self.old label x y side self.new }
     {
-        self.columns[x..x + side].fill(label);
-        self.rows[y..y + side].fill(label);
+        for i in 0..side {
+            self.columns[x + i] = label;
+            self.rows[y + i] = label;
+        }
     }
 
     // Writes the labels of a block of four pixels: of its last row, SW and SE, in its columns, and of its last column, NE
@@ -115,7 +118,9 @@ fn others(line: &[u32], label: u32) -> u32
 }
 
 // Joins a leaf of any type with what lies along its north side and its west side; a white one has nothing to join.
-// Along a long side mostly nothing is of another set, which is looked at first.
+// Along a long side mostly nothing is of another set, which is looked at first. Where the side is known, as 2 is to the
+// walk, only its own part is left of this.
+#[inline(always)]
 pub fn sides(
     words: &mut [u32],
     lines: &Lines,

@@ -15,9 +15,6 @@ bounds-words-a c = search (first_within, rules)
 pub bounds-words-b : goal.bounds-words-b
 bounds-words-b c = search (second_within, rules)
 
-pub bounds-words-b-then-words-a : goal.bounds-words-b-then-words-a
-bounds-words-b-then-words-a c = second_within c.requires c.root-a.ensures c.root-b.ensures
-
 pub returns-then-words-a : goal.returns-then-words-a
 returns-then-words-a c = search (second_under, rules)
 

@@ -3,12 +3,6 @@ use Rattle.ponds_join.proofs.JoinLaws.{asked_within, way_start, way_within, way_
 use Rattle.ponds_join.proofs.WayLaws.{way_fewer}
 use Rattle.ponds_join.proofs.leader.Goals as goal
 
-pub bounds-words-q : goal.bounds-words-q
-bounds-words-q c = search (asked_within, rules)
-
-pub loop-word-init : goal.loop-word-init
-loop-word-init c = search (way_start, rules)
-
 pub bounds-words-q-in-loop-word : goal.bounds-words-q-in-loop-word
 bounds-words-q-in-loop-word c = search (way_within, rules)
 

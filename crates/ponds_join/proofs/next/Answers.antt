@@ -2,8 +2,5 @@
 use Rattle.ponds_sets.proofs.ShoreLaws.{next_none, next_met}
 use Rattle.ponds_join.proofs.next.Goals as goal
 
-pub returns-then-other-before : goal.returns-then-other-before
-returns-then-other-before c = next_none c.if-other-before.true
-
 pub returns : goal.returns
 returns c = next_met c.if-other-before.false c.meet.ensures

@@ -6,5 +6,3 @@ use Rattle.ponds_join.proofs.root.Goals as goal
 pub returns-then-r-p : goal.returns-then-r-p
 returns-then-r-p c = search (root_shorter, rules)
 
-pub returns-else-r-p : goal.returns-else-r-p
-returns-else-r-p c = search (root_own, rules)
