@@ -5,7 +5,6 @@ ghost use Rattle.std.specs.Prelude.{◌≡◌, true, false, length, ◌+◌, ◌
 ghost use Rattle.std.specs.List.{list_any};
 ghost use Rattle.quad.specs.Numbers.{white, top_level};
 ghost use Rattle.table.specs.Table.{nodes, son, node_type, is_fork};
-ghost use Rattle.table.specs.Rules.{Accepted};
 ghost use Rattle.neighbour.specs.Search.{stay};
 ghost use Rattle.distance.specs.Calls.{Distances};
 ghost use Rattle.distance.specs.Distance.{plain_outside, distance_at, distances_of};
@@ -15,6 +14,7 @@ ghost use Rattle.distance_fill.specs.Handed.{Land, Fork, Handed, Fills};
 use answer::Outcome;
 use distance_seek::beside;
 use neighbour_around::of_son;
+use table::Sheet;
 use table_node::word_at;
 
 // The mark where no pixel is white.
@@ -137,10 +137,10 @@ fn sons(n: u32, table: &[u32], p: usize, level: u32, near: &[u32; 8], out: &mut 
 
 // The leaf that stands for all that is off the sheet: a black one, since the outside counts as black; where none is
 // black, the last node, which is no fork.
-fn outside(n: u32, table: &[u32]) -> u32
-    requires { Accepted n table.now }
-    ensures { Land table.now result }
+fn outside(sheet: &Sheet<'_>) -> u32
+    ensures { Land sheet.now.table.now result }
 {
+    let table = sheet.table;
     let last = table_node::node_count(table) - 1;
     for p in 0..last {
         if word_at(table, p, 5) == quad::BLACK {
@@ -151,13 +151,15 @@ fn outside(n: u32, table: &[u32]) -> u32
 }
 
 // Writes the distance of every node. A black root is the whole sheet: nothing is white.
-fn fill(n: u32, table: &[u32], out: &mut [u32])
-    requires { Accepted n table.now × (length out.old ≡ nodes table.now) }
-    ensures { out.new ≡ distances_of plain_outside n table.now }
+fn fill(sheet: &Sheet<'_>, out: &mut [u32])
+    requires { length out.old ≡ nodes sheet.now.table.now }
+    ensures { out.new ≡ distances_of plain_outside sheet.now.n sheet.now.table.now }
 {
+    let n = sheet.n;
+    let table = sheet.table;
     let kind = word_at(table, 0, 5);
     if kind == quad::FORK {
-        let near: [u32; 8] = [outside(n, table); 8];
+        let near: [u32; 8] = [outside(sheet); 8];
         sons(n, table, 0, n, &near, out);
         return;
     }
@@ -170,6 +172,7 @@ pub fn distances(n: u32, table: &[u32], out: &mut [u32]) -> Outcome
     ensures { Distances n table.now out.old result out.new }
 {
     table_check::each_node(n, table, out.len())?;
-    fill(n, table, out);
+    let sheet = Sheet { n, table };
+    fill(&sheet, out);
     Ok(0)
 }

@@ -16,7 +16,7 @@ fn too_large(file: &[u8]) -> bool
 {
     match file {
         [file::MARK, file::SHEET, level, ..] => {
-            let level = quad::wide(*level);
+            let level = usize::from(*level);
             PRINTED < level && level <= quad::TOP_LEVEL as usize
         }
         _ => false,

@@ -13,7 +13,7 @@ pub fn type_at(file: &[u8], at: usize) -> usize
     requires { at + 3 ≤ length file.now }
     ensures { result ≡ get_or file.now (at + 2) 0 }
 {
-    quad::wide(file[at + 2])
+    usize::from(file[at + 2])
 }
 
 // Whether a whole node record stands at a place. Its marks are taken as one number. A truth, and the type is read behind
@@ -65,10 +65,10 @@ fn pixels_stand(file: &[u8], at: usize) -> bool
         && four_bytes(file, at + 4) == u32::from_le_bytes([NODE, ne, MARK, NODE])
         && four_bytes(file, at + 8) == u32::from_le_bytes([sw, MARK, NODE, se])
         && are_pixels(
-            quad::wide(nw),
-            quad::wide(ne),
-            quad::wide(sw),
-            quad::wide(se),
+            usize::from(nw),
+            usize::from(ne),
+            usize::from(sw),
+            usize::from(se),
         )
 }
 

@@ -1,4 +1,5 @@
-// Reading a sheet file byte by byte: the first fault, with its place.
+// Reading a sheet file byte by byte: the first fault, with its place. File and place stay two values, as a place is what
+// is handed back, with a fault too.
 #![tactic(auto)]
 
 ghost use Rattle.std.specs.Prelude.{◌≡◌, ◌+◌, ◌<◌, ◌≤◌, length};
@@ -37,7 +38,7 @@ fn read_record(file: &[u8], at: u32) -> Result<Block, Refusal>
     ensures { result ≡ record_of file.now at }
 {
     marks(file, at, NODE)?;
-    let kind = quad::wide(byte_at(file, at + 2)?);
+    let kind = usize::from(byte_at(file, at + 2)?);
     if !quad::is_type(kind) {
         return Err(Refusal::BadByte { place: at + 2 });
     }

@@ -31,7 +31,7 @@ fn put_record(file: &mut [u8], at: usize, kind: u8)
 }
 
 // Writes the block of a fork p over four pixels and gives the place after it. All five types are known before the first
-// byte is written.
+// byte is written; a `for` over the four would be no shorter.
 fn write_pixels(table: &[u32], p: usize, file: &mut [u8], at: usize) -> usize
     requires { OverPixels table.now p × (at + 15 ≤ length file.old) }
     ensures { Wrote (tree_at table.now 1 p) at file.old file.new result }

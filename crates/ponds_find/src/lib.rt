@@ -5,38 +5,39 @@ ghost use Rattle.std.specs.Prelude.{◌≡◌, false, ◌*◌, ◌<◌, ◌≤�
 ghost use Rattle.answer.specs.Numbers.{room};
 ghost use Rattle.quad.specs.Numbers.{black, max_words};
 ghost use Rattle.table.specs.Table.{nodes, node_type, is_fork};
-ghost use Rattle.table.specs.Rules.{one, Accepted};
+ghost use Rattle.table.specs.Rules.{one};
 ghost use Rattle.ponds.specs.Numbered.{Numbered};
 ghost use Rattle.ponds.specs.Calls.{black_leaves, ponds_test, FindsInWords, FindsInEntries};
 ghost use Rattle.ponds_find.specs.Finding.{most_black, Finding};
 
 use answer::{Outcome, Refusal};
 use ponds::Pond;
+use table::Sheet;
 use table_node::word_at;
 
 // The most black leaves of a sheet: three under each fork that stands just above the pixels.
 const MOST_BLACK: usize = 3 * (1 << 2 * (quad::TOP_LEVEL - 1));
 
 // The numbers of a sheet that is one leaf: a black one is a pond. Gives how many there are.
-fn one_leaf(n: u32, table: &[u32], words: &mut [u32]) -> u32
-    requires { Accepted n table.now × (length words.old ≡ nodes table.now) × (is_fork table.now 0 ≡ false) }
-    ensures { Numbered n table.now words.new result }
+fn one_leaf(sheet: &Sheet<'_>, words: &mut [u32]) -> u32
+    requires { (length words.old ≡ nodes sheet.now.table.now) × (is_fork sheet.now.table.now 0 ≡ false) }
+    ensures { Numbered sheet.now.n sheet.now.table.now words.new result }
 {
-    let count = one_if_black(table, 0) as u32;
+    let count = one_if_black(sheet.table, 0) as u32;
     words[0] = count;
     count
 }
 
 // The numbers of a sheet's ponds. Gives how many there are.
-fn number(n: u32, table: &[u32], words: &mut [u32]) -> u32
-    requires { Accepted n table.now × (length words.old ≡ nodes table.now) }
-    ensures { Numbered n table.now words.new result }
+fn number(sheet: &Sheet<'_>, words: &mut [u32]) -> u32
+    requires { length words.old ≡ nodes sheet.now.table.now }
+    ensures { Numbered sheet.now.n sheet.now.table.now words.new result }
 {
-    if word_at(table, 0, 5) != quad::FORK {
-        return one_leaf(n, table, words);
+    if word_at(sheet.table, 0, 5) != quad::FORK {
+        return one_leaf(sheet, words);
     }
-    ponds_labels::lead(n, table, words);
-    ponds_ranks::number(n, table, words)
+    ponds_labels::lead(sheet, words);
+    ponds_ranks::number(sheet.n, sheet.table, words)
 }
 
 // 1 for a black leaf, else 0.
@@ -94,7 +95,8 @@ fn numbered(n: u32, table: &[u32], numbers: &mut [u32], wide: usize, have: usize
     ensures { Finding n table.now wide have numbers.old result numbers.new }
 {
     test(n, table, numbers.len(), wide, have)?;
-    Ok(number(n, table, numbers))
+    let sheet = Sheet { n, table };
+    Ok(number(&sheet, numbers))
 }
 
 // The ponds of a sheet, for any level, words and slices: one number for each node, and a register of five words for

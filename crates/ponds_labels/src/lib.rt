@@ -3,7 +3,6 @@
 
 ghost use Rattle.std.specs.Prelude.{◌≡◌, true, length};
 ghost use Rattle.table.specs.Table.{nodes, is_fork};
-ghost use Rattle.table.specs.Rules.{Accepted};
 ghost use Rattle.ponds_sets.specs.Labelled.{Labelled};
 ghost use Rattle.ponds_sets.specs.Walk.{Coming, Goes};
 ghost use Rattle.ponds_sets.specs.Touch.{mark_of};
@@ -11,6 +10,7 @@ ghost use Rattle.ponds_sets.specs.Touch.{mark_of};
 use ponds_join::{LEADING, first_nonzero};
 use ponds_leaf::{leaf, pixels};
 use ponds_sides::Lines;
+use table::Sheet;
 
 // The word of a fork above level 1: its mark where nothing under it leads a set of its own, else 0.
 #[tactic(auto, unfolding(ponds_sets::specs::Touch::mark_of))]
@@ -66,11 +66,11 @@ fn fork(
 
 // Labels the black leaves of a sheet whose root is a fork: a leader's word is its place, any other's leads to an
 // earlier leaf of its set, and a fork above level 1 is marked where no leader lies under it.
-pub fn lead(n: u32, table: &[u32], words: &mut [u32])
-    requires { Accepted n table.now × (length words.old ≡ nodes table.now) × (is_fork table.now 0 ≡ true) }
-    ensures { Labelled n table.now words.new }
+pub fn lead(sheet: &Sheet<'_>, words: &mut [u32])
+    requires { (length words.old ≡ nodes sheet.now.table.now) × (is_fork sheet.now.table.now 0 ≡ true) }
+    ensures { Labelled sheet.now.n sheet.now.table.now words.new }
 {
     words.fill(0);
     let mut lines = Lines::new();
-    fork(table, words, &mut lines, 0, n, 0, 0);
+    fork(sheet.table, words, &mut lines, 0, sheet.n, 0, 0);
 }

@@ -71,13 +71,6 @@ pub fn is_type(kind: usize) -> bool
     kind <= TOP_COLOUR || kind == FORK
 }
 
-// A byte as a number that counts or places something.
-pub fn wide(byte: u8) -> usize
-    ensures { result ≡ byte }
-{
-    usize::from(byte)
-}
-
 // Whether the quadrant touches that side of its father's block.
 pub fn adj(side: usize, quadrant: usize) -> bool
     requires { (side < 4) × (quadrant < 4) }

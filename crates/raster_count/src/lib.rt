@@ -64,7 +64,8 @@ impl Raster<'_> {
         both + both / 256
     }
 
-    // The nodes of a block of level 2.
+    // The nodes of a block of level 2. The four sums are taken here and in `sum_sixteen` anew: handed over as an array they
+    // are copied in pieces (bench/SPEED.md).
     fn count_sixteen(&self, x: usize, y: usize) -> u32
         requires { OnSheet self.now.n 2 x y }
         ensures { result ≡ size_of (tree_of (picture_of self.now.n self.now.pixels.bytes.now) 2 x y) }

@@ -15,7 +15,8 @@ fn fill_row(raster: &mut [u8], start: usize, width: usize, colour: u8)
     raster[start..start + width].fill(colour);
 }
 
-// Fills a block, row by row.
+// Fills a block, row by row. The raster is lent to be written, and stays a slice beside its level: a struct around it would
+// be taken apart at each store.
 fn fill_block(raster: &mut [u8], n: u32, level: u32, x: usize, y: usize, colour: u8)
     requires { (n ≤ top_level) × OnSheet n level x y × (length raster.old ≡ 4 ^ n) }
     ensures { Painted n (in_block level x y) (λ i j. colour) raster.old raster.new }

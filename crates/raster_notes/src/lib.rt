@@ -33,6 +33,7 @@ pub fn eight(pixels: &Pixels<'_>, at: usize, all: u64, slot: usize, kinds: &mut 
 }
 
 // Notes the four quarters of a block of level 4, whose sums are given, in the slots behind the block's own.
+// Four numbers, since an array of them would lie in memory and be copied in pieces (bench/SPEED.md).
 fn quarters(
     pixels: &Pixels<'_>,
     at: usize,

@@ -12,7 +12,8 @@ ghost use Rattle.raster.specs.Blocks.{OnSheet};
 use raster_count::Raster;
 use table_node::{put_leaf, put_node};
 
-// Writes a fork over four pixels, its nodes from p on, and gives the next node.
+// Writes a fork over four pixels, its nodes from p on, and gives the next node. These three stand apart, as a block of
+// one size is written at once, without a test and without a call for a son (bench/SPEED.md).
 fn put_pixels(
     raster: &Raster<'_>,
     x: usize,

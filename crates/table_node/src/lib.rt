@@ -58,7 +58,7 @@ pub fn word_at(table: &[u32], p: usize, j: usize) -> usize
     table[6 * p + j] as usize
 }
 
-// The four sons of a fork, NW, NE, SW, SE.
+// The four sons of a fork, NW, NE, SW, SE. Four calls: in `[1, 2, 3, 4].map(..)` the bound on a word's place did not close.
 pub fn four_sons(table: &[u32], p: usize) -> [usize; 4]
     requires { p < nodes table.now }
     ensures { result ≡ four_sons table.now p }

@@ -8,7 +8,10 @@ pub returns-in_err-each_node : goal.returns-in_err-each_node
 returns-in_err-each_node c = search (refused, rules)
 
 pub fill-requires : goal.fill-requires
-fill-requires c = each_node_ok _ _ _ _ c.in_ok-each_node.ensures
+fill-requires c = (each_node_ok _ _ _ _ c.in_ok-each_node.ensures).1
+
+pub invariant_of-sheet : goal.invariant_of-sheet
+invariant_of-sheet c = record { accepted = (each_node_ok _ _ _ _ c.in_ok-each_node.ensures).0 }
 
 pub returns : goal.returns
 returns c = search (filled, rules)

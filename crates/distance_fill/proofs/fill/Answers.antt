@@ -13,19 +13,19 @@ use Rattle.distance_fill.proofs.fill.Goals as goal
 pub sons-requires : goal.sons-requires
 sons-requires c =
     let s = c in
-    (root_handed _ _ s.requires.0 s.args.out.now s.requires.1 _ c.outside-near.ensures (eq-eqb _ _ (sym c.word_at-kind.ensures ∙ c.if-kind-eq-FORK.true)), s.requires.1)
+    (root_handed _ _ s.args.sheet.now.accepted s.args.out.now s.requires _ c.outside-near.ensures (eq-eqb _ _ (sym c.word_at-kind.ensures ∙ c.if-kind-eq-FORK.true)), s.requires)
 
 pub returns-then-kind-eq-FORK : goal.returns-then-kind-eq-FORK
 returns-then-kind-eq-FORK c =
     let s = c in
-    whole_filled _ _ s.requires.0 s.args.out.now s.requires.1 _ c.sons.ensures
+    whole_filled _ _ s.args.sheet.now.accepted s.args.out.now s.requires _ c.sons.ensures
 
 pub returns : goal.returns
 returns c =
     let s = c in
-    let word : c.if-kind-eq0.out ≡ distance_at plain_outside s.args.n s.args.table.now 0 =
+    let word : c.if-kind-eq0.out ≡ distance_at plain_outside s.args.sheet.now.n s.args.sheet.now.table.now 0 =
     elim c.if-kind-eq0.branch [
       | then-kind-eq0 w ↦ w.out-is ∙ white_word _ _ _ _ c.word_at-kind.ensures w.if-kind-eq0.true
-      | else-kind-eq0 w ↦ w.out-is ∙ root_word _ _ _ _ c.word_at-kind.ensures s.requires.0 s.requires.0.sized.some w.if-kind-eq0.false c.if-kind-eq-FORK.false refl
+      | else-kind-eq0 w ↦ w.out-is ∙ root_word _ _ _ _ c.word_at-kind.ensures s.args.sheet.now.accepted s.args.sheet.now.accepted.sized.some w.if-kind-eq0.false c.if-kind-eq-FORK.false refl
     ] in
-    leaf_filled _ _ s.requires.0 s.args.out.now s.requires.1 _ (told_leaf s.args.table.now 0 _ c.word_at-kind.ensures c.if-kind-eq-FORK.false) word
+    leaf_filled _ _ s.args.sheet.now.accepted s.args.out.now s.requires _ (told_leaf s.args.sheet.now.table.now 0 _ c.word_at-kind.ensures c.if-kind-eq-FORK.false) word

@@ -7,12 +7,12 @@ use Rattle.ponds_find.proofs.number.Goals as goal
 pub one_leaf-requires : goal.one_leaf-requires
 one_leaf-requires c =
     let s = c in
-    (s.requires.0, s.requires.1, told_leaf s.args.table.now 0 _ c.word_at.ensures (λ e. omega (arith, e)))
+    (s.requires, told_leaf s.args.sheet.now.table.now 0 _ c.word_at.ensures (λ e. omega (arith, e)))
 
 pub lead-requires : goal.lead-requires
 lead-requires c =
     let s = c in
-    (s.requires.0, s.requires.1, told_fork s.args.table.now 0 _ c.word_at.ensures (omega arith))
+    (s.requires, told_fork s.args.sheet.now.table.now 0 _ c.word_at.ensures (omega arith))
 
 pub returns : goal.returns
-returns c = ranked_numbered _ _ _ _ c.requires.0 c.number.ensures
+returns c = ranked_numbered _ _ _ _ c.args.sheet.now.accepted c.number.ensures

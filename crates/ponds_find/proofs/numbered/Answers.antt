@@ -6,7 +6,10 @@ pub returns-in_err-test : goal.returns-in_err-test
 returns-in_err-test c = not_numbered _ _ _ _ _ _ c.in_err-test.ensures _ c.from_residual.ensures
 
 pub number-requires : goal.number-requires
-number-requires c = let a = passed_call _ _ _ _ c.args.numbers.now _ c.in_ok-test.ensures in (a.0, a.1)
+number-requires c = (passed_call _ _ _ _ c.args.numbers.now _ c.in_ok-test.ensures).1
+
+pub invariant_of-sheet : goal.invariant_of-sheet
+invariant_of-sheet c = record { accepted = (passed_call _ _ _ _ c.args.numbers.now _ c.in_ok-test.ensures).0 }
 
 pub returns : goal.returns
 returns c = numbered-law _ _ _ _ _ _ c.in_ok-test.ensures _ _ c.number.ensures

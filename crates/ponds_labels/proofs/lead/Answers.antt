@@ -8,9 +8,9 @@ use Rattle.ponds_labels.proofs.lead.Goals as goal
 pub fork-requires : goal.fork-requires
 fork-requires c =
     let e : c.fill.new.self ≡ replicate (length c.args.words.now) 0 = search rules in
-    (lead_coming c.requires.0 c.requires.2 (rw c.requires.1 at e) _ c.new-lines.ensures, c.requires.2)
+    (lead_coming c.args.sheet.now.accepted c.requires.1 (rw c.requires.0 at e) _ c.new-lines.ensures, c.requires.1)
 
 pub returns : goal.returns
 returns c =
     let e : c.fill.new.self ≡ replicate (length c.args.words.now) 0 = search rules in
-    lead_labelled c.requires.0 c.requires.2 (rw c.requires.1 at e) c.new-lines.ensures _ _ _ c.fork.ensures
+    lead_labelled c.args.sheet.now.accepted c.requires.1 (rw c.requires.0 at e) c.new-lines.ensures _ _ _ c.fork.ensures
