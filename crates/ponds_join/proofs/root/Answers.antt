@@ -5,4 +5,3 @@ use Rattle.ponds_join.proofs.root.Goals as goal
 
 pub returns-then-r-p : goal.returns-then-r-p
 returns-then-r-p c = search (root_shorter, rules)
-

@@ -12,4 +12,3 @@ loop-i-preserved c =
       length-set _ _ _ ∙ v.1,
       filled_both _ _ _ _ _ _ _ v.0 L (omega (arith, c.requires.0, c.loop-i-test.true)) (omega (arith, c.requires.1, c.loop-i-test.true)) v.2,
     )
-
