@@ -19,6 +19,7 @@ fn grow(reg: &mut [Pond], i: usize, b: Block)
 
 // Writes the entries of ponds 1 to `count` from the nodes' numbers; what lies beyond them stays. Each begins empty, and
 // then grows by its pond's blocks.
+// It stays apart from `ponds_register::fill`, which has the block in hand: here it is climbed for (docs/DECISIONS.md).
 pub fn fill(n: u32, table: &[u32], numbers: &[u32], reg: &mut [Pond], count: usize)
     requires { Numbers n table.now numbers.now count × (count ≤ length reg.old) }
     ensures { reg.new ≡ overlay (entries n table.now numbers.now count)

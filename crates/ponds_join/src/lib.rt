@@ -86,6 +86,7 @@ pub fn apart(a: u32, b: u32) -> usize
 
 // The label of leaf p: of those north and west of its top left pixel the first that is not 0, or p itself; 0 for a
 // white leaf. Where both are black leaves' and differ, their sets are joined; no test on the map comes before that.
+// A label stays a word in which 0 is none, as the lines, fixed memory, hold it: many are compared at once (`Lines::quiet`).
 pub fn touch(words: &mut [u32], kind: usize, p: usize, north: u32, west: u32, place: u32) -> u32
     requires { Touching words.old kind p north west place }
     ensures { LabelsAs words.old kind p north west place words.new result }

@@ -39,6 +39,7 @@ fn fork(
     let side = quad::side(half) as usize;
     let sons = table_node::four_sons(table, p);
     let kinds = table_node::four_types(table, p);
+    // A number, 0 for none, as the contract (`Goes`) speaks of it: it is picked without a branch.
     let mut leaders: u32 = 0;
     for q in 0..4 {
         let son = sons[q];

@@ -14,6 +14,7 @@ use table::Block;
 use table_node::word_at;
 
 // Adds a block to the entry of that number, if it is one.
+// A number stays a word in which 0 is none: so it lies in the words that are lent (`Passing`).
 fn pass_number(reg: &mut [u32], number: u32, b: Block)
     requires { Passing b number reg.old }
     ensures { reg.new ≡ passed_of b number reg.old }
@@ -58,6 +59,7 @@ fn either(a: u32, b: u32) -> u32
 
 // Whether those of four pixels that have a number all have this one, which is their greatest: so many times it is their
 // sum.
+// Four numbers and no array: an array would lie in memory and be copied in pieces (bench/SPEED.md, 'An array given back').
 fn alike(number: u32, nw: u32, ne: u32, sw: u32, se: u32) -> bool
     ensures { result ≡ alike_of number nw ne sw se }
 {
@@ -66,6 +68,7 @@ fn alike(number: u32, nw: u32, ne: u32, sw: u32, se: u32) -> bool
 }
 
 // The entry with those pixels more that have a number, of the four of a fork of level 1 whose column and row are given.
+// Four numbers and no array, as in `alike`.
 fn grown_four(e: Pond, column: u32, row: u32, nw: u32, ne: u32, sw: u32, se: u32) -> Pond
     requires { Fitting e (block_from column row 1) }
     ensures { result ≡ grown_four e column row nw ne sw se }
@@ -80,6 +83,7 @@ fn grown_four(e: Pond, column: u32, row: u32, nw: u32, ne: u32, sw: u32, se: u32
 }
 
 // Adds them to entry i of the register.
+// Four numbers and no array, as in `alike`.
 fn grow_four(reg: &mut [u32], i: usize, column: u32, row: u32, nw: u32, ne: u32, sw: u32, se: u32)
     requires { (5 * i + 5 ≤ length reg.old) × Fitting (pond_at reg.old i) (block_from column row 1) }
     ensures { reg.new ≡ put_at reg.old i
@@ -91,6 +95,7 @@ fn grow_four(reg: &mut [u32], i: usize, column: u32, row: u32, nw: u32, ne: u32,
 
 // Adds the four pixels of a fork of level 1, whose column and row are given, to the entries of their numbers, which are
 // given too, one after the other.
+// Four numbers and no array, as in `alike`.
 fn pass_four(
     table: &[u32],
     numbers: &[u32],
@@ -120,6 +125,7 @@ fn pass_four(
 }
 
 // The four pixels under a fork are entered, and at once where all that have a number have the same one.
+// Column and row stand alone and in no block, as the level is 1 here.
 pub fn pass_pixels(table: &[u32], numbers: &[u32], reg: &mut [u32], p: usize, column: u32, row: u32)
     requires { Entering table.now numbers.now p (block_from column row 1) reg.old
         × (is_fork table.now p ≡ true) }

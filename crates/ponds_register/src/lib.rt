@@ -49,6 +49,7 @@ fn clear(reg: &mut [u32], count: usize)
 
 // Writes the entries of ponds 1 to `count` from the nodes' numbers; what lies beyond them stays. Leaves are passed from
 // the root down, each with its block.
+// It stays apart from `ponds_entries::fill`, which climbs for each node's block: here it is in hand (docs/DECISIONS.md).
 pub fn fill(n: u32, table: &[u32], numbers: &[u32], reg: &mut [u32], count: usize)
     requires { Numbers n table.now numbers.now count × (5 * count ≤ length reg.old) }
     ensures { reg.new ≡ overlay (words_of (entries n table.now numbers.now count))
