@@ -22,7 +22,8 @@ pub const FORK: usize = 2;
 // "None", where a word names no node: a word too.
 pub const NONE: usize = 4294967295;
 
-// Rows are the sides N, E, S, W; columns the quadrants NW, NE, SW, SE.
+// Rows are the sides N, E, S, W; columns the quadrants NW, NE, SW, SE. Both stay numbers: document 01 has these tables
+// read by direction and quadrant number, and a quadrant is the place of a son's word and two digits of a block's place.
 const ADJ: [[bool; 4]; 4] = [
     [true, true, false, false],
     [false, true, false, true],
@@ -56,7 +57,7 @@ pub fn pick(a: usize, b: usize, same: usize, other: usize) -> usize
 
 // Whether four types are those of four like leaves, over which a fork is needless: none of the others differs from the
 // first, and a fork's type does. They are counted and not tested in turn, as nothing tells beforehand which of them
-// differs.
+// differs. Four numbers, as `like_types` has them, of which the laws speak.
 pub fn like_leaves(nw: usize, ne: usize, sw: usize, se: usize) -> bool
     ensures { result ≡ like_types nw ne sw se }
 {
