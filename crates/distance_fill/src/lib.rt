@@ -78,7 +78,8 @@ fn leaf_distance(
     to_edge(quad::side(level), around(table, level, &own))
 }
 
-// Writes the distance of a fork of four pixels and of its sons: a black pixel has a white brother.
+// Writes the distance of a fork of four pixels and of its sons: a black pixel has a white brother. The words are the
+// caller's, one for each node; the passes hand table and words on as slices, which stay in registers (bench/SPEED.md).
 fn four_pixels(n: u32, table: &[u32], p: usize, out: &mut [u32])
     requires { Fork n table.now p 1 × (length out.old ≡ nodes table.now) }
     ensures { Fills n table.now out.old out.new 1 p }

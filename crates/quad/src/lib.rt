@@ -39,7 +39,8 @@ const OPQUAD: [u8; 4] = [3, 2, 1, 0];
 // `common_side_of`, which the table is proved against, has it.
 const COMMONSIDE: [[u8; 4]; 4] = [[4, 0, 3, 4], [0, 4, 4, 1], [3, 4, 4, 2], [4, 1, 2, 4]];
 
-// The side of a block, in pixels.
+// The side of a block, in pixels. A level stays a number: C gives it, and it falls by one with each link, so that a type
+// with its bound would be made anew at each.
 pub fn side(level: u32) -> u32
     requires { level ≤ top_level }
     ensures { result ≡ 2 ^ level }

@@ -10,7 +10,8 @@ use answer::Outcome;
 use raster_check::raster_length;
 use raster_fill::{fill_leaf, fill_pixel};
 
-// Paints the pixel of node p, a leaf since it is at level 0.
+// Paints the pixel of node p, a leaf since it is at level 0. The four functions here stand apart, as one that calls itself
+// for every pixel and leaf is slower (bench/SPEED.md).
 fn paint_pixel(table: &[u32], p: usize, n: u32, x: usize, y: usize, raster: &mut [u8])
     requires { Paintable n table.now p 0 x y (length raster.old) }
     ensures { Painted n (in_block 0 x y) (colours_at table.now 0 p) raster.old raster.new }
