@@ -5,7 +5,7 @@ ghost use Rattle.std.specs.Prelude.{◌≡◌, true, length, get_or, ◌+◌, �
 ghost use Rattle.table.specs.Table.{nodes, son, is_fork};
 ghost use Rattle.ponds_entry.specs.Gathered.{Fitting};
 ghost use Rattle.ponds_entry.specs.Words.{pond_at, put_at, passed_of, Passing};
-ghost use Rattle.ponds_pixels.specs.Four.{present_of, either_of, alike_of, grown_four, of_four};
+ghost use Rattle.ponds_pixels.specs.Four.{present_of, either_of, many_of, alike_of, grown_four, of_four};
 ghost use Rattle.ponds_entry.specs.Under.{block_from, Entering, Entered, Theirs};
 
 use ponds::Pond;
@@ -57,14 +57,21 @@ fn either(a: u32, b: u32) -> u32
     (a != 0 || b != 0) as u32
 }
 
+// How many of four pixels have a number.
+fn many(four: [u32; 4]) -> u32
+    ensures { (result ≡ of_four many_of four) × (result ≤ 4) }
+{
+    let [nw, ne, sw, se] = four;
+    present(nw) + present(ne) + present(sw) + present(se)
+}
+
 // Whether those of four pixels that have a number all have this one, which is their greatest: so many times it is their
 // sum.
 fn alike(number: u32, four: [u32; 4]) -> bool
     ensures { result ≡ of_four (alike_of number) four }
 {
     let [nw, ne, sw, se] = four;
-    let many = present(nw) + present(ne) + present(sw) + present(se);
-    number as usize * many as usize == nw as usize + ne as usize + sw as usize + se as usize
+    number as u64 * many(four) as u64 == nw as u64 + ne as u64 + sw as u64 + se as u64
 }
 
 // The entry with those pixels more that have a number, of the four of a fork of level 1 whose column and row are given.
@@ -74,7 +81,7 @@ fn grown_four(e: Pond, column: u32, row: u32, four: [u32; 4]) -> Pond
 {
     let [nw, ne, sw, se] = four;
     Pond {
-        pixels: e.pixels + (present(nw) + present(ne) + present(sw) + present(se)),
+        pixels: e.pixels + many(four),
         top: e.top.min(2 * row + 1 - either(nw, ne)),
         bottom: e.bottom.max(2 * row + either(sw, se)),
         left: e.left.min(2 * column + 1 - either(nw, sw)),
