@@ -8,3 +8,4 @@ pub mod WriteLaws
 pub mod FaultLaws
 pub mod OneFile
 pub mod RoundTrip
+pub mod CountedLaws

@@ -141,9 +141,9 @@ after_onward : (g : Got) (f : ℕ → Tree → Got) (h : ℕ → Tree → Option
 after_onward (got i t) f h e = e i t refl
 after_onward (bad o) f h e = refl
 
-pub four_left : (s : List ℕ) (l at : ℕ) → rest_after (block_at s l) 4 0 at (0 ∷ 0 ∷ 0 ∷ 0 ∷ []) ≡ place_after (four_at (block_at s l) at)
+pub four_after : (s : List ℕ) (l at : ℕ) → rest_after (block_at s l) 4 0 at (0 ∷ 0 ∷ 0 ∷ 0 ∷ []) ≡ place_after (four_at (block_at s l) at)
 unfolding rest_after
-four_left s l at =
+four_after s l at =
     after_onward (block_at s l at) _ _ (λ i₁ a ea. after_onward (block_at s l i₁) _ _ (λ i₂ b _. after_onward (block_at s l i₂) _ _ (λ i₃ c _.
     after_onward (block_at s l i₃) _ _ (λ i₄ d _.
     let co = (block_spells s l at i₁ a ea).sound.coloured in

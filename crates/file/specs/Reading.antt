@@ -4,7 +4,7 @@ use Rattle.std.specs.Prelude.{Result, Ok, Err, Bool, true, false, cond, ◌≡�
 use Rattle.answer.specs.declared.Refusal.{Refusal}
 use Rattle.answer.specs.declared.Refusal.TheVariants.{BadLevel, BadByte, BadCount}
 use Rattle.answer.specs.Numbers.{Outcome}
-use Rattle.quad.specs.Numbers.{top_level, top_colour, is_type}
+use Rattle.quad.specs.Numbers.{top_level, top_colour, fork_type, is_type}
 use Rattle.quad.specs.Tree.{Tree, colour, like_types, size_of}
 use Rattle.file.specs.declared.Block.{Block}
 use Rattle.file.specs.declared.Contents.{Contents}
@@ -92,6 +92,20 @@ unfoldable pub rest_after : (ℕ → Got) → ℕ → ℕ → ℕ → List ℕ �
 rest_after block zero q at kinds =
     cond (like_types (get_or kinds 0 0) (get_or kinds 1 0) (get_or kinds 2 0) (get_or kinds 3 0)) None (Some at)
 rest_after block (suc left) q at kinds = then_after (block at) (λ i t. rest_after block left (q + 1) i (slice_set kinds q (colour t)))
+
+-- the same by counting: 1 for two types that are the same; what comes after a block, or 0; and the place after the last so
+-- many of four blocks, or 0: `last` is the type of the block before them, and `same` of those before have the type of the
+-- one before
+abbrev pub same_type : ℕ → ℕ → ℕ
+same_type a b = cond (eqb a b) 1 0
+
+abbrev pub end_then : Got → (ℕ → Tree → ℕ) → ℕ
+end_then (got at t) next = next at t
+end_then (bad o) next = 0
+
+unfoldable pub rest_end : (ℕ → Got) → ℕ → ℕ → ℕ → ℕ → ℕ
+rest_end block zero at last same = cond (eqb last fork_type) at (cond (eqb same 3) 0 at)
+rest_end block (suc left) at last same = end_then (block at) (λ i t. rest_end block left i (colour t) (same + same_type (colour t) last))
 
 -- r is the number of the four bytes at a place, the low byte first
 pub record FourBytes (s : List ℕ) (at r : ℕ) : Type 0 where

@@ -17,8 +17,8 @@ pub const ACROSS: usize = 128;
 // the next block. To contracts they are one list, the columns' words and then the rows'.
 #[derive(Drop)]
 pub struct Lines {
-    columns: [u32; ACROSS],
-    rows: [u32; ACROSS],
+    pub columns: [u32; ACROSS],
+    pub rows: [u32; ACROSS],
 }
 
 impl Model for Lines {

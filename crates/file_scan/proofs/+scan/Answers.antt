@@ -1,12 +1,12 @@
 use Rattle.std.proofs.Common.{arith, ap, sym, ◌∙◌, ◌≡◌, Some}
 use Rattle.file.specs.File.{block_at}
 use Rattle.file.specs.Reading.{place_after}
-use Rattle.file.proofs.ScanLaws.{fits_three, four_left, block_refused, scan_refused, scan_on, leaf_ends, fork_ends, pixels_end, ends_within, ends_alike, ends_unlike}
+use Rattle.file.proofs.ScanLaws.{fits_three, four_after, block_refused, scan_refused, scan_on, leaf_ends, fork_ends, pixels_end, ends_within, ends_alike, ends_unlike}
 use Rattle.file_scan.proofs.+scan.Goals.{then-kind-eq-FORK+then-level-gt1+in_ok-next, then-kind-eq-FORK+else-level-gt1+then-pixels_stand, else-kind-eq-FORK}
 use Rattle.file_scan.proofs.+scan.Goals as goal
 
 pub loop-q-init : goal.loop-q-init
-loop-q-init t c = (c.requires.1, four_left _ _ _)
+loop-q-init t c = (c.requires.1, four_after _ _ _)
 
 pub returns-then-not-has_record : goal.returns-then-not-has_record
 returns-then-not-has_record t c = scan_refused _ _ _ _ _ _ c.loop-q.invariant.1 (omega arith) (block_refused _ _ _ c.if-not-has_record.ensures)

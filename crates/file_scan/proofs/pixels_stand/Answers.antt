@@ -14,7 +14,7 @@ returns-then-four_bytes-from_le_bytes-3 c =
     elim c.if-four_bytes-from_le_bytes-2.branch [
       | then-four_bytes-from_le_bytes-2 w ↦ elim c.if-four_bytes-from_le_bytes.branch [
         | then-four_bytes-from_le_bytes v ↦
-            pixels_there _ _ _ _ _ _ c.wide.ensures c.wide-then-four_bytes-from_le_bytes-3.ensures c.wide-then-four_bytes-from_le_bytes-3-2.ensures c.wide-then-four_bytes-from_le_bytes-3-3.ensures
+            pixels_there _ _ _ _ _ _ c.from.ensures c.from-then-four_bytes-from_le_bytes-3.ensures c.from-then-four_bytes-from_le_bytes-3-2.ensures c.from-then-four_bytes-from_le_bytes-3-3.ensures
             _ _ _ _ _ _ c.four_bytes.ensures c.from_le_bytes.ensures v.if-four_bytes-from_le_bytes.true
             v.four_bytes-then-four_bytes-from_le_bytes.ensures v.from_le_bytes-then-four_bytes-from_le_bytes.ensures (eqb-true _ _ (sym v.value-is ∙ w.if-four_bytes-from_le_bytes-2.true))
             w.four_bytes-then-four_bytes-from_le_bytes-2.ensures w.from_le_bytes-then-four_bytes-from_le_bytes-2.ensures (eqb-true _ _ (sym w.value-is ∙ c.if-four_bytes-from_le_bytes-3.true))

@@ -15,8 +15,8 @@ returns-in_err-byte_at c =
 
 pub returns-then-not-is_type : goal.returns-then-not-is_type
 unfolding record_of
-returns-then-not-is_type c = marks_ok _ _ _ _ _ _ c.in_ok-marks.ensures (byte_ok _ _ _ _ _ c.in_ok-byte_at.ensures (λ e. rw (← (c.wide-kind.ensures ∙ e), ← c.if-not-is_type.ensures)))
+returns-then-not-is_type c = marks_ok _ _ _ _ _ _ c.in_ok-marks.ensures (byte_ok _ _ _ _ _ c.in_ok-byte_at.ensures (λ e. rw (← (c.from-kind.ensures ∙ e), ← c.if-not-is_type.ensures)))
 
 pub returns : goal.returns
 unfolding record_of
-returns c = marks_ok _ _ _ _ _ _ c.in_ok-marks.ensures (byte_ok _ _ _ _ _ c.in_ok-byte_at.ensures (λ e. rw (← (c.wide-kind.ensures ∙ e), ← c.if-not-is_type.ensures)))
+returns c = marks_ok _ _ _ _ _ _ c.in_ok-marks.ensures (byte_ok _ _ _ _ _ c.in_ok-byte_at.ensures (λ e. rw (← (c.from-kind.ensures ∙ e), ← c.if-not-is_type.ensures)))
