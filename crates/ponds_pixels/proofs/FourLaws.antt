@@ -19,25 +19,24 @@ use Rattle.ponds_entry.specs.Under.{together}
 use Rattle.ponds_entry.proofs.EntryLaws.{same_pond}
 
 -- what the code has
-pub alike_is : (k nw ne sw se a b c d : ℕ) → a ≡ present_of nw → b ≡ present_of ne → c ≡ present_of sw → d ≡ present_of se
-    → eqb (k * (a + b + c + d)) (nw + ne + sw + se) ≡ alike_of k nw ne sw se
+pub alike_is : (k nw ne sw se many : ℕ) → many ≡ many_of nw ne sw se → eqb (k * many) (nw + ne + sw + se) ≡ alike_of k nw ne sw se
 unfolding alike_of
-alike_is k nw ne sw se a b c d ea eb ec ed = rw (ea, eb, ec, ed)
+alike_is k nw ne sw se many e = rw e
 
-pub times_fits : (k a b c d : ℕ) → Fits w32 k → a ≤ 1 → b ≤ 1 → c ≤ 1 → d ≤ 1 → Fits w64 (k * (a + b + c + d))
-times_fits k a b c d h ha hb hc hd =
-    let few : k * (a + b + c + d) ≤ k * 4 = mul-le-mul {n₂ = k} {m₂ = 4} (omega arith) (omega arith) in
+pub times_fits : (k many : ℕ) → Fits w32 k → many ≤ 4 → Fits w64 (k * many)
+times_fits k many h few =
+    let most : k * many ≤ k * 4 = mul-le-mul {n₂ = k} {m₂ = 4} (omega arith) few in
     omega arith
 
-pub four_is : (e : Pond) (column row nw ne sw se a b c d north south west east top bottom left right : ℕ)
-    → a ≡ present_of nw → b ≡ present_of ne → c ≡ present_of sw → d ≡ present_of se
+pub four_is : (e : Pond) (column row nw ne sw se many north south west east top bottom left right : ℕ)
+    → many ≡ many_of nw ne sw se
     → north ≡ either_of nw ne → south ≡ either_of sw se → west ≡ either_of nw sw → east ≡ either_of ne se
     → top ≡ min e.top (2 * row + 1 - north) → bottom ≡ max e.bottom (2 * row + south)
     → left ≡ min e.left (2 * column + 1 - west) → right ≡ max e.right (2 * column + east)
-    → ◌≡◌ {A = Pond} (record { pixels = e.pixels + (a + b + c + d); top = top; bottom = bottom; left = left; right = right }) (grown_four e column row nw ne sw se)
+    → ◌≡◌ {A = Pond} (record { pixels = e.pixels + many; top = top; bottom = bottom; left = left; right = right }) (grown_four e column row nw ne sw se)
 unfolding grown_four
-four_is e column row nw ne sw se a b c d north south west east top bottom left right ea eb ec ed en es ew ee et eb' el er =
-    rw (et, eb', el, er, en, es, ew, ee, ea, eb, ec, ed)
+four_is e column row nw ne sw se many north south west east top bottom left right em en es ew ee et eb el er =
+    rw (et, eb, el, er, en, es, ew, ee, em)
 
 pub four_written : (reg out : List ℕ) (i : ℕ) (e g : Pond) (column row nw ne sw se : ℕ) → e ≡ pond_at reg i → g ≡ grown_four e column row nw ne sw se → out ≡ put_at reg i g
     → out ≡ put_at reg i (grown_four (pond_at reg i) column row nw ne sw se)

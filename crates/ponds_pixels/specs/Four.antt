@@ -1,5 +1,5 @@
 -- The four pixels of a fork of level 1 by their numbers, 0 for one that has none.
-use Rattle.std.specs.Prelude.{Bool, cond, ℕ, ◌+◌, ◌-◌, ◌*◌, min, max, eqb}
+use Rattle.std.specs.Prelude.{Bool, List, cond, get_or, ℕ, ◌+◌, ◌-◌, ◌*◌, min, max, eqb}
 use Rattle.ponds.specs.declared.Pond.{Pond}
 
 -- 1 for a pixel that has a number, 0 for one that has none
@@ -28,3 +28,7 @@ grown_four e column row nw ne sw se = record {
   left = min e.left (2 * column + 1 - either_of nw sw);
   right = max e.right (2 * column + either_of ne se);
 }
+
+-- what is said of four numbers, said of a list of them: NW, NE, SW, SE
+abbrev pub of_four : {A : Type 0} → (ℕ → ℕ → ℕ → ℕ → A) → List ℕ → A
+of_four f four = f (get_or four 0 0) (get_or four 1 0) (get_or four 2 0) (get_or four 3 0)

@@ -5,7 +5,7 @@ ghost use Rattle.std.specs.Prelude.{◌≡◌, true, length, get_or, ◌+◌, �
 ghost use Rattle.table.specs.Table.{nodes, son, is_fork};
 ghost use Rattle.ponds_entry.specs.Gathered.{Fitting};
 ghost use Rattle.ponds_entry.specs.Words.{pond_at, put_at, passed_of, Passing};
-ghost use Rattle.ponds_pixels.specs.Four.{present_of, either_of, alike_of, grown_four};
+ghost use Rattle.ponds_pixels.specs.Four.{present_of, either_of, many_of, alike_of, grown_four, of_four};
 ghost use Rattle.ponds_entry.specs.Under.{block_from, Entering, Entered, Theirs};
 
 use ponds::Pond;
@@ -57,24 +57,31 @@ fn either(a: u32, b: u32) -> u32
     (a != 0 || b != 0) as u32
 }
 
+// How many of four pixels have a number.
+fn many(four: [u32; 4]) -> u32
+    ensures { (result ≡ of_four many_of four) × (result ≤ 4) }
+{
+    let [nw, ne, sw, se] = four;
+    present(nw) + present(ne) + present(sw) + present(se)
+}
+
 // Whether those of four pixels that have a number all have this one, which is their greatest: so many times it is their
 // sum.
-// Four numbers and no array: an array would lie in memory and be copied in pieces (bench/SPEED.md, 'An array given back').
-fn alike(number: u32, nw: u32, ne: u32, sw: u32, se: u32) -> bool
-    ensures { result ≡ alike_of number nw ne sw se }
+fn alike(number: u32, four: [u32; 4]) -> bool
+    ensures { result ≡ of_four (alike_of number) four }
 {
-    let many = present(nw) + present(ne) + present(sw) + present(se);
-    number as usize * many as usize == nw as usize + ne as usize + sw as usize + se as usize
+    let [nw, ne, sw, se] = four;
+    number as u64 * many(four) as u64 == nw as u64 + ne as u64 + sw as u64 + se as u64
 }
 
 // The entry with those pixels more that have a number, of the four of a fork of level 1 whose column and row are given.
-// Four numbers and no array, as in `alike`.
-fn grown_four(e: Pond, column: u32, row: u32, nw: u32, ne: u32, sw: u32, se: u32) -> Pond
+fn grown_four(e: Pond, column: u32, row: u32, four: [u32; 4]) -> Pond
     requires { Fitting e (block_from column row 1) }
-    ensures { result ≡ grown_four e column row nw ne sw se }
+    ensures { result ≡ of_four (grown_four e column row) four }
 {
+    let [nw, ne, sw, se] = four;
     Pond {
-        pixels: e.pixels + (present(nw) + present(ne) + present(sw) + present(se)),
+        pixels: e.pixels + many(four),
         top: e.top.min(2 * row + 1 - either(nw, ne)),
         bottom: e.bottom.max(2 * row + either(sw, se)),
         left: e.left.min(2 * column + 1 - either(nw, sw)),
@@ -83,19 +90,17 @@ fn grown_four(e: Pond, column: u32, row: u32, nw: u32, ne: u32, sw: u32, se: u32
 }
 
 // Adds them to entry i of the register.
-// Four numbers and no array, as in `alike`.
-fn grow_four(reg: &mut [u32], i: usize, column: u32, row: u32, nw: u32, ne: u32, sw: u32, se: u32)
+fn grow_four(reg: &mut [u32], i: usize, column: u32, row: u32, four: [u32; 4])
     requires { (5 * i + 5 ≤ length reg.old) × Fitting (pond_at reg.old i) (block_from column row 1) }
     ensures { reg.new ≡ put_at reg.old i
-        (grown_four (pond_at reg.old i) column row nw ne sw se) }
+        (of_four (grown_four (pond_at reg.old i) column row) four) }
 {
-    let e = grown_four(entry_at(reg, i), column, row, nw, ne, sw, se);
+    let e = grown_four(entry_at(reg, i), column, row, four);
     put_entry(reg, i, e);
 }
 
 // Adds the four pixels of a fork of level 1, whose column and row are given, to the entries of their numbers, which are
 // given too, one after the other.
-// Four numbers and no array, as in `alike`.
 fn pass_four(
     table: &[u32],
     numbers: &[u32],
@@ -103,13 +108,11 @@ fn pass_four(
     p: usize,
     column: u32,
     row: u32,
-    nw: u32,
-    ne: u32,
-    sw: u32,
-    se: u32,
+    four: [u32; 4],
 )
     requires { Entering table.now numbers.now p (block_from column row 1) reg.old
-        × (is_fork table.now p ≡ true) × Theirs table.now numbers.now p nw ne sw se }
+        × (is_fork table.now p ≡ true) × Theirs table.now numbers.now p
+        (get_or four 0 0) (get_or four 1 0) (get_or four 2 0) (get_or four 3 0) }
     ensures { Entered table.now numbers.now p (block_from column row 1) reg.old
         reg.new }
 {
@@ -118,6 +121,7 @@ fn pass_four(
         row,
         level: 1,
     };
+    let [nw, ne, sw, se] = four;
     pass_number(reg, nw, part(b, 0));
     pass_number(reg, ne, part(b, 1));
     pass_number(reg, sw, part(b, 2));
@@ -132,17 +136,20 @@ pub fn pass_pixels(table: &[u32], numbers: &[u32], reg: &mut [u32], p: usize, co
     ensures { Entered table.now numbers.now p (block_from column row 1) reg.old
         reg.new }
 {
-    let nw = son_number(table, numbers, p, 0);
-    let ne = son_number(table, numbers, p, 1);
-    let sw = son_number(table, numbers, p, 2);
-    let se = son_number(table, numbers, p, 3);
+    let four = [
+        son_number(table, numbers, p, 0),
+        son_number(table, numbers, p, 1),
+        son_number(table, numbers, p, 2),
+        son_number(table, numbers, p, 3),
+    ];
+    let [nw, ne, sw, se] = four;
     let number = nw.max(ne).max(sw.max(se));
     if number == 0 {
         return;
     }
-    if alike(number, nw, ne, sw, se) {
-        grow_four(reg, number as usize - 1, column, row, nw, ne, sw, se);
+    if alike(number, four) {
+        grow_four(reg, number as usize - 1, column, row, four);
         return;
     }
-    pass_four(table, numbers, reg, p, column, row, nw, ne, sw, se);
+    pass_four(table, numbers, reg, p, column, row, four);
 }

@@ -4,17 +4,17 @@ use borrow.Author.Rules.{rules}
 use Rattle.ponds_pixels.proofs.PixelLaws.{pixel_below, pixels_none, four_stands, four_fits, pixels_alike}
 use Rattle.ponds_pixels.proofs.pass_pixels.Goals as goal
 
-pub son_number-nw-requires : goal.son_number-nw-requires
-son_number-nw-requires c = search (pixel_below, rules)
+pub son_number-requires : goal.son_number-requires
+son_number-requires c = search (pixel_below, rules)
 
-pub son_number-ne-requires : goal.son_number-ne-requires
-son_number-ne-requires c = search (pixel_below, rules)
+pub son_number-requires-2 : goal.son_number-requires-2
+son_number-requires-2 c = search (pixel_below, rules)
 
-pub son_number-sw-requires : goal.son_number-sw-requires
-son_number-sw-requires c = search (pixel_below, rules)
+pub son_number-requires-3 : goal.son_number-requires-3
+son_number-requires-3 c = search (pixel_below, rules)
 
-pub son_number-se-requires : goal.son_number-se-requires
-son_number-se-requires c = search (pixel_below, rules)
+pub son_number-requires-4 : goal.son_number-requires-4
+son_number-requires-4 c = search (pixel_below, rules)
 
 pub returns-then-number-eq0 : goal.returns-then-number-eq0
 returns-then-number-eq0 c z = search (pixels_none, rules)
