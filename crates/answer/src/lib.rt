@@ -2,7 +2,7 @@
 #![tactic(auto)]
 
 ghost use Rattle.std.specs.Prelude.{◌≡◌, ◌≤◌};
-ghost use Rattle.answer.specs.Numbers.{code_of, value_of, number_of, with_level};
+ghost use Rattle.answer.specs.Numbers.{code_of, value_of, number_of, with_level, answers};
 
 use std::fmt;
 
@@ -93,9 +93,41 @@ impl Refusal {
 
 // `CODE VALUE`, as the programs print a refusal.
 impl fmt::Display for Refusal {
+    ghost use Rattle.std.specs.Prelude.{Some};
+    ghost use Rattle.answer.specs.Printed.{refusal_text};
+
+    ghost output = { λ e. Some (refusal_text e) };
+
     fn fmt<W: fmt::Write>(&self, f: &mut fmt::Formatter<W>) -> fmt::Result {
         write!(f, "{} {}", self.code(), self.value())
     }
+}
+
+// The code of an outcome: a refusal's, or 0.
+pub fn code(o: Outcome) -> u32
+    ensures { result ≡ code_of o }
+{
+    match o {
+        Ok(_) => 0,
+        Err(refusal) => refusal.code(),
+    }
+}
+
+// The value of an outcome: an answer's, or a refusal's.
+pub fn value(o: Outcome) -> u32
+    ensures { result ≡ value_of o }
+{
+    match o {
+        Ok(value) => value,
+        Err(refusal) => refusal.value(),
+    }
+}
+
+// Whether it is an answer, and no refusal.
+pub fn answered(o: Outcome) -> bool
+    ensures { result ≡ answers o }
+{
+    code(o) == 0
 }
 
 // The one number that a C caller gets: code + 256 × value.

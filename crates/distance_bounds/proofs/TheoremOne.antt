@@ -14,8 +14,7 @@ use Rattle.table.specs.Table.{nodes, node_type, is_fork}
 use Rattle.table.specs.Rules.{Accepted}
 use Rattle.table.specs.Nodes.{level_of}
 use Rattle.table.proofs.BlockPixels.{pixel_block}
-use Rattle.neighbour.specs.Found.{At}
-use Rattle.neighbour.specs.Neighbour.{neighbour_found, outcome_of, neighbour_of}
+use Rattle.neighbour.specs.Neighbour.{neighbour_found, outcome_of, neighbour_of, At}
 use Rattle.neighbour.proofs.NeighbourLaws.{neighbour_is}
 use Rattle.distance_seek.proofs.OffsetLaws.{hue_leaf}
 use Rattle.distance_fill.proofs.BesideLaws.{depth, level_depth, there, found_near}

@@ -29,8 +29,7 @@ use Rattle.table.proofs.NodeLaws.{path_root}
 use Rattle.table.proofs.HolderLaws.{held, own_quadrants, own_path, own_depth}
 use Rattle.table.proofs.BlockPixels.{pixel_block}
 use Rattle.neighbour.specs.declared.Found.{Found}
-use Rattle.neighbour.specs.Found.{At}
-use Rattle.neighbour.specs.Neighbour.{neighbour_found}
+use Rattle.neighbour.specs.Neighbour.{neighbour_found, At}
 use Rattle.neighbour.specs.Search.{stay}
 use Rattle.neighbour.proofs.SearchLaws.{must_move}
 use Rattle.neighbour.proofs.NeighbourLaws.{lies, lies_found}

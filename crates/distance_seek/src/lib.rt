@@ -2,10 +2,11 @@
 #![tactic(auto)]
 
 ghost use Rattle.std.specs.Prelude.{◌≡◌, true, ◌<◌, ◌≤◌, min};
+ghost use Rattle.quad.specs.Direction.{east_step, south_step};
 ghost use Rattle.table.specs.Table.{is_fork};
 ghost use Rattle.neighbour.specs.Search.{stay};
 ghost use Rattle.distance_seek.specs.Around.{Beside};
-ghost use Rattle.distance_seek.specs.Search.{next_edge, offset_from};
+ghost use Rattle.distance_seek.specs.Search.{near_quarter, next_quarter, NextWay, OtherWay, next_edge, offset_from};
 ghost use Rattle.distance_seek.specs.Search.{Spot};
 
 use table_node::word_at;
@@ -20,6 +21,38 @@ const NEXT: [usize; 8] = [3, 2, 1, 3, 1, 0, 3, 2];
 const NEXT_WAY: [usize; 8] = [0, 1, 2, 3, 0, 0, 2, 2];
 
 const OTHER_WAY: [usize; 8] = [0, 1, 2, 3, 3, 1, 3, 1];
+
+// The quarter of a block that lies nearest.
+fn near_quarter(direction: usize) -> usize
+    requires { direction < stay }
+    ensures { result ≡ near_quarter (east_step direction) (south_step direction) }
+{
+    NEAR[direction]
+}
+
+// The quarter that lies nearest but for that one.
+fn next_quarter(direction: usize) -> usize
+    requires { direction < stay }
+    ensures { result ≡ next_quarter (east_step direction) (south_step direction) }
+{
+    NEXT[direction]
+}
+
+// The direction in which the next quarter is searched.
+fn next_way(direction: usize) -> usize
+    requires { direction < stay }
+    ensures { NextWay direction result }
+{
+    NEXT_WAY[direction]
+}
+
+// The direction in which the quarter opposite to the next one is searched.
+fn other_way(direction: usize) -> usize
+    requires { direction < stay }
+    ensures { OtherWay direction result }
+{
+    OTHER_WAY[direction]
+}
 
 // Where the next quarter begins: beside the nearest one along a side, and farther on at a corner.
 fn next_edge(direction: usize, at: u32, far: u32) -> u32
@@ -54,21 +87,21 @@ fn seek(table: &[u32], direction: usize, p: usize, level: u32, at: u32, best: u3
 {
     let m = level - 1;
     let far = at + quad::side(m);
-    let near = NEAR[direction];
+    let near = near_quarter(direction);
     let first = word_at(table, p, 1 + near);
     let best1 = look(table, direction, first, m, at, best);
     let edge = next_edge(direction, at, far);
     if best1 <= edge {
         return best1;
     }
-    let next = NEXT[direction];
+    let next = next_quarter(direction);
     let second = word_at(table, p, 1 + next);
-    let best2 = look(table, NEXT_WAY[direction], second, m, edge, best1);
+    let best2 = look(table, next_way(direction), second, m, edge, best1);
     if best2 <= far {
         return best2;
     }
     let third = word_at(table, p, 1 + (3 - next));
-    let best3 = look(table, OTHER_WAY[direction], third, m, far, best2);
+    let best3 = look(table, other_way(direction), third, m, far, best2);
     if best3 <= far {
         return best3;
     }

@@ -18,9 +18,24 @@ use Rattle.quad.specs.Numbers.{fork_type, is_type}
 use Rattle.quad.specs.Tree.{Tree, leaf, colour, alike, like_types, Coloured}
 use Rattle.quad.proofs.TreeLaws.{size_le, alike_types}
 use Rattle.file.specs.declared.Block.{Block}
-use Rattle.file.specs.File.{Got, got, bad, mark, node_mark, record_at, four_at, block_at}
-use Rattle.file.specs.Reading.{record_of, told, Reaches, FourReach}
+use Rattle.file.specs.File.{Got, got, bad, mark, node_mark, marked, record_at, four_at, block_at}
+use Rattle.file.specs.Reading.{marks_of, record_of, told, Reaches, FourReach}
 use Rattle.file.proofs.BlockLaws.{block_spells}
+
+-- two mark bytes, one tested after the other, are tested as one
+abbrev pub behind : {A : Type 0} → (Refusal → A) → A → Result (Unit {0}) Refusal → A
+behind refuse next (Ok u) = next
+behind refuse next (Err e) = refuse e
+
+pub marks_by : {A : Type 0} (s : List ℕ) (at second : ℕ) (refuse : Refusal → A) (next : A)
+    → marked s at mark refuse (marked s (at + 1) second refuse next) ≡ behind refuse next (marks_of s at second)
+unfolding marks_of
+marks_by {A} s at second refuse next =
+    let f : Result (Unit {0}) Refusal → A = behind refuse next in
+    sym (cond_map f (leb (length s) at) _ _ _ _ refl
+    (cond_map f (eqb (get_or s at 0) mark) _ _ _ _
+    (cond_map f (leb (length s) (at + 1)) _ _ _ _ refl (cond_map f (eqb (get_or s (at + 1) 0) second) _ _ _ _ refl refl))
+    refl))
 
 -- what a record gives, a fork's left open
 abbrev by_record : Got → Result Block Refusal → Got
@@ -71,6 +86,10 @@ some_block l = one-le-pow l 4 (omega arith)
 
 -- a block by its record
 module _ (s : List ℕ) (l at : ℕ) where
+  -- the four blocks behind a fork are a level lower
+  pub four_lower : (m : ℕ) → 2 * l ≡ m → (l ≡ 0 → ⊥) → 2 * (l - 1) + 1 < m
+  four_lower m e nz = omega arith
+
   pub block_wrong : (o : Refusal) → Err o ≡ record_of s at → Err o ≡ told (block_at s l at)
   block_wrong o e = rw (block_by s l at, ← e)
 
@@ -91,9 +110,6 @@ module _ (s : List ℕ) (l at : ℕ) where
         ∙ ap (four_at (block_at s (l - 1))) ie))
 
     -- what the call on the four blocks behind it asks
-    pub four_lower : (m : ℕ) → 2 * l ≡ m → (l ≡ 0 → ⊥) → 2 * (l - 1) + 1 < m
-    four_lower m e nz = omega arith
-
     pub four_reach : Reaches l at → (l ≡ 0 → ⊥) → FourReach (l - 1) b.next
     four_reach h nz =
         omega (arith, pow_less 4 l (omega arith), record_next s at b e)

@@ -2,7 +2,7 @@
 use Rattle.std.specs.Prelude.{Result, Ok, Err, Some}
 use mathlib.Core.List.{List}
 use mathlib.Core.Path.{◌≡◌, refl, sym, ◌∙◌}
-use Prim.Native.Nat.{ℕ, ◌≤◌, ◌<◌}
+use Prim.Native.Nat.{ℕ, ◌+◌, ◌≤◌, ◌<◌}
 use native.Mathlib.Omega.{arith}
 use lib.Dec.{leb, ltb, eqb}
 use lib.ListN.{length, get_or}
@@ -16,7 +16,7 @@ use Rattle.quad.proofs.TreeLaws.{size_le, pixels_top}
 use Rattle.file.specs.declared.Block.{Block}
 use Rattle.file.specs.declared.Contents.{Contents}
 use Rattle.file.specs.File.{got, Opened, faulty, mark, sheet_mark, closed, block_at, open_of}
-use Rattle.file.specs.Reading.{told, place_after, Reaches, header_of, count_of, records_to, closing_of, contents_of}
+use Rattle.file.specs.Reading.{told, place_after, Reaches, marks_of, header_of, count_of, records_to, closing_of, contents_of}
 use Rattle.file.proofs.BlockLaws.{Spells, block_spells}
 use Rattle.file.proofs.ReadLaws.{found, told_bad}
 use Rattle.file.proofs.ScanLaws.{got_after}
@@ -47,6 +47,20 @@ open_by s =
     (cond_map f (leb (length s) 3) _ _ _ _ refl (cond_map f (leb (length s) 4) _ _ _ _ refl refl))))
     refl))
     refl))
+
+-- marks that are told as right
+pub marks_good : (s : List ℕ) (at second : ℕ) → marks_of s at second ≡ Ok tt → (get_or s at 0 ≡ mark) × (get_or s (at + 1) 0 ≡ second)
+unfolding marks_of
+marks_good s at second =
+    let P : Result (Unit {0}) Refusal → Type 0 = λ o. o ≡ Ok tt → (get_or s at 0 ≡ mark) × (get_or s (at + 1) 0 ≡ second) in
+    let none : (o : Refusal) → P (Err o) = λ o e. absurd (let z : ◌≡◌ {A = ℕ} 0 1 = cc in omega arith) in
+    cond_case P (leb (length s) at) _ _ (λ _. none _)
+    (λ _. cond_case P (eqb (get_or s at 0) mark) _ _
+    (λ a. cond_case P (leb (length s) (at + 1)) _ _ (λ _. none _)
+    (λ _. cond_case P (eqb (get_or s (at + 1) 0) second) _ _
+    (λ b _. (eqb-true (get_or s at 0) mark a, eqb-true (get_or s (at + 1) 0) second b))
+    (λ _. none _)))
+    (λ _. none _))
 
 pub header_good : (s : List ℕ) (level : ℕ) → header_of s ≡ Ok level → Header s
 unfolding header_of

@@ -6,7 +6,7 @@ use Rattle.std.specs.Int.{from_le_bytes, w32}
 use mathlib.Core.Bool.{Bool, true, false, false≢true}
 use mathlib.Core.List.{List, [], ◌∷◌}
 use mathlib.Core.Path.{◌≡◌, refl, ap, sym, ◌∙◌}
-use Prim.Native.Nat.{ℕ, ◌+◌, ◌-◌, ◌≤◌, ◌<◌}
+use Prim.Native.Nat.{ℕ, ◌+◌, ◌-◌, ◌*◌, ◌/◌, ◌%◌, ◌≤◌, ◌<◌}
 use native.Mathlib.Omega.{arith}
 use lib.Dec.{ltb}
 use lib.ListN.{length, get_or}
@@ -109,6 +109,33 @@ pixels_none s at non =
       types = record { nw = pa.low; ne = pb.low; sw = pc.low; se = pd.low; unlike = sym (alike_types a b c d pa.coloured) ∙ un };
     })))))))
 
+-- the marks in each of three numbers of four bytes, 0 standing for each type
+abbrev first_number : ℕ
+first_number = mark + 256 * node_mark + 16777216 * mark
+
+abbrev second_number : ℕ
+second_number = node_mark + 65536 * mark + 16777216 * node_mark
+
+abbrev third_number : ℕ
+third_number = 256 * mark + 65536 * node_mark
+
+-- four bytes by their number: its types, and its other bytes where they are marks
+module _ (b₀ b₁ b₂ b₃ v : ℕ) (h₀ : b₀ < 256) (h₁ : b₁ < 256) (h₂ : b₂ < 256) (h₃ : b₃ < 256) (is : v ≡ b₀ + 256 * b₁ + 65536 * b₂ + 16777216 * b₃) where
+  first_type : (k : ℕ) → k ≡ v / 65536 % 256 → b₂ ≡ k
+  first_type k e = omega arith
+
+  pub first_marks_lem : (k : ℕ) → k ≡ v / 65536 % 256 → v ≡ first_number + 65536 * k → (b₀ ≡ mark) × (b₁ ≡ node_mark) × (b₃ ≡ mark)
+  first_marks_lem k e f = (omega arith, omega arith, omega arith)
+
+  pub second_marks_lem : (k : ℕ) → k ≡ v / 256 % 256 → v ≡ second_number + 256 * k → (b₀ ≡ node_mark) × (b₂ ≡ mark) × (b₃ ≡ node_mark)
+  second_marks_lem k e f = (omega arith, omega arith, omega arith)
+
+  pub third_marks_lem : (k m : ℕ) → k ≡ v % 256 → m ≡ v / 16777216 → v ≡ third_number + k + 16777216 * m → (b₁ ≡ mark) × (b₂ ≡ node_mark)
+  third_marks_lem k m e f g =
+      let t : (b₀ ≡ k) × (b₃ ≡ m) = (omega arith, omega arith) in
+      let u : b₁ + 256 * b₂ ≡ mark + 256 * node_mark = omega (arith, t.0, t.1) in
+      (omega arith, omega arith)
+
 -- twelve bytes, as three numbers: each with its marks, and with the types as they are
 module _ (s : List ℕ) (at : ℕ) where
   byte : (i j : ℕ) → i ≡ j → get_or s i 0 ≡ get_or s j 0
@@ -175,6 +202,10 @@ module _ (s : List ℕ) (at : ℕ) where
         let b₁ = f.second in
         let b₂ = f.third in
         (omega arith, omega arith)
+
+  -- the type of the first pixel, in the number of its four bytes
+  pub type_nw : (u a : ℕ) → FourBytes s at u → a ≡ u / 65536 % 256 → get_or s (at + 2) 0 ≡ a
+  type_nw u a f e = first_type _ _ _ _ u f.first f.second f.third f.fourth f.is a e
 
   -- the types are the bytes'
   module _ (a b c d : ℕ) (ea : a ≡ get_or s (at + 2) 0) (eb : b ≡ get_or s (at + 5) 0) (ec : c ≡ get_or s (at + 8) 0) (ed : d ≡ get_or s (at + 11) 0) where

@@ -14,6 +14,7 @@ use Rattle.answer.specs.declared.Refusal.{Refusal}
 use Rattle.answer.specs.declared.Refusal.TheVariants.{Absent, BadByte}
 use Rattle.file.specs.File.{mark, needed, marked}
 use Rattle.file.specs.Reading.{byte_of, marks_of}
+use Rattle.file.proofs.ReadLaws.{behind, marks_by}
 
 -- what `?` gives back
 pub back : {A : Type 0} (r : Result A Refusal) (e : Refusal) → IsErr r × IsErrAnd r (λ x. x ≡ e) → r ≡ Err e
@@ -49,21 +50,8 @@ module _ {A : Type 0} (s : List ℕ) (at : ℕ) where
   mark_right byte b next r h is g = byte_ok _ r b h (λ e. at_eq (get_or s at 0) byte r next (Err (BadByte at)) (rw e at is) g)
 
   -- two mark bytes, one tested after the other, were tested as one
-  abbrev behind : Result A Refusal → Result (Unit {0}) Refusal → Result A Refusal
-  behind next (Ok u) = next
-  behind next (Err e) = Err e
-
-  marks_by : (second : ℕ) (next : Result A Refusal) → marked s at mark Err (marked s (at + 1) second Err next) ≡ behind next (marks_of s at second)
-  unfolding marks_of
-  marks_by second next =
-      let f : Result (Unit {0}) Refusal → Result A Refusal = behind next in
-      sym (cond_map f (leb (length s) at) _ _ _ _ refl
-      (cond_map f (eqb (get_or s at 0) mark) _ _ _ _
-      (cond_map f (leb (length s) (at + 1)) _ _ _ _ refl (cond_map f (eqb (get_or s (at + 1) 0) second) _ _ _ _ refl refl))
-      refl))
-
   pub marks_err : (second : ℕ) (next : Result A Refusal) (e : Refusal) → Err e ≡ marks_of s at second → Err e ≡ marked s at mark Err (marked s (at + 1) second Err next)
-  marks_err second next e h = rw (marks_by second next, ← h)
+  marks_err second next e h = rw (marks_by s at second Err next, ← h)
 
   pub marks_ok : (second : ℕ) (next r : Result A Refusal) (u : Unit {0}) → Ok u ≡ marks_of s at second → r ≡ next → r ≡ marked s at mark Err (marked s (at + 1) second Err next)
-  marks_ok second next r u h g = rw (marks_by second next, ← h) g
+  marks_ok second next r u h g = rw (marks_by s at second Err next, ← h) g

@@ -2,7 +2,7 @@
 use mathlib.Core.Path.{◌≡◌, ap}
 use Prim.Native.Nat.{ℕ}
 use Rattle.neighbour.specs.declared.Found.{Found}
-use Rattle.neighbour.specs.Found.{found_at, At}
+use Rattle.neighbour.specs.Neighbour.{found_at, At}
 
 module _ {m l m' l' : ℕ} (e : At m l ≡ At m' l') where
   one_found : found_at m l ≡ found_at m' l'

@@ -21,8 +21,7 @@ use Rattle.table.specs.Nodes.{path_to, holder, level_of}
 use Rattle.table.proofs.AcceptedLaws.{depth_le}
 use Rattle.table.proofs.BlockLaws.{column_below, row_below}
 use Rattle.table.proofs.HolderLaws.{own_quadrants, own_path, own_depth}
-use Rattle.neighbour.specs.Found.{At}
-use Rattle.neighbour.specs.Neighbour.{neighbour_found, neighbour_of}
+use Rattle.neighbour.specs.Neighbour.{neighbour_found, neighbour_of, At}
 use Rattle.neighbour.specs.Containing.{opposite}
 use Rattle.neighbour.proofs.NeighbourLaws.{lies_found, neighbour_is, beside_p, neighbour_answer}
 

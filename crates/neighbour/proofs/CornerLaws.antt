@@ -22,9 +22,8 @@ use Rattle.table.specs.Rules.{Accepted}
 use Rattle.table.specs.Nodes.{path_to, holder, level_of}
 use Rattle.table.proofs.AcceptedLaws.{depth_le, depth_son, fork_deep}
 use Rattle.table.proofs.HolderLaws.{held, own_quadrants, own_depth}
-use Rattle.neighbour.specs.Neighbour.{neighbour_found, leaf_beyond}
+use Rattle.neighbour.specs.Neighbour.{neighbour_found, leaf_beyond, found_at, At}
 use Rattle.neighbour.specs.declared.Found.{Found}
-use Rattle.neighbour.specs.Found.{found_at, At}
 use Rattle.neighbour.specs.Search.{onward_of, mirror_of, Where, off, block, inner, moved, step_to, corner_down, corner_under, corner_at, Cornered}
 use Rattle.neighbour.proofs.AtLaws.{one_node}
 use Rattle.neighbour.proofs.SearchLaws.{MovedTo, moved_to, steers, held_by, beside_moved}

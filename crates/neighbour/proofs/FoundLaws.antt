@@ -18,8 +18,7 @@ use Rattle.table.specs.Nodes.{path_to, holder, level_of}
 use Rattle.table.proofs.AcceptedLaws.{depth_le}
 use Rattle.table.proofs.HolderLaws.{held, own_quadrants, own_depth}
 use Rattle.neighbour.specs.declared.Found.{Found}
-use Rattle.neighbour.specs.Found.{At}
-use Rattle.neighbour.specs.Neighbour.{held_at, beside, neighbour_found, outcome_of}
+use Rattle.neighbour.specs.Neighbour.{held_at, beside, neighbour_found, outcome_of, At}
 use Rattle.neighbour.specs.Search.{stay, Where, off, block, moved, found_in, Sought, Small}
 use Rattle.neighbour.proofs.AtLaws.{one_node, one_level}
 use Rattle.neighbour.proofs.SearchLaws.{MovedTo, moved_to, Beside, held_by, beside_moved}

@@ -22,8 +22,7 @@ use Rattle.table.specs.Nodes.{path_to, holder, level_of}
 use Rattle.table.proofs.AcceptedLaws.{fork_deep}
 use Rattle.table.proofs.CheckLaws.{asked_of_lem, asked_good}
 use Rattle.table.proofs.HolderLaws.{own_depth}
-use Rattle.neighbour.specs.Found.{At}
-use Rattle.neighbour.specs.Neighbour.{held_at, beside, neighbour_found, outcome_of, neighbour_of, leaf_beyond, corner_column, corner_row, corner_leaf_of, diagonal_leaf_of}
+use Rattle.neighbour.specs.Neighbour.{held_at, beside, neighbour_found, outcome_of, neighbour_of, leaf_beyond, corner_column, corner_row, corner_leaf_of, diagonal_leaf_of, At}
 use Rattle.neighbour.specs.Containing.{Contains, Smallest}
 use Rattle.neighbour.proofs.AtLaws.{one_node, one_level}
 use Rattle.neighbour.proofs.SearchLaws.{Stays, stays_of, stays_both}

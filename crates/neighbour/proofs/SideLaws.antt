@@ -21,8 +21,7 @@ use Rattle.table.specs.Nodes.{path_to, holder, level_of, side_of}
 use Rattle.table.proofs.AcceptedLaws.{depth_le}
 use Rattle.table.proofs.BlockLaws.{column_below, row_below}
 use Rattle.table.proofs.HolderLaws.{own_depth, within_leaf}
-use Rattle.neighbour.specs.Found.{At}
-use Rattle.neighbour.specs.Neighbour.{neighbour_found, outcome_of, neighbour_of, corner_leaf_of}
+use Rattle.neighbour.specs.Neighbour.{neighbour_found, outcome_of, neighbour_of, corner_leaf_of, At}
 use Rattle.neighbour.specs.Containing.{Contains, Touches}
 use Rattle.neighbour.proofs.CornerLaws.{side_on, beyond_leaf_neighbour}
 use Rattle.neighbour.proofs.NeighbourLaws.{lies_found, neighbour_is, corner_is}

@@ -1,4 +1,3 @@
-pub mod Found
 pub mod Neighbour
 pub mod Calls
 pub mod Containing

@@ -8,7 +8,13 @@ use Rattle.quad.specs.Direction.{east_step, south_step, stays, adj_of, diagonal}
 use Rattle.table.specs.Rules.{asked_of}
 use Rattle.table.specs.Nodes.{path_to, holder, level_of, side_of, left_of, top_of}
 use Rattle.neighbour.specs.declared.Found.{Found}
-use Rattle.neighbour.specs.Found.{At}
+
+-- what a search ends on: a node and its level, or nothing, where no block of the sheet lies
+abbrev pub found_at : ℕ → ℕ → Found
+found_at m l = record { node = m; level = l }
+
+abbrev pub At : ℕ → ℕ → Option Found
+At m l = Some (found_at m l)
 
 -- the smallest node that contains the block at the end of a path, and that node's level
 abbrev pub held_at : ℕ → List ℕ → List ℕ → Option Found

@@ -9,7 +9,7 @@ use Rattle.table.specs.Rules.{depth_to, Accepted}
 use Rattle.table.specs.Nodes.{path_to, holder, level_of}
 use Rattle.neighbour.specs.declared.Climb.{Climb}
 use Rattle.neighbour.specs.declared.Found.{Found}
-use Rattle.neighbour.specs.Found.{found_at, At}
+use Rattle.neighbour.specs.Neighbour.{found_at, At}
 
 -- no direction: the ninth, which stays
 abbrev pub stay : ℕ

@@ -16,8 +16,7 @@ use Rattle.table.specs.Nodes.{path_to, holder, level_of}
 use Rattle.table.proofs.AcceptedLaws.{sons_of, depth_son}
 use Rattle.table.proofs.NodeLaws.{path_root, holder_fork, holder_leaf}
 use Rattle.table.proofs.HolderLaws.{held, own_quadrants, own_path, path_son}
-use Rattle.neighbour.specs.Found.{At}
-use Rattle.neighbour.specs.Neighbour.{neighbour_found}
+use Rattle.neighbour.specs.Neighbour.{neighbour_found, At}
 use Rattle.neighbour.specs.Search.{stay, onward_of, mirror_of, Where, off, block, inner, moved}
 use Rattle.neighbour_around.specs.SonBeside.{part_in}
 use Rattle.neighbour.proofs.SearchLaws.{MovedTo, moved_to, steers, moved_stay, held_by, beside_moved}

@@ -20,8 +20,7 @@ use Rattle.table.specs.Table.{nodes, son, node_type, is_fork}
 use Rattle.table.specs.Rules.{Accepted}
 use Rattle.table.specs.Nodes.{level_of}
 use Rattle.neighbour.specs.declared.Found.{Found}
-use Rattle.neighbour.specs.Found.{At}
-use Rattle.neighbour.specs.Neighbour.{neighbour_found}
+use Rattle.neighbour.specs.Neighbour.{neighbour_found, At}
 use Rattle.neighbour.specs.Search.{stay, onward_of, mirror_of}
 use Rattle.neighbour_around.specs.SonBeside.{part_in}
 use Rattle.neighbour.proofs.SearchLaws.{steers}

@@ -2,7 +2,7 @@
 use Rattle.std.specs.Prelude.{cond, Option, Some, None, List, ℕ, ◌-◌}
 use Rattle.table.specs.Table.{son, is_fork}
 use Rattle.neighbour.specs.declared.Found.{Found}
-use Rattle.neighbour.specs.Found.{At}
+use Rattle.neighbour.specs.Neighbour.{At}
 
 -- quadrant q of what was found: a fork's son, and a leaf itself
 unfoldable pub part_in : List ℕ → ℕ → Option Found → Option Found

@@ -22,7 +22,7 @@ use Rattle.table.proofs.AcceptedLaws.{father_below, sons_of, son_type_lt, depth_
 use Rattle.table.proofs.NodeLaws.{path_root, holder_fork, holder_leaf}
 use Rattle.table.proofs.HolderLaws.{path_up, own_path, own_depth}
 use Rattle.neighbour.specs.declared.Climb.{Climb}
-use Rattle.neighbour.specs.Found.{At}
+use Rattle.neighbour.specs.Neighbour.{At}
 use Rattle.neighbour.specs.Search.{stay, way_to, direction_of, onward_of, mirror_of, Where, off, block, inner, moved, found_in, Sought, inward, Climbed, Ended, back_from}
 use Rattle.neighbour.proofs.SearchLaws.{moved_stay, steers}
 

@@ -310,6 +310,15 @@ module _ {L L' : List ℕ} {label x y i : ℕ} (h : LinesFilled L label x y i L'
             ∙ h.rest j (λ p q. a p (omega (arith, q))) (λ p q. b p (omega (arith, q)));
       }
 
+-- the words of a leaf of two by two pixels, one by one
+pub fill_two_lem : (L : List ℕ) (label x y : ℕ) → length L ≡ 2 * across → x + 2 ≤ across → y + 2 ≤ across
+    → LinesFilled L label x y 2 (set (set (set (set L x label) (across + y) label) (x + 1) label) (across + y + 1) label)
+fill_two_lem L label x y long lx ly =
+    let ex : x + 0 ≡ x = omega arith in
+    let ey : across + y + 0 ≡ across + y = omega arith in
+    let one = fill_more (fill_none L label x y) long (omega (arith, lx)) (omega (arith, ly)) in
+    rw (ex, ey) at (fill_more one long (omega (arith, lx)) (omega (arith, ly)))
+
 pub fill_all : {L L' : List ℕ} {label x y side i : ℕ} → LinesFilled L label x y i L' → i ≤ side → side ≤ i → LinesFilled L label x y side L'
 fill_all {side = side} {i} h a b = let e : side ≡ i = omega arith in rw e h
 

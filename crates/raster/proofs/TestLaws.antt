@@ -10,7 +10,8 @@ use native.Mathlib.Nat.{eq-or-lt_of_le, le_of_suc-le-suc}
 use native.Mathlib.Numerals.{add-one}
 use native.Mathlib.Omega.{arith}
 use lib.Dec.{eqb, ltb}
-use lib.ListN.{length, get_or}
+use lib.ListN.{length, get_or, drop}
+use lib.Seq.{drop-cons, drop-length}
 use Rattle.std.proofs.Common.{Option, Some, None}
 use Rattle.std.specs.List.{position, position_from}
 use Rattle.std.proofs.lemmas.Iterator.Adapters.{position_from-zero}
@@ -35,7 +36,23 @@ module _ (n bytes s : ℕ) (e : s ≡ 2 ^ n) where
   pub length_right : bytes ≡ s * s → Ok 0 ≡ raster_length n bytes
   length_right q = rw (eq-eqb bytes (4 ^ n) (q ∙ rw e (sym (four_pow n))))
 
--- the first bad byte, by its place
+-- the first bad byte, from place i on
+module _ (R : List ℕ) where
+  pub pixels_next : (i : ℕ) → i < length R → get_or R i 0 ≤ top_colour → pixels_from (drop i R) i ≡ pixels_from (drop (i + 1) R) (i + 1)
+  unfolding pixels_from
+  pixels_next i lt h = rw (drop-cons R i 0 lt, add-one, pixels_from, le-ltb top_colour (get_or R i 0) h)
+
+  pub pixels_bad : (i : ℕ) → i < length R → top_colour < get_or R i 0 → pixels_from (drop i R) i ≡ Err (BadPixel i)
+  unfolding pixels_from
+  pixels_bad i lt h = rw (drop-cons R i 0 lt, pixels_from, lt-ltb top_colour (get_or R i 0) h)
+
+  pub pixels_end : (i : ℕ) → i ≤ length R → length R ≤ i → pixels_from (drop i R) i ≡ Ok 0
+  unfolding pixels_from
+  pixels_end i le ge =
+      let e : i ≡ length R = omega arith in
+      rw (e, drop-length R)
+
+-- and by its place
 told : Option ℕ → Outcome
 told None = Ok 0
 told (Some i) = Err (BadPixel i)
@@ -64,6 +81,10 @@ pub pixels_pass : (R : List ℕ) (i : ℕ) → NoneAbove top_colour R → pixels
 unfolding pixels_from
 pixels_pass [] i h = refl
 pixels_pass (b ∷ bs) i h = rw (pixels_from, le-ltb top_colour b (h 0 (omega arith))) (pixels_pass bs (i + 1) (λ j lt. h (suc j) (omega arith)))
+
+-- and so where the highest is no higher
+pub pixels_low : (R : List ℕ) (m : ℕ) → NoneAbove m R → m ≤ top_colour → Ok 0 ≡ pixels_from R 0
+pixels_low R m h le = sym (pixels_pass R 0 (λ i lt. omega (arith, h i lt)))
 
 pub length_of : (n bytes : ℕ) → answers (raster_length n bytes) ≡ true → bytes ≡ 4 ^ n
 length_of n bytes e = eqb-true bytes (4 ^ n) (on _ _ refl (answers_unless (not (eqb bytes (4 ^ n))) (Err (WrongLength 1)) refl e))

@@ -29,8 +29,13 @@ pub fork_to_put : {n : ℕ} {R K : List ℕ} {l x y slot slots p words : ℕ}
 fork_to_put pic h = record { block = record { picture = pic; on = h.0; ready = h.3 }; high = h.1; fork = h.2; known = h.4 }
 
 pub fork_asks : {n : ℕ} {R K : List ℕ} {l x y slot slots p words : ℕ} → ForkToPut n R K l x y slot slots p words
+    → Picture n R × OnSheet n l x y × (3 ≤ l) × (colour (tree_of (picture_of n R) l x y) ≡ fork_type) × Ready (tree_of (picture_of n R) l x y) p words × Known n R K l x y slot slots
+fork_asks b = (b.block.picture, b.block.on, b.high, b.fork, b.block.ready, b.known)
+
+-- and without the picture, which a raster holds
+pub fork_wants : {n : ℕ} {R K : List ℕ} {l x y slot slots p words : ℕ} → ForkToPut n R K l x y slot slots p words
     → OnSheet n l x y × (3 ≤ l) × (colour (tree_of (picture_of n R) l x y) ≡ fork_type) × Ready (tree_of (picture_of n R) l x y) p words × Known n R K l x y slot slots
-fork_asks b = (b.block.on, b.high, b.fork, b.block.ready, b.known)
+fork_wants b = (b.block.on, b.high, b.fork, b.block.ready, b.known)
 
 pub sheet_to_put : {n words : ℕ} {R K : List ℕ} → Picture n R → Noted R (2 ^ n) K (n - 3) n 0 0 × Ready (tree_of (picture_of n R) n 0 0) 0 words → SheetToPut n R K words
 sheet_to_put pic h = record { picture = pic; noted = h.0; ready = h.1 }

@@ -44,6 +44,7 @@ fn first_bad(raster: &[u8]) -> Option<usize>
 }
 
 // The first byte that is no colour, looked for only where the highest is none, or where there is one byte.
+#[tactic(auto, using(raster::proofs::TestLaws::pixels_low))]
 fn pixels(raster: &[u8]) -> Outcome
     requires { length raster.now ≤ 4 ^ top_level }
     ensures { result ≡ pixels_from raster.now 0 }

@@ -9,6 +9,7 @@ use raster_lanes::Pixels;
 use raster_notes::{Notes, SLOTS, eight, sixteen};
 
 // The type of a block by its quarters'.
+#[tactic(auto, unfolding(raster_notes::specs::Notes::joined_of))]
 fn joined(nw: u32, ne: u32, sw: u32, se: u32) -> u32
     ensures { result ≡ joined_of nw ne sw se }
 {

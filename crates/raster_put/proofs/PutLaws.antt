@@ -20,8 +20,12 @@ use Rattle.raster_put.specs.Putting.{BlockToPut, BlockPut}
 pub to_put : {n l x y p words : ℕ} {R : List ℕ} → Picture n R → OnSheet n l x y × Ready (tree_of (picture_of n R) l x y) p words → BlockToPut n R l x y p words
 to_put pic h = record { picture = pic; on = h.0; ready = h.1 }
 
-pub put_asks : {n l x y p words : ℕ} {R : List ℕ} → BlockToPut n R l x y p words → OnSheet n l x y × Ready (tree_of (picture_of n R) l x y) p words
-put_asks b = (b.on, b.ready)
+pub put_asks : {n l x y p words : ℕ} {R : List ℕ} → BlockToPut n R l x y p words → Picture n R × OnSheet n l x y × Ready (tree_of (picture_of n R) l x y) p words
+put_asks b = (b.picture, b.on, b.ready)
+
+-- and without the picture, which a raster holds
+pub put_wants : {n l x y p words : ℕ} {R : List ℕ} → BlockToPut n R l x y p words → OnSheet n l x y × Ready (tree_of (picture_of n R) l x y) p words
+put_wants b = (b.on, b.ready)
 
 -- a fork over four pixels
 pub pixels_put : (f : ℕ → ℕ → ℕ) (x y p fa a b c d : ℕ) (U₀ U₁ U₂ U₃ U₄ after : List ℕ)
@@ -44,11 +48,14 @@ module _ {n x y p words : ℕ} {R : List ℕ} (b : BlockToPut n R 1 x y p words)
   four_put f before after like h =
       leaf_put _ (s / 4) p f _ before after (four_leaf (picture_of n R) (λ i j. b.picture.colours _) x y (s / 4) (omega arith)) refl h
 
-  pub pixels_to_put : (s % 4 ≡ 0 → ⊥) → OnSheet n 1 x y × (6 * (p + 5) ≤ words) × (p + 5 ≤ max_words)
-  pixels_to_put mixed =
+  pub pixels_wanted : (s % 4 ≡ 0 → ⊥) → OnSheet n 1 x y × (6 * (p + 5) ≤ words) × (p + 5 ≤ max_words)
+  pixels_wanted mixed =
       let e = four_fork (picture_of n R) (λ i j. b.picture.colours _) x y (λ z. mixed (omega (arith, z))) in
       let five : size_of (tree_of (picture_of n R) 1 x y) ≡ 5 = rw e (unfold size_of tree_of in refl) in
       (b.on, omega (arith, b.ready.room, five), omega (arith, b.ready.few, five))
+
+  pub pixels_to_put : (s % 4 ≡ 0 → ⊥) → Picture n R × OnSheet n 1 x y × (6 * (p + 5) ≤ words) × (p + 5 ≤ max_words)
+  pixels_to_put mixed = let w = pixels_wanted mixed in (b.picture, w.0, w.1, w.2)
 
   -- what a fork over its four pixels was written for
   pub pixels_are : (s % 4 ≡ 0 → ⊥) → (f : ℕ) (before after : List ℕ) (r : ℕ) → Put (four_over (picture_of n R) 0 x y) f p before after r → BlockPut n R 1 x y f p before after r

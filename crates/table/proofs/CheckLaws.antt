@@ -1,6 +1,6 @@
 -- The check answers exactly the accepted sheets, with their node count; what it refuses otherwise.
 use Rattle.std.specs.Prelude.{Ok, Err}
-use mathlib.Core.Bool.{true, false, not, ◌&&◌, false≢true}
+use mathlib.Core.Bool.{Bool, true, false, not, ◌&&◌, false≢true}
 use mathlib.Core.List.{List}
 use mathlib.Core.Logic.{⊎_elim}
 use mathlib.Core.Path.{◌≡◌, refl, ap, sym, ◌∙◌}
@@ -44,6 +44,10 @@ module _ (n : ℕ) (T : List ℕ) where
 
   pub sized_ok : (v : ℕ) → Ok v ≡ sizes_of n T → Sized n T
   sized_ok v e = sized_of (ap answers (sym e))
+
+  -- the same of any outcome and its test, where it is not refused
+  pub sized_call : (s : Outcome) (u : Bool) → s ≡ sizes_of n T → u ≡ answers s → not u ≡ false → Sized n T
+  sized_call s u e a h = sized_of (ap answers (sym e) ∙ on u (answers s) a h)
 
   pub sizes_good : Sized n T → sizes_of n T ≡ Ok 0
   unfolding sizes_of length_ok
@@ -125,6 +129,9 @@ module _ (n : ℕ) (T : List ℕ) where
   pub accepted_ok : (v : ℕ) → Ok v ≡ check_of n T → Accepted n T
   accepted_ok v e = accepted_of (ap answers (sym e))
 
+  pub accepted_call : (s : Outcome) (u : Bool) → s ≡ check_of n T → u ≡ answers s → not u ≡ false → Accepted n T
+  accepted_call s u e a h = accepted_of (ap answers (sym e) ∙ on u (answers s) a h)
+
   -- a call that is lent one word for each node goes on exactly where the sheet is accepted and the words are as many
   pub each_node_of_lem : (words : ℕ) → answers (each_node_of n T words) ≡ true → Accepted n T × (words ≡ nodes T)
   unfolding each_node_of check_of
@@ -161,6 +168,9 @@ module _ (n : ℕ) (T : List ℕ) where
 
   pub asked_ok : (p v : ℕ) → Ok v ≡ asked_of n T p → Asked n T p
   asked_ok p v e = asked_of_lem p (ap answers (sym e))
+
+  pub asked_call : (p : ℕ) (s : Outcome) (u : Bool) → s ≡ asked_of n T p → u ≡ answers s → not u ≡ false → Asked n T p
+  asked_call p s u e a h = asked_of_lem p (ap answers (sym e) ∙ on u (answers s) a h)
 
   -- the call's own returns
   module _ (p count v : ℕ) (e : Ok v ≡ check_of n T) (c : count ≡ nodes T) where

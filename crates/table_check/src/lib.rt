@@ -10,7 +10,8 @@ use table_node::node_count;
 use table_rules::first_fault;
 
 // The first fault, or the node count. A sound table is accepted by a faster way, and only one that is not is gone
-// through node by node.
+// through node by node. Taken in where it is called: an outcome handed back by a call goes through memory.
+#[inline(always)]
 pub fn faults(n: u32, table: &[u32]) -> Outcome
     requires { Sized n table.now }
     ensures { result ≡ faults_of n table.now }
@@ -42,7 +43,8 @@ pub fn sizes(n: u32, table: &[u32]) -> Outcome
     Ok(0)
 }
 
-// The check: for any level and any words, the node count or the first refusal.
+// The check: for any level and any words, the node count or the first refusal. Taken in as `faults` is.
+#[inline(always)]
 pub fn check(n: u32, table: &[u32]) -> Outcome
     ensures { result ≡ check_of n table.now }
 {

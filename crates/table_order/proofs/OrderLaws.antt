@@ -1,6 +1,7 @@
 -- A table in preorder, as the pass that knows each number beforehand goes through it: the sons passed so far stand one
 -- after the other, each behind all that is seen from its brother (`Passing`). Where all four are passed, they are what
 -- a fork's sons must be, and the fork is seen with all below it.
+use Rattle.std.specs.Prelude.{None, IfSome}
 use mathlib.Core.Bool.{Bool, true, false, true≢false}
 use mathlib.Core.List.{List, [], ◌∷◌}
 use mathlib.Core.Logic.{⊎_elim}
@@ -23,6 +24,10 @@ use Rattle.table.specs.Links.{SonIn, four_sons}
 use Rattle.table_sound.specs.Seen.{AllNodes, like_leaves, leaf_ok, seen_of}
 use Rattle.table_order.specs.Order.{two_are, leaf_from, pixels_from, ForkOf, Named, needless_fork, Ordered}
 use Rattle.table_sound.proofs.SeenLaws.{sons_seen, seen_leaf, seen_no_leaf, seen_fork, leaf_words_ok, added_all, fit_sons}
+
+-- where no node is told, nothing is said
+pub no_order : (T : List ℕ) (l p : ℕ) → IfSome None (Ordered T l p)
+no_order T l p = tt
 
 -- two words below 2^32 are told by one number
 pub two_joined : (T : List ℕ) (i a b x y : ℕ) → get_or T i 0 < 4294967296 → x < 4294967296 → a ≡ get_or T i 0 + 4294967296 * get_or T (i + 1) 0

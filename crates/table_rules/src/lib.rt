@@ -160,7 +160,9 @@ fn obey(n: u32, table: &[u32], p: usize) -> Result<(), Refusal>
     Ok(())
 }
 
-// The six rules over all nodes in rising number: the first fault, or the node count.
+// The six rules over all nodes in rising number: the first fault, or the node count. Called only where there is a fault.
+#[cold]
+#[inline(never)]
 pub fn first_fault(n: u32, table: &[u32]) -> Outcome
     requires { length table.now ≤ max_words }
     ensures { result ≡ faults_of n table.now }

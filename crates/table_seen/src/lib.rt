@@ -86,8 +86,9 @@ fn seen(table: &[u32], count: usize, level: u32, p: usize) -> Option<usize>
 }
 
 // Whether all nodes are seen from a root that is a fork. A table in preorder, above level 1, is gone through in order,
-// and any other link by link.
+// and any other link by link. It stays a call, and `sound` is taken in: so a sheet of one leaf is accepted without a call.
 #[tactic(auto, using(table_sound::proofs::SeenLaws::whole_seen))]
+#[inline(never)]
 fn all_seen(n: u32, table: &[u32]) -> bool
     requires { Sized n table.now × (is_fork table.now 0 ≡ true) }
     ensures { result ≡ eqb (nodes table.now) (seen_of table.now n 0) }
@@ -102,6 +103,7 @@ fn all_seen(n: u32, table: &[u32]) -> bool
 
 // Whether the table is sound: the root has no father, and all nodes are seen from it.
 #[tactic(auto, using(table_sound::proofs::SeenLaws::sound_told))]
+#[inline(always)]
 pub fn sound(n: u32, table: &[u32]) -> bool
     requires { Sized n table.now }
     ensures { result ≡ sound_of n table.now }

@@ -1,7 +1,7 @@
 -- The fast check, function by function: what each return says of the definitions, what a fork is whose sons fit, and
 -- that no count passes a word.
 use mathlib.Core.Bool.{Bool, true, false, cond, ◌&&◌}
-use mathlib.Core.List.{List}
+use mathlib.Core.List.{List, [], ◌∷◌}
 use mathlib.Core.Path.{◌≡◌, refl, sym, ◌∙◌}
 use Prim.Native.Nat.{ℕ, zero, suc, ◌+◌, ◌-◌, ◌*◌, ◌^◌, ◌≤◌, ◌<◌}
 use native.Mathlib.Nat.{pow-le-pow_right, pow-succ'}
@@ -208,6 +208,24 @@ leaf_words_of T p e =
 pub leaf_words_ok : (T : List ℕ) (p : ℕ) → node_type T p ≤ top_colour → ((q : ℕ) → q < 4 → son T p q ≡ none) → leaf_ok T p ≡ true
 unfolding leaf_ok all_are
 leaf_words_ok T p h w = rw (le-leb (node_type T p) top_colour h, all_pass (λ w. eqb w none) T p (λ q q4. eq-eqb _ none (w q q4)))
+
+-- of any four words, one by one
+pub all_are_lem : (k a b c d : ℕ) → all_are k (a ∷ b ∷ c ∷ d ∷ []) ≡ true → (a ≡ k) × (b ≡ k) × (c ≡ k) × (d ≡ k)
+unfolding all_are
+all_are_lem k a b c d e =
+    let x = and_right (eqb a k) _ e in
+    let y = and_right (eqb b k) _ x in
+    let z = and_right (eqb c k) _ y in
+    (eqb-true a k (and_left _ _ e), eqb-true b k (and_left _ _ x), eqb-true c k (and_left _ _ y), eqb-true d k (and_left _ _ z))
+
+pub all_are_true : (k a b c d : ℕ) → a ≡ k → b ≡ k → c ≡ k → d ≡ k → all_are k (a ∷ b ∷ c ∷ d ∷ []) ≡ true
+unfolding all_are
+all_are_true k a b c d ea eb ec ed = rw (eq-eqb a k ea, eq-eqb b k eb, eq-eqb c k ec, eq-eqb d k ed)
+
+pub leaf_words_lem : (T : List ℕ) (p k a b c d : ℕ) (r : Bool) → k ≡ node_type T p → k ≤ top_colour → a ≡ son T p 0 → b ≡ son T p 1 → c ≡ son T p 2 → d ≡ son T p 3
+    → r ≡ all_are none (a ∷ b ∷ c ∷ d ∷ []) → r ≡ leaf_ok T p
+unfolding leaf_ok four_sons
+leaf_words_lem T p k a b c d r e h ea eb ec ed f = f ∙ rw (leaf_ok, ← e, le-leb k top_colour h, ea, eb, ec, ed)
 
 pub node_of_son : (T : List ℕ) (p q : ℕ) → fork_ok T p ≡ true → q < 4 → son T p q < nodes T
 node_of_son T p q e q4 = ((sons_fit T p e).sons q q4).below

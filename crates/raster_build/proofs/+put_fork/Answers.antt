@@ -1,8 +1,8 @@
 use mathlib.Core.Path.{refl}
 use native.Mathlib.Omega.{arith}
 use Rattle.table.proofs.WritingLaws.{node_room, node_fits, none_put, number_room, type_room, sons_put}
-use Rattle.raster_put.proofs.PutLaws.{put_asks}
-use Rattle.raster_build.proofs.QuarterLaws.{fork_to_put, fork_asks, its_fork, slot_noted, quarter_to_put, quarter_put, quarter_forked, quarter_leaf}
+use Rattle.raster_put.proofs.PutLaws.{put_wants}
+use Rattle.raster_build.proofs.QuarterLaws.{fork_to_put, fork_wants, its_fork, slot_noted, quarter_to_put, quarter_put, quarter_forked, quarter_leaf}
 use Rattle.raster_build.proofs.+put_fork.Goals.{then-half-eq2, else-half-eq2+then-kind, else-half-eq2+else-kind}
 use Rattle.raster_build.proofs.+put_fork.Goals as goal
 
@@ -18,7 +18,7 @@ bounds-table-own-in-loop-q t c =
 
 pub put_sixteen-next-requires : goal.put_sixteen-next-requires
 put_sixteen-next-requires t c =
-    put_asks (quarter_to_put c.args.table.now (fork_to_put c.args.raster.now.picture c.requires) c.args.father c.loop-q.invariant (omega arith) 2 c.if-half-eq2.true)
+    put_wants (quarter_to_put c.args.table.now (fork_to_put c.args.raster.now.picture c.requires) c.args.father c.loop-q.invariant (omega arith) 2 c.if-half-eq2.true)
 
 pub bounds-kinds-its : goal.bounds-kinds-its
 bounds-kinds-its t c = omega (arith, slot_noted (fork_to_put c.args.raster.now.picture c.requires) c.loop-q.q (omega arith) c.if-half-eq2.false)
@@ -26,7 +26,7 @@ bounds-kinds-its t c = omega (arith, slot_noted (fork_to_put c.args.raster.now.p
 pub put_fork-next-requires : goal.put_fork-next-requires
 put_fork-next-requires t c = (
   omega (arith, c.decreases, (fork_to_put c.args.raster.now.picture c.requires).high),
-  fork_asks (quarter_forked c.args.table.now (fork_to_put c.args.raster.now.picture c.requires) c.args.father c.loop-q.invariant (omega arith) c.if-half-eq2.false c.if-kind.true),
+  fork_wants (quarter_forked c.args.table.now (fork_to_put c.args.raster.now.picture c.requires) c.args.father c.loop-q.invariant (omega arith) c.if-half-eq2.false c.if-kind.true),
 )
 
 pub put_leaf-requires : goal.put_leaf-requires

@@ -3,7 +3,7 @@ use mathlib.Core.Path.{sym}
 use Rattle.table.proofs.TypeLaws.{told_fork}
 use Rattle.table_order.specs.Order.{ForkOf}
 use Rattle.table_order.proofs.OrderLaws.{passing_none, again_fork, again_leaf, pixels_passed, passed_named, passed_told}
-use Rattle.table_order.proofs.+in_order.Goals.{then-word_at-eq-FORK+else-word_at-fork+else-count-q, then-level-eq2+else-not-pixels, else-level-eq2+in_ok-next, else-word_at-eq-FORK+then-is_leaf_of}
+use Rattle.table_order.proofs.+in_order.Goals.{then-word_at-eq-FORK+else-word_at-fork+else-count-q, then-level-eq2+else-not-pixels, else-level-eq2+in-Some, else-word_at-eq-FORK+then-is_leaf_of}
 use Rattle.table_order.proofs.+in_order.Goals as goal
 
 pub loop-q-init : goal.loop-q-init
@@ -20,9 +20,9 @@ loop-q-preserved t c =
             let pixels = pixels_passed _ _ _ here (sym w'.if-not-pixels.ensures) in
             again_fork _ _ _ _ _ _ _ i (omega arith) f c.word_at.ensures c.if-word_at-son.false _ _ w.word_at-then-word_at-eq-FORK.ensures (omega arith)
             (rw (w.next-is, w'.next-is, w'.if-level-eq2.true) pixels) (omega arith)
-        | else-level-eq2+in_ok-next w' ↦
+        | else-level-eq2+in-Some w' ↦
             again_fork _ _ _ _ _ _ _ i (omega arith) f c.word_at.ensures c.if-word_at-son.false _ _ w.word_at-then-word_at-eq-FORK.ensures (omega arith)
-            (rw (w.next-is, w'.next-is) w'.in_ok-next.ensures) (omega arith)
+            (rw (w.next-is, w'.next-is) (rw w'.in-Some.is at w'.in_order.ensures)) (omega arith)
       ]
       | else-word_at-eq-FORK+then-is_leaf_of w ↦
           rw w.next-is (again_leaf _ _ _ _ _ _ _ i (omega arith) f c.word_at.ensures c.if-word_at-son.false (sym w.if-is_leaf_of.ensures))
