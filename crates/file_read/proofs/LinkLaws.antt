@@ -229,10 +229,29 @@ module _ {s : List ℕ} {p words : ℕ} (k : ForkToLink s 1 p words) where
   pub pixels_few : p + 5 ≤ max_words
   pixels_few = omega (arith, k.block.ready.few, five)
 
+  -- its words were put one node after the other
+  pub pixels_linked : {f a b c d : ℕ} {w w₀ w₁ w₂ w₃ w₄ : List ℕ} → a ≡ get_or s (record_place (p + 1) + 2) 0 → b ≡ get_or s (record_place (p + 1 + 1) + 2) 0
+      → c ≡ get_or s (record_place (p + 1 + 1 + 1) + 2) 0 → d ≡ get_or s (record_place (p + 1 + 1 + 1 + 1) + 2) 0
+      → w₀ ≡ sets w (6 * p) (node_words f (p + 1) (p + 1 + 1) (p + 1 + 1 + 1) (p + 1 + 1 + 1 + 1) fork_type)
+      → w₁ ≡ sets w₀ (6 * (p + 1)) (leaf_words p a) → w₂ ≡ sets w₁ (6 * (p + 1 + 1)) (leaf_words p b)
+      → w₃ ≡ sets w₂ (6 * (p + 1 + 1 + 1)) (leaf_words p c) → w₄ ≡ sets w₃ (6 * (p + 1 + 1 + 1 + 1)) (leaf_words p d)
+      → Linked (tree_in (block_at s 1 (record_place p))) f p w w₄ (p + 1 + 1 + 1 + 1 + 1)
+  unfolding size_of preorder
+  pixels_linked {f} {a} {b} {c} {d} {w} {w₀} {w₁} {w₂} {w₃} {w₄} ea eb ec ed e₀ e₁ e₂ e₃ e₄ =
+      let own : List ℕ = node_words f (p + 1) (p + 1 + 1) (p + 1 + 1 + 1) (p + 1 + 1 + 1 + 1) fork_type in
+      let nw : List ℕ = own ++ preorder p (p + 1) (leaf a) in
+      let ne : List ℕ = nw ++ preorder p (p + 1 + 1) (leaf b) in
+      let sw : List ℕ = ne ++ preorder p (p + 1 + 1 + 1) (leaf c) in
+      let h₁ = sets_behind w w₀ w₁ (6 * p) (6 * (p + 1)) own (preorder p (p + 1) (leaf a)) e₀ e₁ (omega arith) in
+      let h₂ = sets_behind w w₁ w₂ (6 * p) (6 * (p + 1 + 1)) nw (preorder p (p + 1 + 1) (leaf b)) h₁ e₂ (omega arith) in
+      let h₃ = sets_behind w w₂ w₃ (6 * p) (6 * (p + 1 + 1 + 1)) ne (preorder p (p + 1 + 1 + 1) (leaf c)) h₂ e₃ (omega arith) in
+      let h₄ = sets_behind w w₃ w₄ (6 * p) (6 * (p + 1 + 1 + 1 + 1)) sw (preorder p (p + 1 + 1 + 1 + 1) (leaf d)) h₃ e₄ (omega arith) in
+      rw (pixels ea eb ec ed).is (record { next = omega arith; words = h₄ })
+
   -- all four of its pixels are put
-  pub pixels_linked : {f next : ℕ} {w w' : List ℕ} → PixelsPut s p f next w w' → p + 5 ≤ next → Linked (tree_in (block_at s 1 (record_place p))) f p w w' (p + 5)
+  pub all_linked : {f next : ℕ} {w w' : List ℕ} → PixelsPut s p f next w w' → p + 5 ≤ next → Linked (tree_in (block_at s 1 (record_place p))) f p w w' (p + 5)
   unfolding size_of preorder pixel_words
-  pixels_linked {f} {next} {w} {w'} put h =
+  all_linked {f} {next} {w} {w'} put h =
       let t = pixels {a = pixel_byte s p 0} {b = pixel_byte s p 1} {c = pixel_byte s p 2} {d = pixel_byte s p 3} (pixel_kind s p 0 (p + 1) (omega arith)) (pixel_kind s p 1 (p + 1 + 1) (omega arith))
       (pixel_kind s p 2 (p + 1 + 1 + 1) (omega arith)) (pixel_kind s p 3 (p + 1 + 1 + 1 + 1) (omega arith)) in
       let four : next - (p + 1) ≡ 4 = omega (arith, put.to) in

@@ -110,27 +110,27 @@ pixels_none s at non =
     })))))))
 
 -- the marks in each of three numbers of four bytes, 0 standing for each type
-abbrev first_number : ℕ
-first_number = mark + 256 * node_mark + 16777216 * mark
+abbrev first_marked : ℕ
+first_marked = mark + 256 * node_mark + 16777216 * mark
 
-abbrev second_number : ℕ
-second_number = node_mark + 65536 * mark + 16777216 * node_mark
+abbrev second_marked : ℕ
+second_marked = node_mark + 65536 * mark + 16777216 * node_mark
 
-abbrev third_number : ℕ
-third_number = 256 * mark + 65536 * node_mark
+abbrev third_marked : ℕ
+third_marked = 256 * mark + 65536 * node_mark
 
 -- four bytes by their number: its types, and its other bytes where they are marks
 module _ (b₀ b₁ b₂ b₃ v : ℕ) (h₀ : b₀ < 256) (h₁ : b₁ < 256) (h₂ : b₂ < 256) (h₃ : b₃ < 256) (is : v ≡ b₀ + 256 * b₁ + 65536 * b₂ + 16777216 * b₃) where
   first_type : (k : ℕ) → k ≡ v / 65536 % 256 → b₂ ≡ k
   first_type k e = omega arith
 
-  pub first_marks_lem : (k : ℕ) → k ≡ v / 65536 % 256 → v ≡ first_number + 65536 * k → (b₀ ≡ mark) × (b₁ ≡ node_mark) × (b₃ ≡ mark)
+  pub first_marks_lem : (k : ℕ) → k ≡ v / 65536 % 256 → v ≡ first_marked + 65536 * k → (b₀ ≡ mark) × (b₁ ≡ node_mark) × (b₃ ≡ mark)
   first_marks_lem k e f = (omega arith, omega arith, omega arith)
 
-  pub second_marks_lem : (k : ℕ) → k ≡ v / 256 % 256 → v ≡ second_number + 256 * k → (b₀ ≡ node_mark) × (b₂ ≡ mark) × (b₃ ≡ node_mark)
+  pub second_marks_lem : (k : ℕ) → k ≡ v / 256 % 256 → v ≡ second_marked + 256 * k → (b₀ ≡ node_mark) × (b₂ ≡ mark) × (b₃ ≡ node_mark)
   second_marks_lem k e f = (omega arith, omega arith, omega arith)
 
-  pub third_marks_lem : (k m : ℕ) → k ≡ v % 256 → m ≡ v / 16777216 → v ≡ third_number + k + 16777216 * m → (b₁ ≡ mark) × (b₂ ≡ node_mark)
+  pub third_marks_lem : (k m : ℕ) → k ≡ v % 256 → m ≡ v / 16777216 → v ≡ third_marked + k + 16777216 * m → (b₁ ≡ mark) × (b₂ ≡ node_mark)
   third_marks_lem k m e f g =
       let t : (b₀ ≡ k) × (b₃ ≡ m) = (omega arith, omega arith) in
       let u : b₁ + 256 * b₂ ≡ mark + 256 * node_mark = omega (arith, t.0, t.1) in
